@@ -55,7 +55,7 @@ impl KnownCodes {
         let Some(bytes) = four_bytes_in_rom(image, plan, addr, &mut self.near) else {
             return decode_at(image, plan, addr);
         };
-        let word = cache_word_of_bytes(bytes);
+        let word = code_cache_word(bytes);
         let place = code_cache_slot(word);
         let known = self.codes[place];
         if known.word == word {
@@ -103,16 +103,16 @@ fn decode_word(word: u32) -> KnownCode
 /// Returns the word by which the cache of instructions knows one, from its first four bytes. An
 /// instruction of two bytes has a word of these alone.
 #[inline(always)]
-fn cache_word_of_bytes(bytes: [u8; 4]) -> u32
+fn code_cache_word(bytes: [u8; 4]) -> u32
     ensures { located_code_in result ≡ located_code_of (decoded_of bytes) }
 {
-    code_cache_byte_bounds(&bytes);
+    code_bytes_below_256(&bytes);
     let word = u32::from_le_bytes(bytes);
     if word % 2 == 1 { word } else { word % 0x1_0000 }
 }
 
 /// Establishes that bytes are below 256, which their type says.
-fn code_cache_byte_bounds(bytes: &[u8])
+fn code_bytes_below_256(bytes: &[u8])
     ensures { (k : ℕ) → slice_index bytes.now k < 2 ^ 8 }
 {}
 

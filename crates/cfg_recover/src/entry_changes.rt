@@ -11,7 +11,7 @@ use arrayvec::ArrayVec;
 use depth_cert::Key;
 use tcd_plan::Plan;
 use value_domain::{Bounds, State, Val};
-use vd_transfer::{A10, Base, Change, identity_change, put_register, reg};
+use vd_transfer::{A10, Base, Change, identity_change, register_write, reg};
 
 /// The number of D15, which has a trap's identification number at the entry of its handler.
 const D15: u8 = 15;
@@ -21,7 +21,7 @@ const ALN_TIN: u32 = 4;
 
 /// Returns the change from a caller's abstract state to that at the entry of the called function:
 /// no locals, and `lower` is false.
-pub fn call_change(b: &Bounds, s: &State) -> Change
+pub fn call_entry_change(b: &Bounds, s: &State) -> Change
     requires { AreValues b.now s.now.regs }
     ensures change { result ≡ changes.call_change s.now }
     ensures entry { state_after s.now result ≡ entries.call_entry s.now }
@@ -35,40 +35,40 @@ pub fn call_change(b: &Bounds, s: &State) -> Change
 
 /// Returns the change from a point's abstract state to that at the entry of the handler of system
 /// calls, for SYSCALL `tin`.
-pub fn system_change(b: &Bounds, plan: &Plan, key: &Key, s: &State, tin: u8) -> Change
+pub fn sys_entry_change(b: &Bounds, plan: &Plan, key: &Key, s: &State, tin: u8) -> Change
     requires { AreValues b.now s.now.regs }
     ensures entry { state_after s.now result ≡ sys_entry plan.now key.now s.now tin }
     ensures values { AreValues b.now (state_after s.now result).regs }
 {
-    let mut c = call_change(b, s);
-    c.first = put_register(A10, handler_entry_stack(b, plan, key, s));
-    c.second = put_register(D15, entry_constant(b, u32::from(tin)));
+    let mut c = call_entry_change(b, s);
+    c.first = register_write(A10, handler_entry_stack(b, plan, key, s));
+    c.second = register_write(D15, entry_constant(b, u32::from(tin)));
     c.ie = false;
     c
 }
 
 /// Returns the change from a point's abstract state to that at the entry of an interrupt's handler,
 /// with this CCPN.
-pub fn handler_change(b: &Bounds, plan: &Plan, key: &Key, s: &State, ccpn: u8) -> Change
+pub fn handler_entry_change(b: &Bounds, plan: &Plan, key: &Key, s: &State, ccpn: u8) -> Change
     requires { AreValues b.now s.now.regs }
     ensures entry { state_after s.now result
         ≡ entry_state_with (entry_stack_of plan.now key.now s.now) false ccpn true }
     ensures values { AreValues b.now (state_after s.now result).regs }
 {
     let _most_words = b.most_words();
-    handler_change_with_stack(s, handler_entry_stack(b, plan, key, s), ccpn)
+    handler_entry_change_with_stack(s, handler_entry_stack(b, plan, key, s), ccpn)
 }
 
 /// Returns the change from a point's abstract state to that at the entry of the handler of
 /// misaligned accesses.
-pub fn misaligned_change(b: &Bounds, plan: &Plan, key: &Key, s: &State) -> Change
+pub fn aln_entry_change(b: &Bounds, plan: &Plan, key: &Key, s: &State) -> Change
     requires { AreValues b.now s.now.regs }
     ensures entry { state_after s.now result ≡ aln_entry plan.now key.now s.now }
     ensures values { AreValues b.now (state_after s.now result).regs }
 {
     let _most_words = b.most_words();
-    let mut c = handler_change_with_stack(s, handler_entry_stack(b, plan, key, s), s.ccpn);
-    c.second = put_register(D15, entry_constant(b, ALN_TIN));
+    let mut c = handler_entry_change_with_stack(s, handler_entry_stack(b, plan, key, s), s.ccpn);
+    c.second = register_write(D15, entry_constant(b, ALN_TIN));
     c
 }
 
@@ -99,12 +99,12 @@ fn entry_constant(b: &Bounds, x: u32) -> Val
 
 /// Returns the change from a point's state to that at the entry of a handler with this stack
 /// pointer and CCPN: all else is unknown.
-fn handler_change_with_stack(s: &State, sp: Val, ccpn: u8) -> Change
+fn handler_entry_change_with_stack(s: &State, sp: Val, ccpn: u8) -> Change
     ensures { result ≡ changes.handler_change sp ccpn }
 {
     let mut c = identity_change(s);
     c.base = Base::Any;
-    c.first = put_register(A10, sp);
+    c.first = register_write(A10, sp);
     c.ie = false;
     c.ccpn = ccpn;
     c.lower = true;

@@ -8,7 +8,7 @@ ghost use Rattle.cfg_recover.specs.FlowDuties.{duties_of_entry, rule_of_entry, d
 
 use crate::decoded_inst::InstAt;
 use crate::entered::may_be_misaligned;
-use crate::entry_changes::{call_change, misaligned_change, system_change};
+use crate::entry_changes::{call_entry_change, aln_entry_change, sys_entry_change};
 use crate::flow_targets::{one_target, targets};
 use crate::keys::{ALN_VECTOR, SYS_VECTOR};
 use crate::{Enter, Leave};
@@ -38,13 +38,13 @@ pub(crate) fn call_flow_entry(
         Shape::Call { to } => Some(Enter {
             kind: CALL,
             targets: targets(plan, s, at.addr, to),
-            state: state_after_change(s, &call_change(b, s)),
+            state: state_after_change(s, &call_entry_change(b, s)),
             resume,
         }),
         Shape::Syscall { tin } => Some(Enter {
             kind: SYS,
             targets: one_target(plan.btv | SYS_VECTOR),
-            state: state_after_change(s, &system_change(b, plan, key, s, tin)),
+            state: state_after_change(s, &sys_entry_change(b, plan, key, s, tin)),
             resume,
         }),
         _ => None,
@@ -71,7 +71,7 @@ pub(crate) fn misaligned_flow_entry(
     Some(Enter {
         kind: ALN,
         targets: one_target(plan.btv | ALN_VECTOR),
-        state: state_after_change(s, &misaligned_change(b, plan, key, s)),
+        state: state_after_change(s, &aln_entry_change(b, plan, key, s)),
         resume: None,
     })
 }

@@ -8,7 +8,7 @@ use value_domain::State;
 
 /// Returns the priorities of the plan's interrupts that may be taken in an abstract state: those
 /// above CCPN, if IE may be on.
-pub fn interrupts(plan: &Plan, s: &State) -> ArrayVec<u8, 32>
+pub fn possible_irqs(plan: &Plan, s: &State) -> ArrayVec<u8, 32>
     ensures { result.items ≡ irqs_of plan.now s.now }
 {
     if s.ie {

@@ -11,10 +11,10 @@ ghost use Rattle.cfg_recover.specs.LocalFaults.{IsLocalFault};
 
 use crate::Flow;
 use crate::decoded_inst::InstAt;
-use crate::entry_changes::handler_change;
+use crate::entry_changes::handler_entry_change;
 use crate::flow_entries::{call_flow_entry, flow_leave, misaligned_flow_entry};
-use crate::flow_interrupts::interrupts;
-use crate::flow_successors::successors;
+use crate::flow_interrupts::possible_irqs;
+use crate::flow_successors::successor_jumps;
 use crate::local_rules::check_local_rules_of_inst;
 use depth_cert::Key;
 use elf_image::Image;
@@ -40,7 +40,7 @@ pub fn flow(
     match check_local_rules_of_inst(b, image, plan, key, addr, s) {
         Ok((inst, size)) => {
             let inst = &inst;
-            Ok(flow_of_point(b, image, plan, key, s, InstAt { addr, inst, size }))
+            Ok(flow_of_faultless_point(b, image, plan, key, s, InstAt { addr, inst, size }))
         }
         Err(rule) => Err(rule),
     }
@@ -48,7 +48,7 @@ pub fn flow(
 
 /// Returns the Flow of a point whose instruction breaks no rule by itself: successors, entries of
 /// frames, interrupts, and how the frame is left.
-fn flow_of_point(
+fn flow_of_faultless_point(
     b: &Bounds,
     image: &Image,
     plan: &Plan,
@@ -66,11 +66,11 @@ fn flow_of_point(
     ensures leaves { result.leave ≡ flow_leave_of (shape_of at.entry.inst.now) }
 {
     Flow {
-        jumps: successors(b, image, plan, s, at),
+        jumps: successor_jumps(b, image, plan, s, at),
         enter: call_flow_entry(b, plan, key, s, at),
         aln: misaligned_flow_entry(b, plan, key, s, at.inst),
-        irqs: interrupts(plan, s),
-        irq_entry: state_after_change(s, &handler_change(b, plan, key, s, 0)),
+        irqs: possible_irqs(plan, s),
+        irq_entry: state_after_change(s, &handler_entry_change(b, plan, key, s, 0)),
         leave: flow_leave(key, s, at.inst),
     }
 }

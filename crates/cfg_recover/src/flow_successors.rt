@@ -22,12 +22,12 @@ use tc_isa::{Inst, Shape, shape};
 use tcd_plan::Plan;
 use value_domain::{Bounds, State, Val, write_any};
 use vd_transfer::{
-    Base, Change, change_of, identity_change, refine, state_after_change, write_address,
+    Base, Change, write_instruction_change, identity_change, refine, state_after_change, write_address_by_shape,
 };
 
 /// Returns the jumps of a point's Flow to its successors in the same frame (K4), without the one
 /// after a call or a system call.
-pub(crate) fn successors(
+pub(crate) fn successor_jumps(
     b: &Bounds,
     image: &Image,
     plan: &Plan,
@@ -44,8 +44,8 @@ pub(crate) fn successors(
     let next = at.addr.wrapping_add(at.size);
     match shape(at.inst) {
         Shape::Branch { by, .. } => [
-            successor_on_side(b, plan, at.inst, s, false, next),
-            successor_on_side(b, plan, at.inst, s, true, at.addr.wrapping_add(by)),
+            jump_on_branch_side(b, plan, at.inst, s, false, next),
+            jump_on_branch_side(b, plan, at.inst, s, true, at.addr.wrapping_add(by)),
         ],
         Shape::Jump { to } => [
             Some(Jump {
@@ -56,13 +56,13 @@ pub(crate) fn successors(
         ],
         Shape::Call { .. } | Shape::Ret | Shape::Rfe | Shape::Syscall { .. } | Shape::Mtcr { .. } =>
             [None, None],
-        _ => [Some(successor_by_step(b, image, plan, s, at)), None],
+        _ => [Some(jump_to_next(b, image, plan, s, at)), None],
     }
 }
 
 /// Writes into `c` the change from a point's state to its successor's, by an instruction that isn't
 /// a branch or a jump. What a load gets is computed first.
-pub fn successor_change(
+pub fn write_successor_change(
     b: &Bounds,
     image: &Image,
     plan: &Plan,
@@ -79,19 +79,19 @@ pub fn successor_change(
     ensures values { AreValues b.now (state_after s.now c.new).regs }
 {
     match shape {
-        Shape::Nothing => keep_successor_state(s, c),
+        Shape::Nothing => write_identity_change(s, c),
         Shape::Load { .. } => {
-            write_address(b, plan, shape, s, &mut c.second.value);
-            write_flow_load(b, image, plan, shape, &c.second.value, &mut c.third.value);
-            change_of(b, plan, shape, s, c);
+            write_address_by_shape(b, plan, shape, s, &mut c.second.value);
+            write_loaded_value(b, image, plan, shape, &c.second.value, &mut c.third.value);
+            write_instruction_change(b, plan, shape, s, c);
         }
-        _ => change_of(b, plan, shape, s, c),
+        _ => write_instruction_change(b, plan, shape, s, c),
     }
 }
 
 /// Returns the jump of a point's Flow on a side of its branch, with the refined state, or `None` if
 /// that side isn't possible.
-fn successor_on_side(
+fn jump_on_branch_side(
     b: &Bounds,
     plan: &Plan,
     inst: &Inst,
@@ -112,7 +112,7 @@ fn successor_on_side(
 }
 
 /// Returns the jump of a point's Flow to the next instruction, with the state after this one.
-fn successor_by_step(b: &Bounds, image: &Image, plan: &Plan, s: &State, at: InstAt<'_>) -> Jump
+fn jump_to_next(b: &Bounds, image: &Image, plan: &Plan, s: &State, at: InstAt<'_>) -> Jump
     requires values { AreValues b.now s.now.regs }
     requires room { EffectHasRoom b.now (shape_of at.inst.now) s.now }
     ensures values { JumpHasValues b.now (Some result) }
@@ -121,7 +121,7 @@ fn successor_by_step(b: &Bounds, image: &Image, plan: &Plan, s: &State, at: Inst
         (shape_of at.entry.inst.now) at.entry.size }
 {
     let mut c = identity_change(s);
-    successor_change(b, image, plan, shape(at.inst), s, &mut c);
+    write_successor_change(b, image, plan, shape(at.inst), s, &mut c);
     Jump {
         targets: one_target(at.addr.wrapping_add(at.size)),
         state: state_after_change(s, &c),
@@ -131,11 +131,11 @@ fn successor_by_step(b: &Bounds, image: &Image, plan: &Plan, s: &State, at: Inst
 /// Writes the identity change, by which a point's successor has the point's state. Mostly a state
 /// has no locals, and then none are copied.
 #[inline(always)]
-fn keep_successor_state(s: &State, c: &mut Change)
+fn write_identity_change(s: &State, c: &mut Change)
     ensures { state_after s.now c.new ≡ s.now }
 {
     if !s.locals.is_empty() {
-        c.keep(s);
+        c.set_to_identity(s);
         return;
     }
     c.base = Base::Same;
@@ -150,7 +150,7 @@ fn keep_successor_state(s: &State, c: &mut Change)
 
 /// Overwrites `out` with the abstract value that a point's load gets from these addresses, or with
 /// any word if the instruction isn't a load.
-fn write_flow_load(b: &Bounds, image: &Image, plan: &Plan, shape: Shape, at: &Val, out: &mut Val)
+fn write_loaded_value(b: &Bounds, image: &Image, plan: &Plan, shape: Shape, at: &Val, out: &mut Val)
     requires shape { IsShape shape }
     requires value { IsValue b.now at.now }
     ensures loaded { (s : State) → at.now ≡ address_of b.now plan.now shape s

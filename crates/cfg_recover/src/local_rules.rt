@@ -23,7 +23,7 @@ use store_ranges::{aligned, is_store_in_range, store_ok};
 use tc_isa::{Arg, Inst, Op, Shape, Target, alu, shape};
 use tcd_plan::Plan;
 use value_domain::{Bounds, State, Val};
-use vd_transfer::{arg_word, reg, write_address};
+use vd_transfer::{arg_word, reg, write_address_by_shape};
 
 // The rules that have an own part, by what fails there.
 
@@ -113,7 +113,7 @@ pub(crate) fn check_local_rules_of_inst(
 
 /// Returns the instruction that was found at a point, if no rule's own part fails there, else the
 /// least rule that fails. The contract holds for each image and address with that instruction.
-pub fn check_located<'a>(
+pub fn check_decoded<'a>(
     b: &Bounds,
     plan: &Plan,
     key: &Key,
@@ -160,8 +160,8 @@ pub(crate) fn first_local_fault(
     ensures { (p : ℕ) → IsLeastLocalFault b.now plan.now key.now p s.now shape.now result }
 {
     match *shape {
-        Shape::Compute { dst, .. } => rule_unless(may_write_register(dst), FIXED_REGISTER),
-        Shape::Scaled { dst, .. } => rule_unless(may_write_register(dst), FIXED_REGISTER),
+        Shape::Compute { dst, .. } => broken_rule_unless(may_write_register(dst), FIXED_REGISTER),
+        Shape::Scaled { dst, .. } => broken_rule_unless(may_write_register(dst), FIXED_REGISTER),
         Shape::Load {
             dst,
             base,
@@ -169,30 +169,30 @@ pub(crate) fn first_local_fault(
             ..
         } => {
             let loading = access_fault(b, plan, s, *shape);
-            loading.or(rule_unless(
+            loading.or(broken_rule_unless(
                 keeps_fixed_registers_in_load(dst, base, after),
                 FIXED_REGISTER,
             ))
         }
         Shape::Store { base, after, .. } => {
             let storing = access_fault(b, plan, s, *shape);
-            storing.or(rule_unless(keeps_fixed_base(base, after), FIXED_REGISTER))
+            storing.or(broken_rule_unless(keeps_fixed_base(base, after), FIXED_REGISTER))
         }
-        Shape::Branch { x, lowers, .. } => rule_unless(
+        Shape::Branch { x, lowers, .. } => broken_rule_unless(
             keeps_fixed_registers_in_branch(x, lowers),
             FIXED_REGISTER,
         ),
-        Shape::Jump { to } => rule_unless(has_known_targets(plan, s, to), UNKNOWN_TARGETS),
-        Shape::Call { to } => rule_unless(has_known_targets(plan, s, to), UNKNOWN_TARGETS),
-        Shape::Ret => rule_unless(may_return(key, s), BAD_RETURN),
-        Shape::Rfe => rule_unless(may_return_from_exception(key, s), BAD_EXCEPTION_RETURN),
-        Shape::Svlcx => rule_unless(may_save(b, s), BAD_LOCALS),
-        Shape::Rslcx => rule_unless(may_restore(s), BAD_LOCALS),
-        Shape::Bisr { .. } => rule_unless(may_save(b, s), BAD_LOCALS),
+        Shape::Jump { to } => broken_rule_unless(has_known_targets(plan, s, to), UNKNOWN_TARGETS),
+        Shape::Call { to } => broken_rule_unless(has_known_targets(plan, s, to), UNKNOWN_TARGETS),
+        Shape::Ret => broken_rule_unless(may_return(key, s), BAD_RETURN),
+        Shape::Rfe => broken_rule_unless(may_return_from_exception(key, s), BAD_EXCEPTION_RETURN),
+        Shape::Svlcx => broken_rule_unless(may_save_lower_context(b, s), BAD_LOCALS),
+        Shape::Rslcx => broken_rule_unless(may_restore_lower_context(s), BAD_LOCALS),
+        Shape::Bisr { .. } => broken_rule_unless(may_save_lower_context(b, s), BAD_LOCALS),
         Shape::Enable => None,
         Shape::Disable => None,
-        Shape::Syscall { .. } => rule_unless(may_call_system(plan), NO_SYSTEM_CALLS),
-        Shape::Mfcr { dst, .. } => rule_unless(may_write_register(dst), FIXED_REGISTER),
+        Shape::Syscall { .. } => broken_rule_unless(may_call_system(plan), NO_SYSTEM_CALLS),
+        Shape::Mfcr { dst, .. } => broken_rule_unless(may_write_register(dst), FIXED_REGISTER),
         Shape::Mtcr { .. } => Some(FIXED_REGISTER),
         Shape::Nothing => None,
     }
@@ -200,7 +200,7 @@ pub(crate) fn first_local_fault(
 
 /// Returns the number of a rule that fails, or `None` if its condition holds.
 #[inline(always)]
-pub fn rule_unless(holds: bool, rule: u8) -> Option<u8>
+pub fn broken_rule_unless(holds: bool, rule: u8) -> Option<u8>
     ensures { result ≡ (if holds then None else Some rule) }
 {
     if holds { None } else { Some(rule) }
@@ -213,10 +213,10 @@ pub(crate) fn access_fault_at_word(plan: &Plan, x: u32, shape: Shape) -> Option<
     ensures { (b : Limits) (s : State) → address_of b plan.now shape s ≡ word_val x
         → IsAccessFault b plan.now s shape result }
 {
-    if !may_store_at(plan, x, shape) {
+    if !may_store_at_word(plan, x, shape) {
         return Some(STORE_OUT_OF_RANGE);
     }
-    if !may_access_at(plan, x, shape) {
+    if !may_access_at_word(plan, x, shape) {
         return Some(MISALIGNED);
     }
     None
@@ -231,11 +231,11 @@ pub(crate) fn access_fault_at_value(b: &Bounds, plan: &Plan, s: &State, shape: S
     ensures { IsAccessFault b.now plan.now s.now shape result }
 {
     let mut at = Val::any();
-    write_address(b, plan, shape, s, &mut at);
-    if !may_store(plan, &at, shape) {
+    write_address_by_shape(b, plan, shape, s, &mut at);
+    if !may_store_at_value(plan, &at, shape) {
         return Some(STORE_OUT_OF_RANGE);
     }
-    if !may_access(plan, &at, shape) {
+    if !may_access_at_value(plan, &at, shape) {
         return Some(MISALIGNED);
     }
     None
@@ -248,7 +248,7 @@ pub(crate) fn has_known_targets(plan: &Plan, s: &State, to: Target) -> bool
 {
     match to {
         Target::Rel(_) | Target::Abs(_) => true,
-        Target::Reg(r) => is_known_target_list(&reg(plan, s, r)),
+        Target::Reg(r) => is_set_of_targets(&reg(plan, s, r)),
     }
 }
 
@@ -269,14 +269,14 @@ pub(crate) fn may_return_from_exception(key: &Key, s: &State) -> bool
 }
 
 /// Tests K8 at an instruction that saves a lower context: true if the state has room for a local.
-pub(crate) fn may_save(b: &Bounds, s: &State) -> bool
+pub(crate) fn may_save_lower_context(b: &Bounds, s: &State) -> bool
     ensures { IsTrue result ↔ (length s.now.locals.items < b.now.most_locals) }
 {
     s.locals.len() < b.most_locals()
 }
 
 /// Tests K8 at an instruction that restores a lower context: true if one is saved.
-pub(crate) fn may_restore(s: &State) -> bool
+pub(crate) fn may_restore_lower_context(s: &State) -> bool
     ensures { IsTrue result ↔ (1 ≤ length s.now.locals.items) }
 {
     1 <= s.locals.len()
@@ -284,7 +284,7 @@ pub(crate) fn may_restore(s: &State) -> bool
 
 /// Tests K9: true if each possible store is wholly in one ram range or one peripheral range, and
 /// doesn't pass 2^32. Other instructions pass.
-pub(crate) fn may_store(plan: &Plan, at: &Val, shape: Shape) -> bool
+pub(crate) fn may_store_at_value(plan: &Plan, at: &Val, shape: Shape) -> bool
     requires shape { IsShape shape }
     requires well { IsWellFormed at.now }
     ensures { IsTrue result ↔ StoresInRangeAt plan.now at.now shape }
@@ -297,7 +297,7 @@ pub(crate) fn may_store(plan: &Plan, at: &Val, shape: Shape) -> bool
 
 /// Tests K9 for an instruction with only one address: true if a store there is wholly in one ram
 /// range or one peripheral range.
-pub(crate) fn may_store_at(plan: &Plan, x: u32, shape: Shape) -> bool
+pub(crate) fn may_store_at_word(plan: &Plan, x: u32, shape: Shape) -> bool
     ensures { IsTrue result ↔ StoresInRangeAt plan.now (word_val x) shape }
 {
     match shape {
@@ -308,27 +308,27 @@ pub(crate) fn may_store_at(plan: &Plan, x: u32, shape: Shape) -> bool
 
 /// Tests K10's own part: true if each possible address is a multiple of the access's size, or the
 /// plan states the trap of misaligned accesses.
-pub(crate) fn may_access(plan: &Plan, at: &Val, shape: Shape) -> bool
+pub(crate) fn may_access_at_value(plan: &Plan, at: &Val, shape: Shape) -> bool
     requires shape { IsShape shape }
     requires well { IsWellFormed at.now }
     ensures { IsTrue result ↔ MayAccessAt plan.now at.now shape }
 {
     match shape {
-        Shape::Load { size, .. } => may_access_by_size(plan, at, size),
-        Shape::Store { size, .. } => may_access_by_size(plan, at, size),
+        Shape::Load { size, .. } => is_aligned_or_trap_stated(plan, at, size),
+        Shape::Store { size, .. } => is_aligned_or_trap_stated(plan, at, size),
         _ => true,
     }
 }
 
 /// Tests K10's own part for an access with only one address: true if that is aligned, or the plan
 /// states the trap of misaligned accesses.
-pub(crate) fn may_access_at(plan: &Plan, x: u32, shape: Shape) -> bool
+pub(crate) fn may_access_at_word(plan: &Plan, x: u32, shape: Shape) -> bool
     requires { IsShape shape }
     ensures { IsTrue result ↔ MayAccessAt plan.now (word_val x) shape }
 {
     match shape {
-        Shape::Load { size, .. } => may_access_by_size_at(plan, x, size),
-        Shape::Store { size, .. } => may_access_by_size_at(plan, x, size),
+        Shape::Load { size, .. } => is_word_aligned_or_trap_stated(plan, x, size),
+        Shape::Store { size, .. } => is_word_aligned_or_trap_stated(plan, x, size),
         _ => true,
     }
 }
@@ -346,7 +346,7 @@ fn access_fault(b: &Bounds, plan: &Plan, s: &State, shape: Shape) -> Option<u8>
     requires values { AreValues b.now s.now.regs }
     ensures { IsAccessFault b.now plan.now s.now shape result }
 {
-    match rule_address_by_shape(b, plan, s, shape) {
+    match single_address_by_shape(b, plan, s, shape) {
         Some(x) => access_fault_at_word(plan, x, shape),
         None => access_fault_at_value(b, plan, s, shape),
     }
@@ -355,7 +355,7 @@ fn access_fault(b: &Bounds, plan: &Plan, s: &State, shape: Shape) -> Option<u8>
 /// Returns the address that the own parts of K9 and K10 test, if the instruction is a load or a
 /// store whose base has only one word.
 #[tactic(auto, unfolding(vd_transfer::specs::EffectsOnStates::address_of))]
-fn rule_address_by_shape(b: &Bounds, plan: &Plan, s: &State, shape: Shape) -> Option<u32>
+fn single_address_by_shape(b: &Bounds, plan: &Plan, s: &State, shape: Shape) -> Option<u32>
     requires shape { IsShape shape }
     requires values { AreValues b.now s.now.regs }
     ensures { IfSome result (λ x. address_of b.now plan.now shape s.now ≡ word_val x) }
@@ -366,13 +366,13 @@ fn rule_address_by_shape(b: &Bounds, plan: &Plan, s: &State, shape: Shape) -> Op
             offset,
             after,
             ..
-        } => rule_address_by_base(b, plan, s, base, offset, after),
+        } => single_address_by_base(b, plan, s, base, offset, after),
         Shape::Store {
             base,
             offset,
             after,
             ..
-        } => rule_address_by_base(b, plan, s, base, offset, after),
+        } => single_address_by_base(b, plan, s, base, offset, after),
         _ => None,
     }
 }
@@ -380,7 +380,7 @@ fn rule_address_by_shape(b: &Bounds, plan: &Plan, s: &State, shape: Shape) -> Op
 /// Returns the address that the own parts of K9 and K10 test, if the base register of the access
 /// has only one word.
 #[inline(always)]
-fn rule_address_by_base(
+fn single_address_by_base(
     b: &Bounds,
     plan: &Plan,
     s: &State,
@@ -404,7 +404,7 @@ fn rule_address_by_base(
 
 /// Tests what K5 asks of a register that names targets: its value is a Set. Its words with bit 0
 /// cleared are the targets.
-fn is_known_target_list(v: &Val) -> bool
+fn is_set_of_targets(v: &Val) -> bool
     ensures { IsTrue result ↔ IsSome (targets_named_by v.now) }
 {
     match v {
@@ -436,7 +436,7 @@ fn may_handler_return(key: &Key, s: &State) -> bool
 
 /// Tests K10 for an access of this size: true if each address is aligned, or the plan states the
 /// trap of misaligned accesses.
-fn may_access_by_size(plan: &Plan, at: &Val, size: u8) -> bool
+fn is_aligned_or_trap_stated(plan: &Plan, at: &Val, size: u8) -> bool
     requires well { IsWellFormed at.now }
     requires size { IsShapeAccessSize size }
     ensures { IsTrue result ↔ ((are_aligned at.now size ≡ true) ⊎ (plan.now.aln ≡ true)) }
@@ -446,7 +446,7 @@ fn may_access_by_size(plan: &Plan, at: &Val, size: u8) -> bool
 
 /// Tests K10 for an access of this size with only one address: true if that is aligned, or the plan
 /// states the trap.
-fn may_access_by_size_at(plan: &Plan, x: u32, size: u8) -> bool
+fn is_word_aligned_or_trap_stated(plan: &Plan, x: u32, size: u8) -> bool
     requires { IsShapeAccessSize size }
     ensures { IsTrue result
         ↔ ((are_aligned (word_val x) size ≡ true) ⊎ (plan.now.aln ≡ true)) }

@@ -12,7 +12,7 @@ ghost use Rattle.cfg_recover.specs.SetOperations.{IsSetOperand, IsSetOperation, 
 use tc_isa::{Arg, Op, Shape};
 use tcd_plan::Plan;
 use value_domain::{Bounds, State, Val, copy_to, set_words};
-use vd_transfer::{Change, change_of};
+use vd_transfer::{Change, write_instruction_change};
 
 /// Operands with fewer words aren't cached: comparing and copying them would cost as much as the
 /// operation.
@@ -124,7 +124,7 @@ impl CachedOperation {
     /// Writes what an operation changes into `c`. If the entry has this operation with the same
     /// operands, its result is copied; else the result is computed, and the entry keeps it.
     #[inline(never)]
-    fn change(
+    fn write_change(
         &mut self,
         b: &Bounds,
         plan: &Plan,
@@ -143,15 +143,15 @@ impl CachedOperation {
     {
         let _regs = &s.regs[..];
         let place = operation.dst as usize;
-        if self.has(operation) {
-            c.keep(s);
+        if self.has_operation(operation) {
+            c.set_to_identity(s);
             copy_to(&self.result, &mut c.second.value);
             c.second.at = Some(place);
             c.lower = s.lower && operation.dst >= 8;
             return;
         }
         self.op = None;
-        change_of(b, plan, operation.shape, s, c);
+        write_instruction_change(b, plan, operation.shape, s, c);
         if c.second.at == Some(place) && c.third.at.is_none() {
             set_words(&mut self.x, operation.x);
             set_words(&mut self.y, operation.y);
@@ -161,7 +161,7 @@ impl CachedOperation {
     }
 
     /// Returns true only if this entry of the cache has the operation, on equal Sets.
-    fn has(&self, operation: SetOperation<'_>) -> bool
+    fn has_operation(&self, operation: SetOperation<'_>) -> bool
         ensures { IsTrue result → IsSameOperation self.now operation.entry }
     {
         match self.op {
@@ -190,7 +190,7 @@ impl OperationCache {
     /// Writes what an instruction of this shape changes into `c`, if it is an operation on two sets
     /// of many words. Returns false if it isn't; then `c` is as it was.
     #[inline(always)]
-    pub fn change(
+    pub fn write_change(
         &mut self,
         b: &Bounds,
         plan: &Plan,
@@ -210,10 +210,10 @@ impl OperationCache {
             return false;
         };
         match operation.dst % 4 {
-            0 => self.zero.change(b, plan, s, operation, c),
-            1 => self.one.change(b, plan, s, operation, c),
-            2 => self.two.change(b, plan, s, operation, c),
-            _ => self.three.change(b, plan, s, operation, c),
+            0 => self.zero.write_change(b, plan, s, operation, c),
+            1 => self.one.write_change(b, plan, s, operation, c),
+            2 => self.two.write_change(b, plan, s, operation, c),
+            _ => self.three.write_change(b, plan, s, operation, c),
         }
         true
     }

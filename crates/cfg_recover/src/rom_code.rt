@@ -8,7 +8,7 @@ ghost use Rattle.cfg_recover.specs.Code.{FindsCodeInBytes, FindsCode};
 use elf_image::{Image, Segment};
 use tc_encode::decode;
 use tc_isa::Inst;
-use tcd_base::is_in_any_range;
+use tcd_base::is_in_one_range;
 use tcd_plan::Plan;
 
 /// Returns the instruction at an address of rom, and its length in bytes, or `None`. The address
@@ -41,7 +41,7 @@ pub(crate) fn four_bytes_in_rom(
 ) -> Option<[u8; 4]>
     ensures { FindsHeldBytes image.now plan.now addr 4 result }
 {
-    if is_code_in_rom(plan, addr, 4) {
+    if are_bytes_in_rom(plan, addr, 4) {
         four_code_bytes(image, addr, near)
     } else {
         None
@@ -55,7 +55,7 @@ pub(crate) fn code_byte_at(image: &Image, addr: u32, near: &mut usize) -> Option
     ensures { result ≡ image_byte image.now addr }
 {
     if let Some(segment) = image.segments.get(*near) {
-        if let Some(byte) = code_byte_of(segment, addr) {
+        if let Some(byte) = code_byte_in_segment(segment, addr) {
             return Some(byte);
         }
     }
@@ -80,7 +80,7 @@ fn code_in_bytes(bytes: &[u8]) -> Option<(Inst, u32)>
 fn two_bytes_in_rom(image: &Image, plan: &Plan, addr: u32) -> Option<[u8; 2]>
     ensures { FindsHeldBytes image.now plan.now addr 2 result }
 {
-    if is_code_in_rom(plan, addr, 2) {
+    if are_bytes_in_rom(plan, addr, 2) {
         two_code_bytes(image, addr)
     } else {
         None
@@ -89,11 +89,11 @@ fn two_bytes_in_rom(image: &Image, plan: &Plan, addr: u32) -> Option<[u8; 2]>
 
 /// Returns whether `count` bytes from the address on are inside one rom range.
 #[inline(always)]
-pub fn is_code_in_rom(plan: &Plan, addr: u32, count: u32) -> bool
+pub fn are_bytes_in_rom(plan: &Plan, addr: u32, count: u32) -> bool
     ensures decides { IsTrue result ↔ IsInOneRange addr count plan.now.rom }
     ensures fits { IsTrue result → addr + count ≤ 2 ^ 32 }
 {
-    is_in_any_range(plan.rom.as_slice(), addr, count)
+    is_in_one_range(plan.rom.as_slice(), addr, count)
 }
 
 /// Returns two bytes of code from an address on, if segments of the image hold them.
@@ -115,7 +115,7 @@ fn four_code_bytes(image: &Image, addr: u32, near: &mut usize) -> Option<[u8; 4]
     ensures { result ≡ held_bytes image.now addr 4 }
 {
     if let Some(segment) = image.segments.get(*near) {
-        if let Some(bytes) = four_code_bytes_of(segment, addr) {
+        if let Some(bytes) = four_code_bytes_in_segment(segment, addr) {
             return Some(bytes);
         }
     }
@@ -124,7 +124,7 @@ fn four_code_bytes(image: &Image, addr: u32, near: &mut usize) -> Option<[u8; 4]
 
 /// Returns four bytes of code from an address on, if this segment of the image holds them all.
 #[inline(always)]
-fn four_code_bytes_of(segment: &Segment, addr: u32) -> Option<[u8; 4]>
+fn four_code_bytes_in_segment(segment: &Segment, addr: u32) -> Option<[u8; 4]>
     ensures { IfSome result (SegmentHoldsBytes (segment_data segment.now) addr) }
 {
     if addr < segment.at {
@@ -146,18 +146,18 @@ fn four_code_bytes_anywhere(image: &Image, addr: u32, near: &mut usize) -> Optio
     ensures { result ≡ held_bytes image.now addr 4 }
 {
     for (number, segment) in image.segments.iter().enumerate() {
-        if let Some(bytes) = four_code_bytes_of(segment, addr) {
+        if let Some(bytes) = four_code_bytes_in_segment(segment, addr) {
             *near = number;
             return Some(bytes);
         }
     }
-    four_code_bytes_apart(image, addr)
+    four_code_bytes_one_by_one(image, addr)
 }
 
 /// Returns four bytes of code from an address on, if segments of the image hold them. Each byte is
 /// looked for by itself, since segments may meet within the four.
 #[inline(never)]
-fn four_code_bytes_apart(image: &Image, addr: u32) -> Option<[u8; 4]>
+fn four_code_bytes_one_by_one(image: &Image, addr: u32) -> Option<[u8; 4]>
     requires { addr + 4 ≤ 2 ^ 32 }
     ensures { result ≡ held_bytes image.now addr 4 }
 {
@@ -170,7 +170,7 @@ fn four_code_bytes_apart(image: &Image, addr: u32) -> Option<[u8; 4]>
 
 /// Returns the byte of code at an address, if this segment of the image holds it.
 #[inline(always)]
-fn code_byte_of(segment: &Segment, addr: u32) -> Option<u8>
+fn code_byte_in_segment(segment: &Segment, addr: u32) -> Option<u8>
     ensures { IfSome result (λ b. SegmentHoldsBytes (segment_data segment.now) addr (b ∷ [])) }
 {
     if addr < segment.at {
@@ -191,7 +191,7 @@ fn code_byte_anywhere(image: &Image, addr: u32, near: &mut usize) -> Option<u8>
     ensures { result ≡ image_byte image.now addr }
 {
     for (number, segment) in image.segments.iter().enumerate() {
-        if let Some(byte) = code_byte_of(segment, addr) {
+        if let Some(byte) = code_byte_in_segment(segment, addr) {
             *near = number;
             return Some(byte);
         }

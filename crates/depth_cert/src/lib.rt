@@ -19,7 +19,7 @@ pub use keys::{ALN, CALL, IRQ, Key, START, SYS, key_kind_text, key_number};
 pub use laws::spelling_laws;
 pub use lower_registers::lower_register_value;
 pub use node_reader::{read_exit, read_has_exit, read_key, read_need, read_point_count};
-pub use nodes::no_exit;
+pub use nodes::blank_exit;
 pub use point_reader::{read_address, read_locals};
 pub use points::{Exit, Point};
 pub use tcd_base::{form_err_at, put_u16};

@@ -29,7 +29,7 @@ pub fn read_key(c: &mut FileCursor<'_>, last: Option<u64>) -> Result<Key, FormEr
     let prio = read_u8(c)?;
     let at = c.place();
     let is = read_u8(c)?;
-    if !is_next_node_number(last, key_number_of_fields(kind, entry, prio, is)) {
+    if !is_above_last_key(last, key_number_of_fields(kind, entry, prio, is)) {
         return Err(form_err_at(BAD_ORDER, start));
     }
     if is > 1 {
@@ -45,7 +45,7 @@ pub fn read_key(c: &mut FileCursor<'_>, last: Option<u64>) -> Result<Key, FormEr
 
 /// Returns true if a certificate's node may have a key of this number: one above that of the node
 /// before, if there is one.
-fn is_next_node_number(last: Option<u64>, number: u64) -> bool
+fn is_above_last_key(last: Option<u64>, number: u64) -> bool
     ensures { result ≡ is_above_last_read last number }
 {
     match last {

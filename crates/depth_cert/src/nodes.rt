@@ -7,7 +7,7 @@ use value_domain::Val;
 
 /// Returns an exit as room for one of a certificate: IE is off, CCPN is 0, and each lower register
 /// may have any value.
-pub fn no_exit() -> Exit
+pub fn blank_exit() -> Exit
     ensures ie { result.ie ≡ false }
     ensures ccpn { result.ccpn ≡ 0 }
 {

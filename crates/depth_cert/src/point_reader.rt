@@ -34,7 +34,7 @@ pub fn read_address(c: &mut FileCursor<'_>, last: Option<u32>) -> Result<u32, Fo
 {
     let start = c.place();
     let addr = read_u32(c)?;
-    if !is_next_point_address(last, addr) {
+    if !is_above_last_address(last, addr) {
         return Err(form_err_at(BAD_ORDER, start));
     }
     Ok(addr)
@@ -59,7 +59,7 @@ fn read_flags(c: &mut FileCursor<'_>, count: u8) -> Result<ArrayVec<bool, 8>, Fo
 
 /// Returns true if a certificate's point may have this address: one above that of the point before,
 /// if there is one.
-fn is_next_point_address(last: Option<u32>, addr: u32) -> bool
+fn is_above_last_address(last: Option<u32>, addr: u32) -> bool
     ensures { result ≡ is_above_last_read last addr }
 {
     match last {

@@ -47,7 +47,7 @@ fn read_set<const N: usize>(c: &mut FileCursor<'_>, n: usize, out: &mut Val) -> 
         let word = read_set_word(c, words.as_slice())?;
         words.push(word);
     }
-    make_set_of_ascending(words.as_slice(), out);
+    overwrite_with_set(words.as_slice(), out);
     Ok(())
 }
 
@@ -98,7 +98,7 @@ fn read_set_word(c: &mut FileCursor<'_>, before: &[u32]) -> Result<u32, FormErr>
 {
     let at = c.place();
     let word = read_u32(c)?;
-    if !is_next_set_word(before, word) {
+    if !is_above_last_word(before, word) {
         return Err(form_err_at(BAD_VALUE, at));
     }
     Ok(word)
@@ -106,7 +106,7 @@ fn read_set_word(c: &mut FileCursor<'_>, before: &[u32]) -> Result<u32, FormErr>
 
 /// Overwrites an abstract value with the Set of the ascending words that were read from a
 /// certificate.
-fn make_set_of_ascending(words: &[u32], out: &mut Val)
+fn overwrite_with_set(words: &[u32], out: &mut Val)
     requires some { 1 ≤ length words.now }
     requires few { length words.now ≤ 128 }
     requires rising { IsStrictlyIncreasing words.now }
@@ -117,7 +117,7 @@ fn make_set_of_ascending(words: &[u32], out: &mut Val)
 
 /// Returns true if a word may be the next one of a Set in a certificate: above those before, if
 /// there are any.
-fn is_next_set_word(before: &[u32], x: u32) -> bool
+fn is_above_last_word(before: &[u32], x: u32) -> bool
     ensures { result ≡ is_above_last_read (last_number_read before.now) x }
 {
     before.is_empty() || before[before.len() - 1] < x

@@ -16,7 +16,7 @@ use Rattle.value_domain.specs.State.{AreValues, AreWellFormed, Covers}
 use Rattle.value_domain.proofs.RegLaws.{read_at}
 use Rattle.arrayvec.specs.ArrayVec.{ArrayVec}
 use Rattle.vd_transfer.specs.declared.change.Base.TheVariants.{Any}
-use Rattle.vd_transfer.specs.declared.change.Put.{Put}
+use Rattle.vd_transfer.specs.declared.change.RegisterWrite.{RegisterWrite}
 use Rattle.vd_transfer.specs.Registers.{slot}
 use Rattle.vd_transfer.specs.Changes.{state_after, no_put, put_of_register}
 use Rattle.depth_cert.specs.declared.keys.Key.{Key}
@@ -103,13 +103,13 @@ pub other_stack : (plan : PlanData) (cert : CertData) (node : NodeData) (s entry
 other_stack plan cert node s entry sp n irqs e f on h q = subst (λ (l : List Owed). DutiesHold cert node s l q) (told_stack plan (node.key).is s entry sp n irqs e f on) (h q)
 
 -- a change that puts A10 alone, over unknown values, gives the state at an entry
-pub entered_state : (s : State) (sp : Val) (n : ℕ) (p q r : Put) (l : ArrayVec Bool) → p ≡ put_of_register 26 sp → q ≡ no_put → r ≡ no_put → l ≡ record { items = [] }
+pub entered_state : (s : State) (sp : Val) (n : ℕ) (p q r : RegisterWrite) (l : ArrayVec Bool) → p ≡ put_of_register 26 sp → q ≡ no_put → r ≡ no_put → l ≡ record { items = [] }
     → state_after s (record { base = Any; first = p; second = q; third = r; ie = false; ccpn = n; lower = true; locals = l }) ≡ entry_state_with sp false n true
 entered_state s sp n p q r l e f g h =
-    let made : Put → Put → Put → ArrayVec Bool → State = λ a b c d. state_after s (record { base = Any; first = a; second = b; third = c; ie = false; ccpn = n; lower = true; locals = d }) in
-    ap (λ (x : Put). made x q r l) e
-    ∙ ap (λ (x : Put). made (put_of_register 26 sp) x r l) f
-    ∙ ap (λ (x : Put). made (put_of_register 26 sp) no_put x l) g
+    let made : RegisterWrite → RegisterWrite → RegisterWrite → ArrayVec Bool → State = λ a b c d. state_after s (record { base = Any; first = a; second = b; third = c; ie = false; ccpn = n; lower = true; locals = d }) in
+    ap (λ (x : RegisterWrite). made x q r l) e
+    ∙ ap (λ (x : RegisterWrite). made (put_of_register 26 sp) x r l) f
+    ∙ ap (λ (x : RegisterWrite). made (put_of_register 26 sp) no_put x l) g
     ∙ ap (λ (x : ArrayVec Bool). made (put_of_register 26 sp) no_put no_put x) h
     ∙ handler-is s sp n
 

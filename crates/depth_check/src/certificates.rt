@@ -8,7 +8,7 @@ ghost use Rattle.cfg_recover.specs.Entries as entries;
 
 use crate::Verdict;
 use crate::node_covers::has_covering_point;
-use crate::verdicts::judge;
+use crate::verdicts::check_nodes;
 use cfg_recover::{start_key, start_state};
 use elf_image::Image;
 use packed_cert::{Cert, Node};
@@ -25,7 +25,7 @@ pub fn check(image: &Image, plan: &Plan, cert: &Cert) -> Verdict
 {
     let _areas = plan.areas;
     let _version = cert.version();
-    judge(image, plan, cert)
+    check_nodes(image, plan, cert)
 }
 
 /// Returns the start's node of the certificate if K1 holds: its point at the image's entry covers

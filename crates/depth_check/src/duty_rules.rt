@@ -25,8 +25,8 @@ use crate::rules::{
 };
 use crate::successor_rules::rule_broken_by_successors;
 use cfg_recover::{
-    Located, aln_key, call_change, direct_target, entered_key, handler_change, interrupts, irq_key,
-    may_be_misaligned, misaligned_change, rule_unless, sys_key, system_change, targets,
+    Located, aln_key, call_entry_change, direct_target, entered_key, handler_entry_change, possible_irqs, irq_key,
+    may_be_misaligned, aln_entry_change, broken_rule_unless, sys_key, sys_entry_change, targets,
 };
 use depth_cert::{CALL, Key, SYS};
 use packed_cert::Node;
@@ -52,13 +52,13 @@ pub(crate) fn rule_broken_by_duties(
     ensures registers { RegistersHoldAt at.now scratch.new.registers }
 {
     let jumps = rule_broken_by_successors(at, found, scratch);
-    let entered = rule_broken_by_entries(
+    let entered = rule_broken_by_call_or_syscall(
         at,
         found.shape,
         found.size,
         &mut scratch.registers.called,
     );
-    let misaligned = rule_broken_by_access(at, found);
+    let misaligned = rule_broken_by_misaligned_access(at, found);
     let irqs = rule_broken_by_interrupts(at);
     let leave = rule_broken_by_leaving(at.node, at.point.state, found.shape);
     lesser_broken_rule(
@@ -84,11 +84,11 @@ pub(crate) fn rule_broken_by_interrupts(at: &PointCheck<'_, '_>) -> Option<u8>
     if !enabled {
         return None;
     }
-    let irqs = interrupts(at.plan, at.point.state);
+    let irqs = possible_irqs(at.plan, at.point.state);
     if irqs.is_empty() {
         return None;
     }
-    rule_broken_by_taken_irqs(at, irqs.as_slice())
+    rule_broken_by_possible_irqs(at, irqs.as_slice())
 }
 
 /// Returns the least rule that the entries of these interrupts' handlers break. `entry` is the
@@ -110,7 +110,7 @@ pub(crate) fn rule_broken_by_irqs(at: &PointCheck<'_, '_>, irqs: &[u8], entry: C
 
 /// Returns the least rule that a checked point breaks by what its call or SYSCALL enters. `None`
 /// for other instructions.
-fn rule_broken_by_entries(
+fn rule_broken_by_call_or_syscall(
     at: &PointCheck<'_, '_>,
     shape: Shape,
     size: u32,
@@ -125,7 +125,7 @@ fn rule_broken_by_entries(
 {
     let back = at.point.addr.wrapping_add(size);
     match shape {
-        Shape::Call { to } => rule_broken_by_unknown_call(at, to, back, called),
+        Shape::Call { to } => rule_broken_by_unchecked_call(at, to, back, called),
         Shape::Syscall { tin } => rule_broken_by_system_call(at, tin, back),
         _ => None,
     }
@@ -133,7 +133,7 @@ fn rule_broken_by_entries(
 
 /// Returns the least rule that a checked point breaks by the trap of a misaligned access, if the
 /// plan has that trap.
-fn rule_broken_by_access(at: &PointCheck<'_, '_>, found: &Located) -> Option<u8>
+fn rule_broken_by_misaligned_access(at: &PointCheck<'_, '_>, found: &Located) -> Option<u8>
     requires { IsFaultlessShape at.now.bounds at.now.image at.now.plan
         at.now.node.key at.now.point.addr at.now.point.state found.now }
     ensures { FindsLeastBrokenByDuties at.now
@@ -147,7 +147,7 @@ fn rule_broken_by_access(at: &PointCheck<'_, '_>, found: &Located) -> Option<u8>
     if !may_be_misaligned(at.bounds, at.plan, at.point.state, found.shape) {
         return None;
     }
-    rule_broken_by_trap_entry(at)
+    rule_broken_by_aln_entry(at)
 }
 
 /// Returns K6 or K7 if a checked RET, or RFE of a system call's handler, leaves in a state that the
@@ -158,10 +158,10 @@ fn rule_broken_by_leaving(node: &Node<'_>, s: &State, shape: Shape) -> Option<u8
     ensures { FindsLeastBroken (LeavingHolds node.now s.now (flows.flow_leave_of shape)) result }
 {
     match shape {
-        Shape::Ret => rule_unless(has_covering_exit(node, s), NO_RETURN),
+        Shape::Ret => broken_rule_unless(has_covering_exit(node, s), NO_RETURN),
         Shape::Rfe => {
             if node.key.kind == SYS {
-                rule_unless(has_covering_exit(node, s), NO_EXCEPTION_RETURN)
+                broken_rule_unless(has_covering_exit(node, s), NO_EXCEPTION_RETURN)
             } else {
                 None
             }
@@ -172,7 +172,7 @@ fn rule_broken_by_leaving(node: &Node<'_>, s: &State, shape: Shape) -> Option<u8
 
 /// Returns the least rule that a checked call breaks. Calls by the register `called`, known to hold
 /// in this state, are passed over.
-fn rule_broken_by_unknown_call(
+fn rule_broken_by_unchecked_call(
     at: &PointCheck<'_, '_>,
     to: Target,
     back: u32,
@@ -213,7 +213,7 @@ fn rule_broken_by_system_call(at: &PointCheck<'_, '_>, tin: u8, back: u32) -> Op
         (entries.sys_entry at.now.plan at.now.node.key at.now.point.state tin) back) result }
 {
     let node = at.node;
-    let entry = system_change(at.bounds, at.plan, &node.key, at.point.state, tin);
+    let entry = sys_entry_change(at.bounds, at.plan, &node.key, at.point.state, tin);
     let key = sys_key(at.plan, &node.key);
     rule_broken_by_entry(at, NO_SYSTEM_CALL, &key, &entry, Some(back))
 }
@@ -229,16 +229,16 @@ fn rule_broken_by_call(at: &PointCheck<'_, '_>, to: Target, back: u32) -> Option
         (unwrap_or (targets_of at.now.plan at.now.point.state at.now.point.addr to) []))
         result }
 {
-    let entry = call_change(at.bounds, at.point.state);
+    let entry = call_entry_change(at.bounds, at.point.state);
     match direct_target(at.point.addr, to) {
-        Some(target) => rule_broken_by_calls(at, &entry, &[target], back),
-        None => rule_broken_by_call_list(at, &entry, to, back),
+        Some(target) => rule_broken_by_call_targets(at, &entry, &[target], back),
+        None => rule_broken_by_calli(at, &entry, to, back),
     }
 }
 
 /// Returns the least rule that calls of the functions at these addresses break; each returns to
 /// `back`.
-fn rule_broken_by_calls(
+fn rule_broken_by_call_targets(
     at: &PointCheck<'_, '_>,
     entry: &Change,
     targets: &[u32],
@@ -282,7 +282,7 @@ fn rule_broken_by_called_node(
                 return Some(NO_FUNCTION);
             };
             let has_need = has_need_for_entry(at.node, at.point.state, &entered);
-            return rule_unless(has_need, SMALL_NEED);
+            return broken_rule_unless(has_need, SMALL_NEED);
         }
     }
     let found = rule_broken_by_entry(at, NO_FUNCTION, key, entry, Some(back));
@@ -294,7 +294,7 @@ fn rule_broken_by_called_node(
 
 /// Returns the least rule that a checked call breaks by the functions that its register may name.
 #[inline(never)]
-fn rule_broken_by_call_list(
+fn rule_broken_by_calli(
     at: &PointCheck<'_, '_>,
     entry: &Change,
     to: Target,
@@ -309,7 +309,7 @@ fn rule_broken_by_call_list(
         result }
 {
     let targets = targets(at.plan, at.point.state, at.point.addr, to);
-    rule_broken_by_calls(at, entry, targets.as_slice(), back)
+    rule_broken_by_call_targets(at, entry, targets.as_slice(), back)
 }
 
 /// Returns the least rule that the entry of a frame breaks: `rule` if no node covers the changed
@@ -333,10 +333,10 @@ fn rule_broken_by_entry(
     let Some(entered) = cert.node(key) else {
         return Some(rule);
     };
-    let into = rule_unless(has_changed_point(&entered, key.entry, s, entry), rule);
-    let need = rule_unless(has_need_for_entry(node, s, &entered), SMALL_NEED);
-    let on = rule_unless(
-        has_point_after_entry(node, s, &entered, key.kind, back),
+    let into = broken_rule_unless(has_changed_point(&entered, key.entry, s, entry), rule);
+    let need = broken_rule_unless(has_need_for_entry(node, s, &entered), SMALL_NEED);
+    let on = broken_rule_unless(
+        is_return_met(node, s, &entered, key.kind, back),
         NO_POINT,
     );
     lesser_broken_rule(lesser_broken_rule(into, need), on)
@@ -352,7 +352,7 @@ fn has_need_for_entry(node: &Node<'_>, s: &State, entered: &Node<'_>) -> bool
 
 /// Returns whether the node has a point at `back` that covers the state after the entered frame's
 /// return, as K4 asks. True without `back`.
-fn has_point_after_entry(
+fn is_return_met(
     node: &Node<'_>,
     s: &State,
     entered: &Node<'_>,
@@ -371,14 +371,14 @@ fn has_point_after_entry(
 /// Returns the least rule that a checked point breaks by the entry of the handler of misaligned
 /// accesses.
 #[inline(never)]
-fn rule_broken_by_trap_entry(at: &PointCheck<'_, '_>) -> Option<u8>
+fn rule_broken_by_aln_entry(at: &PointCheck<'_, '_>) -> Option<u8>
     ensures { FindsLeastBrokenByDuties at.now
         (owed 10 (enter (entries.aln_key at.now.plan at.now.node.key)
         (entries.aln_entry at.now.plan at.now.node.key at.now.point.state)) ∷ [])
         result }
 {
     let node = at.node;
-    let entry = misaligned_change(at.bounds, at.plan, &node.key, at.point.state);
+    let entry = aln_entry_change(at.bounds, at.plan, &node.key, at.point.state);
     let key = aln_key(at.plan, &node.key);
     rule_broken_by_entry(at, NO_MISALIGNED, &key, &entry, None)
 }
@@ -386,12 +386,12 @@ fn rule_broken_by_trap_entry(at: &PointCheck<'_, '_>) -> Option<u8>
 /// Returns the least rule that the handlers' entries break for all interrupts that may be taken at
 /// a checked point.
 #[inline(never)]
-fn rule_broken_by_taken_irqs(at: &PointCheck<'_, '_>, irqs: &[u8]) -> Option<u8>
+fn rule_broken_by_possible_irqs(at: &PointCheck<'_, '_>, irqs: &[u8]) -> Option<u8>
     requires { irqs.now ≡ irqs_of at.now.plan at.now.point.state }
     ensures { FindsLeastBrokenByDuties at.now
         (interrupt_duties_of at.now.plan at.now.node.key at.now.point.state) result }
 {
     let node = at.node;
-    let entry = handler_change(at.bounds, at.plan, &node.key, at.point.state, 0);
+    let entry = handler_entry_change(at.bounds, at.plan, &node.key, at.point.state, 0);
     rule_broken_by_irqs(at, irqs, entry)
 }

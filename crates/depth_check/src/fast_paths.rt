@@ -19,16 +19,16 @@ ghost use Rattle.cfg_recover.specs.Duties.{owed, jump};
 use crate::node_covers::is_own_state_covered;
 use crate::points::PointCheck;
 use crate::rules::NO_POINT;
-use cfg_recover::{KnownCodes, direct_target, rule_unless};
+use cfg_recover::{KnownCodes, direct_target, broken_rule_unless};
 use elf_image::Image;
 use tc_isa::Shape;
-use tcd_base::is_in_any_range;
+use tcd_base::is_in_one_range;
 use tcd_plan::Plan;
 
 /// The address after an instruction that only passes the state on, if the next point has the same
 /// state. Such an instruction breaks no rule by itself and changes nothing. Without decoding nop16
 /// this spares 75 instructions if its word was decoded lately, else 330.
-pub(crate) fn fast_path_next(at: &PointCheck<'_, '_>, codes: &mut KnownCodes) -> Option<u32>
+pub(crate) fn next_after_nop_or_jump(at: &PointCheck<'_, '_>, codes: &mut KnownCodes) -> Option<u32>
     ensures { IfSome result (HasPassingInstruction at.now.image at.now.plan at.now.point.addr) }
 {
     if at.point.next.is_none() {
@@ -93,7 +93,7 @@ fn is_nop16(image: &Image, plan: &Plan, addr: u32, codes: &mut KnownCodes) -> bo
     if addr % 2 == 1 {
         return false;
     }
-    if !is_in_any_range(plan.rom.as_slice(), addr, 2) {
+    if !is_in_one_range(plan.rom.as_slice(), addr, 2) {
         return false;
     }
     codes.has_byte(image, addr + 1, 0)
@@ -113,7 +113,7 @@ impl CheckedRegisters {
     /// Returns these checked registers if the next point, at `next`, has the same state; else no
     /// registers.
     #[inline(always)]
-    pub(crate) fn kept_if_repeated(self, next: Option<u32>) -> CheckedRegisters
+    pub(crate) fn kept_if_same_state(self, next: Option<u32>) -> CheckedRegisters
         ensures { result ≡ record {
           called = option_and next self.called;
           jumped = option_and next self.jumped;
@@ -137,5 +137,5 @@ pub(crate) const NO_REGISTERS: CheckedRegisters = CheckedRegisters {
 pub(crate) fn rule_broken_by_kept_state(at: &PointCheck<'_, '_>, next: u32) -> Option<u8>
     ensures { FindsLeastBrokenByDuties at.now (owed 4 (jump next at.now.point.state) ∷ []) result }
 {
-    rule_unless(is_own_state_covered(at, next), NO_POINT)
+    broken_rule_unless(is_own_state_covered(at, next), NO_POINT)
 }

@@ -9,10 +9,10 @@ ghost use Rattle.depth_check.specs.Interrupts.{IsContext, FitsContextExceptStack
 
 use crate::duty_rules::rule_broken_by_irqs;
 use crate::points::PointCheck;
-use cfg_recover::interrupts;
+use cfg_recover::possible_irqs;
 use packed_cert::Node;
 use value_domain::{A10_SLOT, Bounds, State, Val, join, leq};
-use vd_transfer::{A10, Base, identity_change, put_register};
+use vd_transfer::{A10, Base, identity_change, register_write};
 
 /// The last two contexts in which entries of interrupts were found to hold. They are checked again
 /// only at points that need more. In bench/, 16 interrupts at each of 4,000 points cost 32
@@ -25,7 +25,7 @@ pub(crate) struct LastInterrupts {
 
 impl LastInterrupts {
     /// Returns no interrupt contexts: before any point of a certificate is checked.
-    pub(crate) fn none() -> LastInterrupts
+    pub(crate) fn empty() -> LastInterrupts
         ensures { (plan : PlanData) (cert : CertData) → LastInterruptsHold plan cert result }
     {
         LastInterrupts {
@@ -53,7 +53,7 @@ impl LastInterrupts {
 
     /// Returns the join of the last kept context's A10 with the state's, if the state needs more
     /// only because of A10, or `None`.
-    fn join_stack(&self, b: &Bounds, node: &Node<'_>, s: &State) -> Option<Val>
+    fn joined_stack(&self, b: &Bounds, node: &Node<'_>, s: &State) -> Option<Val>
         requires last { IfSome self.now.last (λ a. IsValue b.now a.sp) }
         requires values { AreValues b.now s.now.regs }
         ensures value { IfSome result (IsValue b.now) }
@@ -61,7 +61,7 @@ impl LastInterrupts {
     {
         match &self.last {
             Some(context) => {
-                if context.is && context.is_equal_except_stack(node, s) {
+                if context.is && context.fits_except_stack(node, s) {
                     Some(join(b, &context.sp, &s.regs[A10_SLOT]))
                 } else {
                     None
@@ -116,7 +116,7 @@ impl InterruptContext {
 
     /// Returns whether a state of the node has this interrupt context, apart from A10, with no
     /// fewer areas left.
-    fn is_equal_except_stack(&self, node: &Node<'_>, s: &State) -> bool
+    fn fits_except_stack(&self, node: &Node<'_>, s: &State) -> bool
         ensures { IsTrue result → FitsContextExceptStack self.now node.now s.now }
     {
         self.ie == s.ie
@@ -134,7 +134,7 @@ fn context_covers(context: &Option<InterruptContext>, node: &Node<'_>, s: &State
     ensures { IsTrue result → IsSomeAnd context.now (λ a. IsBelowContext a node.now s.now) }
 {
     match context {
-        Some(context) => context.is_equal_except_stack(node, s)
+        Some(context) => context.fits_except_stack(node, s)
             && (!context.is || leq(&s.regs[A10_SLOT], &context.sp)),
         None => false,
     }
@@ -155,17 +155,17 @@ fn stack_to_keep(at: &PointCheck<'_, '_>, kept: &LastInterrupts) -> Val
 {
     let s = at.point.state;
     let own = s.regs[A10_SLOT].copy();
-    let Some(sp) = kept.join_stack(at.bounds, at.node, s) else {
+    let Some(sp) = kept.joined_stack(at.bounds, at.node, s) else {
         return own;
     };
     let _most_words = at.bounds.most_words();
     let mut entry = identity_change(s);
     entry.base = Base::Any;
-    entry.first = put_register(A10, sp.copy());
+    entry.first = register_write(A10, sp.copy());
     entry.ie = false;
     entry.lower = true;
     entry.locals.clear();
-    match rule_broken_by_irqs(at, interrupts(at.plan, s).as_slice(), entry) {
+    match rule_broken_by_irqs(at, possible_irqs(at.plan, s).as_slice(), entry) {
         Some(_) => own,
         None => sp,
     }

@@ -44,7 +44,7 @@ pub(crate) fn is_own_state_covered(at: &PointCheck<'_, '_>, addr: u32) -> bool
     if at.point.next == Some(addr) {
         return true;
     }
-    at.point.walk.covers_at(addr)
+    at.point.walk.is_covered_at(addr)
 }
 
 /// Returns true if the node has a point at this address that covers the checked point's state
@@ -55,8 +55,8 @@ pub(crate) fn is_kept_state_covered(at: &PointCheck<'_, '_>, addr: u32, c: &mut 
     if at.point.next == Some(addr) {
         return true;
     }
-    c.keep(at.point.state);
-    at.point.walk.covers_next(addr, c) || is_own_state_covered(at, addr)
+    c.set_to_identity(at.point.state);
+    at.point.walk.is_covered_by_next(addr, c) || is_own_state_covered(at, addr)
 }
 
 /// Returns whether the certificate's node has a point at this address that covers the state after a
@@ -78,7 +78,7 @@ pub(crate) fn is_changed_state_covered(at: &PointCheck<'_, '_>, addr: u32, c: &C
     ensures { IsTrue result
         ↔ HasCoveringPoint at.now.node addr (state_after at.now.point.state c.now) }
 {
-    at.point.walk.covers_next(addr, c) || has_changed_point(at.node, addr, at.point.state, c)
+    at.point.walk.is_covered_by_next(addr, c) || has_changed_point(at.node, addr, at.point.state, c)
 }
 
 /// Returns whether the node has a point at `at` that covers the state after the entered frame's

@@ -9,7 +9,7 @@ ghost use Rattle.depth_check.specs.NodeFaults as nodes;
 
 use crate::fast_paths::NO_REGISTERS;
 use crate::last_interrupts::LastInterrupts;
-use crate::points::{PointCheck, PointScratch, are_point_values, point_of_walk, rule_broken_at};
+use crate::points::{PointCheck, PointScratch, is_point_in_lattice, point_of_walk, rule_broken_at};
 use crate::rules::BAD_VALUES;
 use elf_image::Image;
 use packed_cert::{Cert, Node, PointWalk};
@@ -36,7 +36,7 @@ pub(crate) struct NodeScratch<'a> {
 /// Returns the first fault of a certificate's node, by its address and then by its rule, or `None`
 /// if all rules hold there.
 #[inline(never)]
-pub(crate) fn node_fault<'a>(
+pub(crate) fn first_node_fault<'a>(
     b: &Bounds,
     image: &Image,
     plan: &Plan,
@@ -55,18 +55,18 @@ pub(crate) fn node_fault<'a>(
     ensures results { HoldsCachedResults b.now scratch.new.point.cache }
 {
     let entry = node.key.entry;
-    let good = holds_at_entry(b, node);
-    node.walk(&mut scratch.walk);
+    let good = entry_rule_holds(b, node);
+    node.start_walk(&mut scratch.walk);
     scratch.point.registers = NO_REGISTERS;
     let mut next = 0usize;
-    while let Some(addr) = scratch.walk.step() {
-        node_address_limit(addr);
+    while let Some(addr) = scratch.walk.advance() {
+        point_address_fits_word(addr);
         let here = point_of_walk(b, node, addr, next > 0, &scratch.interrupts, &scratch.walk);
         next = next.wrapping_add(1);
-        if !are_point_values(b, here) {
+        if !is_point_in_lattice(b, here) {
             return earlier_node_fault(good, entry, addr, Some(BAD_VALUES));
         }
-        let hinted = node.near(next);
+        let hinted = node.with_hint(next);
         let at = PointCheck {
             bounds: b,
             image,
@@ -79,7 +79,7 @@ pub(crate) fn node_fault<'a>(
         if let Some(fault) = earlier_node_fault(good, entry, addr, found) {
             return Some(fault);
         }
-        scratch.point.registers = scratch.point.registers.kept_if_repeated(here.next);
+        scratch.point.registers = scratch.point.registers.kept_if_same_state(here.next);
         // Entries were checked here, so their context is kept.
         let is_checked = here.state.ie && !here.again && !plan.irqs.is_empty();
         if is_checked {
@@ -121,13 +121,13 @@ fn node_entry_fault(entry: u32) -> Fault
 }
 
 /// Establishes that the address of a checked point is below 2^32, as its type says.
-fn node_address_limit(addr: u32)
+fn point_address_fits_word(addr: u32)
     ensures { addr < 2 ^ 32 }
 {}
 
 /// Returns true if K2 holds at a node's entry: a point stands there, and the values of the exit, if
 /// any, are the plan's.
-pub(crate) fn holds_at_entry(b: &Bounds, node: &Node<'_>) -> bool
+pub(crate) fn entry_rule_holds(b: &Bounds, node: &Node<'_>) -> bool
     ensures { IsTrue result ↔ HoldsAtEntry b.now node.now }
 {
     if node.point(node.key.entry).is_none() {

@@ -17,19 +17,19 @@ ghost use Rattle.depth_cert.specs.Certs.{CertData};
 ghost use Rattle.packed_cert.specs.Walks.{IsNextWithSameState};
 
 use crate::duty_rules::{rule_broken_by_duties, rule_broken_by_interrupts};
-use crate::fast_paths::{CheckedRegisters, fast_path_next, rule_broken_by_kept_state};
+use crate::fast_paths::{CheckedRegisters, next_after_nop_or_jump, rule_broken_by_kept_state};
 use crate::last_interrupts::LastInterrupts;
-use crate::rules::{SMALL_NEED, has_own_need, lesser_broken_rule};
+use crate::rules::{SMALL_NEED, has_need_for_point, lesser_broken_rule};
 use arrayvec::ArrayVec;
 use cfg_recover::{
-    KnownCodes, Located, OperationCache, check_located, rule_unless, successor_change,
+    KnownCodes, Located, OperationCache, check_decoded, broken_rule_unless, write_successor_change,
 };
 use elf_image::Image;
 use packed_cert::{Cert, Node, PointWalk};
 use std::marker::Model;
 use tcd_plan::Plan;
 use value_domain::{Bounds, State, Val, is_value};
-use vd_transfer::{Base, Change, Put};
+use vd_transfer::{Base, Change, RegisterWrite};
 
 /// A point that is checked: what it is checked against, its node, and the point itself.
 #[derive(Drop)]
@@ -81,18 +81,18 @@ pub(crate) struct PointScratch {
 
 /// Returns a change that puts nothing: room that checks of points write their changes into.
 #[inline(always)]
-pub(crate) fn empty_change() -> Change {
+pub(crate) fn blank_change() -> Change {
     Change {
         base: Base::Same,
-        first: Put {
+        first: RegisterWrite {
             at: None,
             value: Val::any(),
         },
-        second: Put {
+        second: RegisterWrite {
             at: None,
             value: Val::any(),
         },
-        third: Put {
+        third: RegisterWrite {
             at: None,
             value: Val::any(),
         },
@@ -114,12 +114,12 @@ pub(crate) fn rule_broken_at(at: &PointCheck<'_, '_>, scratch: &mut PointScratch
     ensures registers { RegistersHoldAt at.now scratch.new.registers }
 {
     let _bounds = at.bounds;
-    let Some(next) = fast_path_next(at, &mut scratch.codes) else {
+    let Some(next) = next_after_nop_or_jump(at, &mut scratch.codes) else {
         return rule_broken_by_decoded_point(at, scratch);
     };
     let jump = rule_broken_by_kept_state(at, next);
     let irqs = rule_broken_by_interrupts(at);
-    let need = rule_unless(has_own_need(at), SMALL_NEED);
+    let need = broken_rule_unless(has_need_for_point(at), SMALL_NEED);
     lesser_broken_rule(lesser_broken_rule(jump, irqs), need)
 }
 
@@ -142,11 +142,11 @@ pub(crate) fn write_change_at(at: &PointCheck<'_, '_>, found: &Located, scratch:
     let s = at.point.state;
     if scratch
         .cache
-        .change(at.bounds, at.plan, found.shape, s, &mut scratch.change)
+        .write_change(at.bounds, at.plan, found.shape, s, &mut scratch.change)
     {
         return;
     }
-    successor_change(
+    write_successor_change(
         at.bounds,
         at.image,
         at.plan,
@@ -183,7 +183,7 @@ pub(crate) fn point_of_walk<'b>(
         addr,
         state,
         again: interrupts.covers(node, state),
-        known: known && are_plan_values(b, walk.anew()),
+        known: known && are_in_lattice(b, walk.new_values()),
         next: walk.next_address_if_same_state(),
         walk,
     }
@@ -191,7 +191,7 @@ pub(crate) fn point_of_walk<'b>(
 
 /// Returns true if each of these register values, of a checked point or an exit, is a value of the
 /// plan, as K2 asks.
-pub(crate) fn are_plan_values(b: &Bounds, vs: &[Val]) -> bool
+pub(crate) fn are_in_lattice(b: &Bounds, vs: &[Val]) -> bool
     ensures { IsTrue result ↔ AreValues b.now vs.now }
 {
     for v in vs {
@@ -203,14 +203,14 @@ pub(crate) fn are_plan_values(b: &Bounds, vs: &[Val]) -> bool
 }
 
 /// Returns whether all values of the checked point's state are values of the plan, as K2 asks.
-pub(crate) fn are_point_values(b: &Bounds, point: CurrentPoint<'_>) -> bool
+pub(crate) fn is_point_in_lattice(b: &Bounds, point: CurrentPoint<'_>) -> bool
     requires { IsTrue point.known → AreValues b.now point.state.now.regs }
     ensures { IsTrue result ↔ AreValues b.now point.entry.state.now.regs }
 {
     if point.known {
         return true;
     }
-    are_plan_values(b, &point.state.regs)
+    are_in_lattice(b, &point.state.regs)
 }
 
 /// Returns the least rule that fails at a checked point off the fast path: by its decoded
@@ -227,11 +227,11 @@ fn rule_broken_by_decoded_point(at: &PointCheck<'_, '_>, scratch: &mut PointScra
     let node = at.node;
     let s = at.point.state;
     let located = scratch.codes.locate(at.image, at.plan, at.point.addr);
-    match check_located(at.bounds, at.plan, &node.key, s, &located) {
+    match check_decoded(at.bounds, at.plan, &node.key, s, &located) {
         Err(rule) => Some(rule),
         Ok(found) => {
             let duties = rule_broken_by_duties(at, found, scratch);
-            let need = rule_unless(has_own_need(at), SMALL_NEED);
+            let need = broken_rule_unless(has_need_for_point(at), SMALL_NEED);
             lesser_broken_rule(duties, need)
         }
     }

@@ -49,7 +49,7 @@ pub(crate) fn lesser_broken_rule(a: Option<u8>, b: Option<u8>) -> Option<u8>
 
 /// Returns whether the node's need has room for the checked point's locals and, at the start's
 /// entry, leaves the reserve free: K14.
-pub(crate) fn has_own_need(at: &PointCheck<'_, '_>) -> bool
+pub(crate) fn has_need_for_point(at: &PointCheck<'_, '_>) -> bool
     ensures { IsTrue result ↔ HasOwnNeed at.now.image at.now.plan at.now.node at.now.point }
 {
     let image = at.image;

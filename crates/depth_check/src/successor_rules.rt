@@ -14,9 +14,9 @@ use crate::fast_paths::{may_skip_change, may_skip_refinement, rule_broken_by_kep
 use crate::node_covers::{has_covering_points, is_changed_state_covered, is_kept_state_covered};
 use crate::points::{PointCheck, PointScratch, write_change_at};
 use crate::rules::{NO_POINT, lesser_broken_rule};
-use cfg_recover::{Located, rule_unless, targets};
+use cfg_recover::{Located, broken_rule_unless, targets};
 use tc_isa::{Shape, Target};
-use vd_transfer::{Change, change_on};
+use vd_transfer::{Change, write_branch_change};
 
 /// Returns K4 if the node doesn't cover a successor of the checked point in its frame. Those after
 /// calls are checked elsewhere.
@@ -38,7 +38,7 @@ pub(crate) fn rule_broken_by_successors(
     let addr = at.point.addr;
     let next = addr.wrapping_add(found.size);
     match found.shape {
-        Shape::Branch { by, .. } => rule_broken_by_branch_sides(
+        Shape::Branch { by, .. } => rule_broken_by_branch(
             at,
             found.shape,
             next,
@@ -54,7 +54,7 @@ pub(crate) fn rule_broken_by_successors(
 
 /// Returns K4 if the node doesn't cover one of the two sides of a checked branch.
 #[inline(never)]
-fn rule_broken_by_branch_sides(
+fn rule_broken_by_branch(
     at: &PointCheck<'_, '_>,
     shape: Shape,
     next: u32,
@@ -84,7 +84,7 @@ fn rule_broken_by_jump(at: &PointCheck<'_, '_>, to: Target, jumped: &mut Option<
     match to {
         Target::Rel(by) => rule_broken_by_kept_state(at, at.point.addr.wrapping_add(by)),
         Target::Abs(x) => rule_broken_by_kept_state(at, x),
-        Target::Reg(r) => rule_broken_by_jump_list(at, r, jumped),
+        Target::Reg(r) => rule_broken_by_ji(at, r, jumped),
     }
 }
 
@@ -146,16 +146,16 @@ fn rule_broken_by_refined_side(
     ensures { FindsLeastBrokenByDuties at.now
         (jump_on to (refine_of at.now.bounds at.now.plan shape at.now.point.state taken)) result }
 {
-    if !change_on(at.bounds, at.plan, shape, at.point.state, taken, c) {
+    if !write_branch_change(at.bounds, at.plan, shape, at.point.state, taken, c) {
         return None;
     }
-    rule_unless(is_changed_state_covered(at, to, c), NO_POINT)
+    broken_rule_unless(is_changed_state_covered(at, to, c), NO_POINT)
 }
 
 /// Returns K4 if the node doesn't cover a target of a jump by a register, unless jumps by `jumped`
 /// are known to hold.
 #[inline(never)]
-fn rule_broken_by_jump_list(at: &PointCheck<'_, '_>, r: u8, jumped: &mut Option<u8>) -> Option<u8>
+fn rule_broken_by_ji(at: &PointCheck<'_, '_>, r: u8, jumped: &mut Option<u8>) -> Option<u8>
     requires register { r < 32 }
     requires jumped { RegisterJumpsHoldAt at.now jumped.old }
     ensures found { FindsLeastBrokenByDuties at.now
@@ -195,7 +195,7 @@ fn rule_broken_by_changed_state(
 {
     write_change_at(at, found, scratch);
     let next = at.point.addr.wrapping_add(found.size);
-    rule_unless(
+    broken_rule_unless(
         is_changed_state_covered(at, next, &scratch.change),
         NO_POINT,
     )

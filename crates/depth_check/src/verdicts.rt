@@ -5,8 +5,8 @@ ghost use Rattle.depth_check.specs.CheckAnswers.{IsCheckAnswer};
 use crate::certificates::start_node;
 use crate::fast_paths::NO_REGISTERS;
 use crate::last_interrupts::LastInterrupts;
-use crate::nodes::{NodeScratch, node_fault};
-use crate::points::{PointScratch, empty_change};
+use crate::nodes::{NodeScratch, first_node_fault};
+use crate::points::{PointScratch, blank_change};
 use crate::rules::NO_START;
 use cfg_recover::{KnownCodes, OperationCache, start_key};
 use depth_cert::Key;
@@ -25,7 +25,7 @@ pub enum Verdict {
 
 /// Checks a certificate node by node: returns yes with the start's need, or no with the first rule
 /// that fails, its key and address.
-pub(crate) fn judge(image: &Image, plan: &Plan, cert: &Cert) -> Verdict
+pub(crate) fn check_nodes(image: &Image, plan: &Plan, cert: &Cert) -> Verdict
     ensures { IsCheckAnswer image.now plan.now cert.now result }
 {
     let b = Bounds::of(plan, cert.version());
@@ -38,17 +38,17 @@ pub(crate) fn judge(image: &Image, plan: &Plan, cert: &Cert) -> Verdict
     };
     let mut scratch = NodeScratch {
         point: PointScratch {
-            change: empty_change(),
+            change: blank_change(),
             cache: OperationCache::empty(),
             codes: KnownCodes::new(),
             registers: NO_REGISTERS,
         },
-        interrupts: LastInterrupts::none(),
-        walk: PointWalk::none(),
+        interrupts: LastInterrupts::empty(),
+        walk: PointWalk::empty(),
     };
     for i in 0..cert.len() {
         if let Some(node) = cert.get(i) {
-            if let Some(fault) = node_fault(&b, image, plan, cert, &node, &mut scratch) {
+            if let Some(fault) = first_node_fault(&b, image, plan, cert, &node, &mut scratch) {
                 return Verdict::No {
                     rule: fault.rule,
                     key: node.key,

@@ -9,14 +9,14 @@ ghost use Rattle.depth_maker.specs.declared.answering.MakeErr.TheVariants.{NoMem
 
 use crate::fixpoint::least_fixpoint;
 use crate::inputs_and_limits::Ground;
-use crate::interrupt_handlers::all_handler_frames;
+use crate::interrupt_handlers::all_handlers;
 use crate::needs::{least_frame_needs, need_refusal};
 use crate::rows::Source;
-use crate::spelling::spelled_cert_bytes;
+use crate::spelling::serialize_cert;
 use crate::table::Table;
 use depth_cert::{CertErr, Key};
 use elf_image::Image;
-use frame_places::{Refusal, Spot, number_frames};
+use frame_places::{Refusal, Spot, frame_number_map};
 use packed_cert::Cert;
 use std::alloc::{AllocError, AllocFailed, Global};
 use tcd_plan::Plan;
@@ -113,8 +113,8 @@ fn cert_bytes_from_table(
     ensures ok { IfOk result (λ out. AreClosedCertBytesOn ground.now version out.items) }
     ensures err { IfErr result (MakeErrHolds ground.now) }
 {
-    let numbers = number_frames(alloc, table.frames.as_slice())?;
-    let handlers = all_handler_frames(alloc, ground.plan, &numbers)?;
+    let numbers = frame_number_map(alloc, table.frames.as_slice())?;
+    let handlers = all_handlers(alloc, ground.plan, &numbers)?;
     let source = Source {
         ground,
         table,
@@ -153,7 +153,7 @@ fn cert_bytes_with_needs(alloc: Global, source: &Source, version: u8) -> Result<
     ensures err { IfErr result (MakeErrHolds source.now.ground.now) }
 {
     match least_frame_needs(alloc, source)? {
-        Ok(needs) => Ok(spelled_cert_bytes(alloc, source, version, needs.as_slice())?),
+        Ok(needs) => Ok(serialize_cert(alloc, source, version, needs.as_slice())?),
         Err(place) => Err(need_refusal(source, place)),
     }
 }

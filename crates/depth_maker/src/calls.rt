@@ -9,13 +9,13 @@ ghost use Rattle.depth_maker.specs.VisitDuties.{enter_duties, resume_duties, Owe
 ghost use Rattle.depth_maker.specs.Visits.{VisitInvariantHolds};
 
 use crate::inputs_and_limits::Visit;
-use crate::join_entries::{join_call_entries, join_entry_and_return, join_return_after_entry};
+use crate::join_entries::{join_call_entries, join_entry_and_return, register_and_join_return};
 use crate::last_call::{LastCall, MOST_CALLS, find_call};
 use crate::table::Table;
 use arrayvec::ArrayVec;
 use cfg_recover::{direct_target, entered_key, targets};
 use depth_cert::CALL;
-use frame_places::{Refusal, has_queued_mark};
+use frame_places::{Refusal, is_place_queued};
 use small_states::{Incoming, SmallKnown};
 use std::alloc::{AllocError, Global};
 use tc_isa::Target;
@@ -24,7 +24,7 @@ use vd_transfer::Change;
 
 /// Joins, at a visited CALL, CALLA or CALLI, the state at each called function's entry and the
 /// state after each return to `back`.
-pub(crate) fn join_call(
+pub(crate) fn join_call_duties(
     alloc: Global,
     table: &mut Table,
     v: &Visit,
@@ -46,7 +46,7 @@ pub(crate) fn join_call(
             let key = entered_key(&v.key, CALL, target);
             join_entry_and_return(alloc, table, v, key, &*c, back)
         }
-        None => join_listed_calls(alloc, table, v, &*c, to, back),
+        None => join_indirect_calls(alloc, table, v, &*c, to, back),
     }
 }
 
@@ -56,7 +56,7 @@ pub(crate) fn join_call(
 fn write_call_entry_change(c: &mut Change, s: &State)
     ensures { state_after s.now c.new ≡ entries.call_entry s.now }
 {
-    c.keep(s);
+    c.set_to_identity(s);
     c.lower = false;
     c.locals = ArrayVec::new();
 }
@@ -64,7 +64,7 @@ fn write_call_entry_change(c: &mut Change, s: &State)
 /// Joins, at a visited CALLI, the entries of all functions that its register may name, and the
 /// states after they return to `back`.
 #[inline(never)]
-fn join_listed_calls(
+fn join_indirect_calls(
     alloc: Global,
     table: &mut Table,
     v: &Visit,
@@ -82,13 +82,13 @@ fn join_listed_calls(
     ensures err { IfErr result (RefusalIsRight v.now.ground.now) }
 {
     let targets = targets(v.ground.plan, v.state, v.addr, to);
-    join_listed_call_entries(alloc, table, v, entry, &targets)?;
+    join_indirect_call_entries(alloc, table, v, entry, &targets)?;
     join_call_returns(alloc, table, v, targets.as_slice(), back)
 }
 
 /// Joins the state at the entries of the functions that a visited CALLI may call, unless a noted
 /// call shows that these are covered.
-fn join_listed_call_entries(
+fn join_indirect_call_entries(
     alloc: Global,
     table: &mut Table,
     v: &Visit,
@@ -102,11 +102,11 @@ fn join_listed_call_entries(
         (JoinedBy v.now table.old table.new (enter_duties v.now targets.now.items)) }
     ensures err { IfErr result (RefusalIsRight v.now.ground.now) }
 {
-    if is_call_covered(&*table, v, entry, targets) {
+    if are_calls_covered(&*table, v, entry, targets) {
         return Ok(());
     }
     join_call_entries(alloc, table, v, entry, targets.as_slice())?;
-    store_last_call(alloc, table, v, entry, targets)?;
+    note_covered_call(alloc, table, v, entry, targets)?;
     Ok(())
 }
 
@@ -127,14 +127,14 @@ fn join_call_returns(
 {
     for t in targets {
         let key = entered_key(&v.key, CALL, *t);
-        join_return_after_entry(alloc, table, v, key, back)?;
+        register_and_join_return(alloc, table, v, key, back)?;
     }
     Ok(())
 }
 
 /// Returns true only if the visited point's call joins no new entries: the last call of these
 /// functions shows that their entries are covered.
-fn is_call_covered(table: &Table, v: &Visit, entry: &Change, targets: &ArrayVec<u32, 128>) -> bool
+fn are_calls_covered(table: &Table, v: &Visit, entry: &Change, targets: &ArrayVec<u32, 128>) -> bool
     requires visited { VisitInvariantHolds v.now table.now }
     requires entry { state_after v.now.state.now entry.now ≡ entries.call_entry v.now.state.now }
     ensures { IsTrue result
@@ -152,7 +152,7 @@ fn is_call_covered(table: &Table, v: &Visit, entry: &Change, targets: &ArrayVec<
 /// Keeps a call of two or more functions among the last 16 whose entries are covered, unless the
 /// visited point has new work.
 #[inline(never)]
-fn store_last_call(
+fn note_covered_call(
     alloc: Global,
     table: &mut Table,
     v: &Visit,
@@ -168,7 +168,7 @@ fn store_last_call(
     if targets.len() < 2 {
         return Ok(());
     }
-    if has_queued_mark(&table.places, table.near) {
+    if is_place_queued(&table.places, table.near) {
         return Ok(());
     }
     let entry = covered_entry(alloc, &*table, v, entry, targets)?;

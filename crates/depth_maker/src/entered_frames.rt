@@ -15,7 +15,7 @@ use tcd_plan::Plan;
 
 /// Returns the keys of the frames that a point's instruction enters by a call, a system call or a
 /// misaligned access, in that order.
-pub(crate) fn entered_frames(
+pub(crate) fn entered_frame_keys(
     alloc: Global,
     v: &Visit,
     found: &Located,

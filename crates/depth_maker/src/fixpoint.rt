@@ -11,11 +11,11 @@ ghost use Rattle.depth_maker.specs.Visits.{NoVisitOpen, VisitsNextPlace, VisitsL
 use crate::covered::CoveredEntries;
 use crate::inputs_and_limits::Ground;
 use crate::interrupt_contexts::LastInterrupts;
-use crate::table::{Table, first_table_room};
+use crate::table::{Table, initial_table_capacity};
 use crate::visit::visit_place;
 use cfg_recover::{KnownCodes, OperationCache, start_key, start_state};
 use frame_places::{
-    Refusal, Spot, Work, add_queued_place, begin_visit, end_visit, has_queued_mark,
+    Refusal, Spot, Work, add_queued_place, begin_visit, end_visit, is_place_queued,
 };
 use indexmap::IndexMap;
 use small_states::{Incoming, ScratchState, SmallKnown};
@@ -37,7 +37,7 @@ pub(crate) fn least_fixpoint(alloc: Global, ground: &Ground) -> Result<Table, Re
     ensures ok { IfOk result (IsLeastClosedTable ground.now) }
     ensures err { IfErr result (RefusalIsRight ground.now) }
 {
-    let mut table = begin_fixpoint(alloc, ground)?;
+    let mut table = initial_table(alloc, ground)?;
     let mut scratch = VisitScratch {
         state: ScratchState::new(start_state(ground.plan)),
         codes: KnownCodes::new(),
@@ -49,7 +49,7 @@ pub(crate) fn least_fixpoint(alloc: Global, ground: &Ground) -> Result<Table, Re
 /// Returns the maker's first table: only the start state at the image's entry is known, and that
 /// point is on the work list.
 #[inline(never)]
-fn begin_fixpoint(alloc: Global, ground: &Ground) -> Result<Table, Refusal>
+fn initial_table(alloc: Global, ground: &Ground) -> Result<Table, Refusal>
     ensures ok { IfOk result (λ t. TableInvariantHoldsOn ground.now t × NoVisitOpen t) }
     ensures err { IfErr result (RefusalIsRight ground.now) }
 {
@@ -59,7 +59,7 @@ fn begin_fixpoint(alloc: Global, ground: &Ground) -> Result<Table, Refusal>
     let same = identity_change(&start);
     let incoming = Incoming::Changed(&start, &same);
     let cell = SmallKnown::new(alloc, ground.bounds, &incoming)?;
-    let mut places = IndexMap::with_capacity(alloc, first_table_room(ground.image))?;
+    let mut places = IndexMap::with_capacity(alloc, initial_table_capacity(ground.image))?;
     let mut work = Work::new(alloc);
     let mut points = Vec::new(alloc);
     let mut frames = Vec::new(alloc);
@@ -69,7 +69,7 @@ fn begin_fixpoint(alloc: Global, ground: &Ground) -> Result<Table, Refusal>
     add_queued_place(&mut places, &mut work, place, cell)?;
     Ok(Table {
         places,
-        readers: no_exit_readers(alloc),
+        readers: empty_exit_readers(alloc),
         work,
         points,
         frames,
@@ -109,7 +109,7 @@ fn visit_listed_places(
 
 /// Returns an empty map from exits to the points that read them: at the start of the fixpoint no
 /// point reads an exit.
-fn no_exit_readers(alloc: Global) -> IndexMap<Spot, Vec<Spot>>
+fn empty_exit_readers(alloc: Global) -> IndexMap<Spot, Vec<Spot>>
     ensures { (z : spots.Spot) → get spot_eq result z ≡ None }
 {
     IndexMap::new(alloc)
@@ -134,7 +134,7 @@ fn visit_next_place(
     let Some(number) = table.work.pop()? else {
         return Ok(false);
     };
-    if !has_queued_mark(&table.places, number) {
+    if !is_place_queued(&table.places, number) {
         return Ok(true);
     }
     table.near = number;

@@ -14,8 +14,8 @@ ghost use Rattle.depth_cert.specs.Known.{state};
 
 use crate::inputs_and_limits::Visit;
 use crate::table::Table;
-use cfg_recover::interrupts;
-use frame_places::has_queued_mark;
+use cfg_recover::possible_irqs;
+use frame_places::is_place_queued;
 use value_domain::{A10_SLOT, Bounds, State, Val, join, leq};
 
 /// What the handlers' entries depend on at a point.
@@ -118,7 +118,7 @@ pub(crate) fn are_interrupts_covered(table: &Table, v: &Visit) -> bool
 /// Returns true only if the last noted context shows that the handlers' entries are covered for
 /// each frame with this CCPN off the interrupt stack.
 #[inline(always)]
-pub(crate) fn are_interrupts_covered_at(table: &Table, is: bool, ccpn: u8) -> bool
+pub(crate) fn are_interrupts_covered_for_ccpn(table: &Table, is: bool, ccpn: u8) -> bool
     ensures { IsTrue result → AreInterruptsCoveredAt table.now is ccpn }
 {
     match &table.covered.interrupts.last {
@@ -130,7 +130,7 @@ pub(crate) fn are_interrupts_covered_at(table: &Table, is: bool, ccpn: u8) -> bo
 /// Notes the visited point's interrupt context as the last covered one, unless the point has new
 /// work. One that differs only in A10 is joined. A call of its own, since it has room for a value.
 #[inline(never)]
-pub(crate) fn store_last_interrupts(table: &mut Table, v: &Visit)
+pub(crate) fn note_covered_interrupts(table: &mut Table, v: &Visit)
     requires fine { TableInvariantHoldsOn v.now.ground.now table.old }
     requires near { PlaceHasNumber table.old.places table.old.near (Point v.now.key v.now.addr) }
     requires well_formed { IsWellFormedState v.now.ground.now.bounds.now v.now.state.now }
@@ -138,7 +138,7 @@ pub(crate) fn store_last_interrupts(table: &mut Table, v: &Visit)
     requires owes { OwesDuties v.now (interrupt_duties v.now) }
     ensures { KeepsDutiesJoined v.now table.old table.new (interrupt_duties v.now) }
 {
-    if has_queued_mark(&table.places, table.near) {
+    if is_place_queued(&table.places, table.near) {
         return;
     }
     if let Some(last) = &mut table.covered.interrupts.last {

@@ -20,7 +20,7 @@ pub(crate) struct Handler {
 
 /// Returns a handler for each interrupt of the plan: its priority, and the number of the handler's
 /// frame.
-pub(crate) fn all_handler_frames(
+pub(crate) fn all_handlers(
     alloc: Global,
     plan: &Plan,
     numbers: &IndexMap<Key, usize>,
@@ -40,7 +40,7 @@ pub(crate) fn all_handler_frames(
 
 /// Appends the frame numbers of the interrupt handlers that a point may enter: those above priority
 /// `ccpn` if IE is on, else none.
-pub(crate) fn add_taken_handlers(
+pub(crate) fn append_handlers_if_enabled(
     into: &mut Vec<usize>,
     ie: bool,
     ccpn: u8,
@@ -52,26 +52,26 @@ pub(crate) fn add_taken_handlers(
         return Ok(());
     }
     into.reserve(handlers.len())?;
-    add_handlers_above(into, ccpn, handlers);
+    append_handlers_above(into, ccpn, handlers);
     Ok(())
 }
 
 /// Appends the frame numbers of the handlers of all interrupts above this priority to a row's
 /// entered frames, which have room.
 #[inline(always)]
-fn add_handlers_above(into: &mut Vec<usize>, ccpn: u8, handlers: &[Handler])
+fn append_handlers_above(into: &mut Vec<usize>, ccpn: u8, handlers: &[Handler])
     requires { vec_len into.old + length handlers.now ≤ vec_capacity into.old }
     ensures { into.new.items ≡ into.old.items ++ handler_nodes_above ccpn handlers.now }
 {
     for h in handlers {
-        add_handler_above(into, ccpn, h);
+        append_handler_if_above(into, ccpn, h);
     }
 }
 
 /// Appends a handler's frame number to a row's entered frames, which have room, if its interrupt is
 /// above this priority.
 #[inline(always)]
-fn add_handler_above(into: &mut Vec<usize>, ccpn: u8, handler: &Handler)
+fn append_handler_if_above(into: &mut Vec<usize>, ccpn: u8, handler: &Handler)
     requires { vec_len into.old < vec_capacity into.old }
     ensures items { into.new.items ≡ into.old.items ++ handler_nodes_above ccpn (handler.now ∷ []) }
     ensures few { vec_len into.new ≤ vec_len into.old + 1 }

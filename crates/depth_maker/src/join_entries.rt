@@ -12,19 +12,19 @@ ghost use Rattle.cfg_recover.specs.Entries as entries;
 ghost use Rattle.cfg_recover.specs.Duties.{owed, enter, resume, entry_and_return};
 ghost use Rattle.depth_cert.specs.Known.{state};
 
-use crate::calls::join_call;
+use crate::calls::join_call_duties;
 use crate::entered_frames::may_enter_misaligned_handler;
 use crate::inputs_and_limits::Visit;
-use crate::interrupt_contexts::{are_interrupts_covered, store_last_interrupts};
+use crate::interrupt_contexts::{are_interrupts_covered, note_covered_interrupts};
 use crate::join_place::join_at_place;
 use crate::join_successors::join_return;
 use crate::table::Table;
 use cfg_recover::{
-    Located, aln_key, entered_key, handler_change, interrupts, irq_key, misaligned_change, sys_key,
-    system_change, targets,
+    Located, aln_key, entered_key, handler_entry_change, possible_irqs, irq_key, aln_entry_change, sys_key,
+    sys_entry_change, targets,
 };
 use depth_cert::{CALL, Key};
-use frame_places::{Refusal, Spot, has_queued_mark, register_reader};
+use frame_places::{Refusal, Spot, is_place_queued, register_reader};
 use small_states::Incoming;
 use std::alloc::Global;
 use tc_isa::Shape;
@@ -32,7 +32,7 @@ use vd_transfer::Change;
 
 /// Joins the entries of the frames that the visited instruction enters, and the states after their
 /// returns, if the instruction is a call or SYSCALL.
-pub(crate) fn join_entries(
+pub(crate) fn join_entry_duties(
     alloc: Global,
     table: &mut Table,
     v: &Visit,
@@ -48,15 +48,15 @@ pub(crate) fn join_entries(
 {
     let back = v.addr.wrapping_add(size);
     match shape {
-        Shape::Call { to } => join_call(alloc, table, v, to, back, c),
-        Shape::Syscall { tin } => join_system_call_entry(alloc, table, v, tin, back),
+        Shape::Call { to } => join_call_duties(alloc, table, v, to, back, c),
+        Shape::Syscall { tin } => join_system_call_duties(alloc, table, v, tin, back),
         _ => Ok(()),
     }
 }
 
 /// Joins the entry of the handler of misaligned accesses, if the visited access may be misaligned
 /// and the plan has that trap.
-pub(crate) fn join_access_entry(
+pub(crate) fn join_access_duties(
     alloc: Global,
     table: &mut Table,
     v: &Visit,
@@ -76,7 +76,7 @@ pub(crate) fn join_access_entry(
 
 /// Joins the entries of the handlers of all interrupts that may be taken at the visited point; none
 /// if IE is off.
-pub(crate) fn join_interrupts(alloc: Global, table: &mut Table, v: &Visit) -> Result<(), Refusal>
+pub(crate) fn join_irq_duties(alloc: Global, table: &mut Table, v: &Visit) -> Result<(), Refusal>
     requires visited { VisitInvariantHolds v.now table.old }
     requires owes { OwesDuties v.now (interrupt_duties v.now) }
     ensures ok { OnOk result (JoinedBy v.now table.old table.new (interrupt_duties v.now)) }
@@ -88,12 +88,12 @@ pub(crate) fn join_interrupts(alloc: Global, table: &mut Table, v: &Visit) -> Re
     if are_interrupts_covered(&*table, v) {
         return Ok(());
     }
-    let irqs = interrupts(v.ground.plan, v.state);
+    let irqs = possible_irqs(v.ground.plan, v.state);
     if irqs.is_empty() {
         return Ok(());
     }
     join_interrupt_entries(alloc, table, v, irqs.as_slice())?;
-    store_last_interrupts(table, v);
+    note_covered_interrupts(table, v);
     Ok(())
 }
 
@@ -135,7 +135,7 @@ pub(crate) fn join_entry(
         (owed rule (enter key (state_after v.now.state.now c.now)) ∷ [])) }
     ensures err { IfErr result (RefusalIsRight v.now.ground.now) }
 {
-    if has_queued_mark(&table.places, table.near) {
+    if is_place_queued(&table.places, table.near) {
         return Ok(());
     }
     let incoming = Incoming::Changed(v.state, c);
@@ -144,7 +144,7 @@ pub(crate) fn join_entry(
 
 /// Makes the visited point a reader of the exit of the frame `key`, and joins the state after that
 /// frame's return at `back`.
-pub(crate) fn join_return_after_entry(
+pub(crate) fn register_and_join_return(
     alloc: Global,
     table: &mut Table,
     v: &Visit,
@@ -185,13 +185,13 @@ pub(crate) fn join_entry_and_return(
     ensures err { IfErr result (RefusalIsRight v.now.ground.now) }
 {
     join_entry(alloc, table, v, key, c)?;
-    join_return_after_entry(alloc, table, v, key, back)
+    register_and_join_return(alloc, table, v, key, back)
 }
 
 /// Joins the entry of the handler of SYSCALL `tin`, and the state after its return at `back`. A
 /// call of its own, since it has room for a change.
 #[inline(never)]
-fn join_system_call_entry(
+fn join_system_call_duties(
     alloc: Global,
     table: &mut Table,
     v: &Visit,
@@ -204,7 +204,7 @@ fn join_system_call_entry(
     ensures err { IfErr result (RefusalIsRight v.now.ground.now) }
 {
     let g = v.ground;
-    let entry = system_change(g.bounds, g.plan, &v.key, v.state, tin);
+    let entry = sys_entry_change(g.bounds, g.plan, &v.key, v.state, tin);
     join_entry_and_return(alloc, table, v, sys_key(g.plan, &v.key), &entry, back)
 }
 
@@ -218,7 +218,7 @@ fn join_misaligned_entry(alloc: Global, table: &mut Table, v: &Visit) -> Result<
     ensures err { IfErr result (RefusalIsRight v.now.ground.now) }
 {
     let g = v.ground;
-    let entry = misaligned_change(g.bounds, g.plan, &v.key, v.state);
+    let entry = aln_entry_change(g.bounds, g.plan, &v.key, v.state);
     join_entry(alloc, table, v, aln_key(g.plan, &v.key), &entry)
 }
 
@@ -237,7 +237,7 @@ fn join_interrupt_entries(
     ensures ok { OnOk result (JoinedBy v.now table.old table.new (interrupt_duties v.now)) }
     ensures err { IfErr result (RefusalIsRight v.now.ground.now) }
 {
-    let entry = handler_change(v.ground.bounds, v.ground.plan, &v.key, v.state, 0);
+    let entry = handler_entry_change(v.ground.bounds, v.ground.plan, &v.key, v.state, 0);
     join_each_handler_entry(alloc, table, v, irqs, entry)
 }
 

@@ -20,18 +20,18 @@ ghost use Rattle.depth_maker.specs.declared.inputs_and_limits.Ground.{Ground};
 use crate::inputs_and_limits::Visit;
 use crate::table::Table;
 use frame_places::{
-    LOCALS_RULE, Marked, Refusal, Spot, Work, add_or_find_place, count_place, put_place_value,
+    LOCALS_RULE, Marked, Refusal, Spot, Work, add_or_find_place, record_place, set_and_queue_place,
     requeue_readers_of,
 };
 use indexmap::IndexMap;
-use small_states::{Incoming, SmallKnown, incoming_priority};
+use small_states::{Incoming, SmallKnown, incoming_ccpn};
 use std::alloc::{AllocError, Global};
 
 /// Adds the place `y` with this value, which flows in, and counts it. If `y` is known, returns its
-/// number and adds nothing. It is never inlined: if `join_without_readers` and `share_state` each
-/// had its text, LLVM would inline neither `add_or_find_place` nor the pushes of `count_place`.
+/// number and adds nothing. It is never inlined: if `join_without_requeuing` and `share_state` each
+/// had its text, LLVM would inline neither `add_or_find_place` nor the pushes of `record_place`.
 #[inline(never)]
-pub(crate) fn add_joined_place(
+pub(crate) fn add_place_if_new(
     table: &mut Table,
     y: Spot,
     value: SmallKnown,
@@ -43,7 +43,7 @@ pub(crate) fn add_joined_place(
 {
     match add_or_find_place(&mut table.places, &mut table.work, y, value)? {
         None => {
-            count_place(false, &mut table.points, &mut table.frames, y)?;
+            record_place(false, &mut table.points, &mut table.frames, y)?;
             Ok(None)
         }
         Some(number) => Ok(Some(number)),
@@ -69,9 +69,9 @@ pub(crate) fn join_at_place(
         (JoinsAtPlace v.now.ground.now table.old table.new y.now (incoming_known incoming.now)) }
     ensures err { IfErr result (RefusalIsRight v.now.ground.now) }
 {
-    let _byte = incoming_priority(incoming);
+    let _byte = incoming_ccpn(incoming);
     let known = table.places.len();
-    if join_without_readers(alloc, table, v, y, incoming)? {
+    if join_without_requeuing(alloc, table, v, y, incoming)? {
         let again = table.places.len() == known;
         requeue_readers_after_join(
             &mut table.places,
@@ -86,7 +86,7 @@ pub(crate) fn join_at_place(
 
 /// Joins what flows from the visited point into the place `y`, without queuing readers of `y`.
 /// Returns false if `y` covered that already.
-fn join_without_readers(
+fn join_without_requeuing(
     alloc: Global,
     table: &mut Table,
     v: &Visit,
@@ -110,8 +110,8 @@ fn join_without_readers(
     let Some((_, own)) = table.places.get_index(table.near) else {
         unreachable!();
     };
-    let value = own.value.apply(alloc, incoming)?;
-    match add_joined_place(table, *y, value)? {
+    let value = own.value.compact_copy(alloc, incoming)?;
+    match add_place_if_new(table, *y, value)? {
         None => Ok(true),
         Some(number) => join_known_place(alloc, table, v, number, y, incoming),
     }
@@ -170,10 +170,10 @@ fn join_known_place(
     if place.value.covers(b, incoming) {
         return Ok(false);
     }
-    let Some(cell) = place.value.join_from(alloc, b, &own.value, incoming)? else {
+    let Some(cell) = place.value.join_sharing(alloc, b, &own.value, incoming)? else {
         return Err(Refusal::Fault(LOCALS_RULE, *y));
     };
-    put_place_value(
+    set_and_queue_place(
         &mut table.places,
         &mut table.work,
         number,

@@ -20,14 +20,14 @@ ghost use Rattle.frame_places.specs.Marks.{IsAmongReaders};
 use crate::inputs_and_limits::Visit;
 use crate::join_place::join_at_place;
 use crate::table::Table;
-use crate::visit::write_visit_change;
+use crate::visit::write_step_change;
 use cfg_recover::{Located, OperationCache, direct_target, targets};
 use depth_cert::{Key, SYS};
-use frame_places::{Refusal, Spot, has_queued_mark};
+use frame_places::{Refusal, Spot, is_place_queued};
 use small_states::Incoming;
 use std::alloc::Global;
 use tc_isa::{Shape, Target};
-use vd_transfer::{Change, change_on};
+use vd_transfer::{Change, write_branch_change};
 
 /// A side of a branch: its shape, whether the branch is taken, and the next address.
 #[derive(Clone, Copy)]
@@ -80,7 +80,7 @@ pub(crate) fn join_successors(
 }
 
 /// Joins a changed state at a successor of the visited point, which is in the same frame.
-pub(crate) fn join_jump(
+pub(crate) fn join_successor(
     alloc: Global,
     table: &mut Table,
     v: &Visit,
@@ -94,15 +94,15 @@ pub(crate) fn join_jump(
         (owed 4 (jump to (state_after v.now.state.now c.now)) ∷ [])) }
     ensures err { IfErr result (RefusalIsRight v.now.ground.now) }
 {
-    if has_queued_mark(&table.places, table.near) {
+    if is_place_queued(&table.places, table.near) {
         return Ok(());
     }
-    join_first_jump(alloc, table, v, to, c)
+    join_first_successor(alloc, table, v, to, c)
 }
 
 /// Joins a changed state at the successor `to` in the same frame, as the first join of a visit: the
 /// point has its visited state.
-pub(crate) fn join_first_jump(
+pub(crate) fn join_first_successor(
     alloc: Global,
     table: &mut Table,
     v: &Visit,
@@ -132,7 +132,7 @@ pub(crate) fn join_exit(alloc: Global, table: &mut Table, v: &Visit) -> Result<(
         (JoinedBy v.now table.old table.new (owed rule (leave (exit_of v.now.state.now)) ∷ [])) }
     ensures err { IfErr result (RefusalIsRight v.now.ground.now) }
 {
-    if has_queued_mark(&table.places, table.near) {
+    if is_place_queued(&table.places, table.near) {
         return Ok(());
     }
     let incoming = Incoming::Leaving(v.state);
@@ -155,7 +155,7 @@ pub(crate) fn join_return(
     ensures ok { OnOk result (JoinedBy v.now table.old table.new (owed 4 (resume key back) ∷ [])) }
     ensures err { IfErr result (RefusalIsRight v.now.ground.now) }
 {
-    if has_queued_mark(&table.places, table.near) {
+    if is_place_queued(&table.places, table.near) {
         return Ok(());
     }
     let Some(place) = table.places.get(&Spot::Exit(key)) else {
@@ -171,7 +171,7 @@ pub(crate) fn join_return(
 
 /// Joins the visited state at the exit of its frame if the instruction leaves: RET, or RFE in the
 /// handler of system calls.
-pub(crate) fn join_exit_if_left(
+pub(crate) fn join_exit_if_leaving(
     alloc: Global,
     table: &mut Table,
     v: &Visit,
@@ -244,10 +244,10 @@ fn join_jump_targets(
 {
     match direct_target(v.addr, to) {
         Some(target) => {
-            c.keep(v.state);
-            join_first_jump(alloc, table, v, target, &*c)
+            c.set_to_identity(v.state);
+            join_first_successor(alloc, table, v, target, &*c)
         }
-        None => join_listed_jumps(alloc, table, v, to, c),
+        None => join_indirect_jump_targets(alloc, table, v, to, c),
     }
 }
 
@@ -271,8 +271,8 @@ fn join_next_instruction(
     ensures err { IfErr result (RefusalIsRight v.now.ground.now) }
     ensures results { HoldsCachedResults v.now.ground.now.bounds.now cache.new }
 {
-    write_visit_change(v, found.shape, c, cache);
-    join_first_jump(alloc, table, v, v.addr.wrapping_add(found.size), &*c)
+    write_step_change(v, found.shape, c, cache);
+    join_first_successor(alloc, table, v, v.addr.wrapping_add(found.size), &*c)
 }
 
 /// Joins one side of a visited branch, refined by its condition, if the state lets the branch go
@@ -293,15 +293,15 @@ fn join_branch_side(
     ensures err { IfErr result (RefusalIsRight v.now.ground.now) }
 {
     let g = v.ground;
-    if !change_on(g.bounds, g.plan, side.shape, v.state, side.taken, c) {
+    if !write_branch_change(g.bounds, g.plan, side.shape, v.state, side.taken, c) {
         return Ok(());
     }
-    join_jump(alloc, table, v, side.to, &*c)
+    join_successor(alloc, table, v, side.to, &*c)
 }
 
 /// Joins the visited point's unchanged state at each target of its jump by a register, JI.
 #[inline(never)]
-fn join_listed_jumps(
+fn join_indirect_jump_targets(
     alloc: Global,
     table: &mut Table,
     v: &Visit,
@@ -319,11 +319,11 @@ fn join_listed_jumps(
     ensures err { IfErr result (RefusalIsRight v.now.ground.now) }
 {
     let targets = targets(v.ground.plan, v.state, v.addr, to);
-    join_jumps(alloc, table, v, targets.as_slice(), c)
+    join_each_jump_target(alloc, table, v, targets.as_slice(), c)
 }
 
 /// Joins the visited point's unchanged state at each of these addresses of its frame.
-fn join_jumps(
+fn join_each_jump_target(
     alloc: Global,
     table: &mut Table,
     v: &Visit,
@@ -336,9 +336,9 @@ fn join_jumps(
         (JoinedBy v.now table.old table.new (jumps_to v.now.state.now targets.now)) }
     ensures err { IfErr result (RefusalIsRight v.now.ground.now) }
 {
-    c.keep(v.state);
+    c.set_to_identity(v.state);
     for t in targets {
-        join_jump(alloc, table, v, *t, &*c)?;
+        join_successor(alloc, table, v, *t, &*c)?;
     }
     Ok(())
 }

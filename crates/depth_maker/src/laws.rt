@@ -28,14 +28,14 @@ pub fn effect_monotonicity_laws()
 
 /// Laws of the maker: every derived assignment is below every closed one without faults, which
 /// shows that no derived one has a fault.
-pub fn derived_laws()
+pub fn derived_assignment_laws()
     ensures below { DerivedIsBelow }
     ensures faults { FaultsRefute }
 {}
 
 /// Laws of the maker: an accepted certificate is a closed assignment without faults, and no refusal
 /// holds then. One of a maker's solution, whose nodes have their entry points, is accepted.
-pub fn accepted_laws()
+pub fn accepted_cert_laws()
     ensures closed { AcceptedIsClosed }
     ensures refusals { RefusalsRefute }
     ensures solutions { SolutionIsAccepted }
@@ -43,7 +43,7 @@ pub fn accepted_laws()
 
 /// Laws of the maker: its certificate is accepted, and none of the format is less; if a refusal
 /// holds, none is accepted.
-pub fn making_laws()
+pub fn least_cert_laws()
     ensures made { LeastClosedCertIsMade }
     ensures refused { RefusalMeansNoneAccepted }
     ensures least { MadeIsLeast }

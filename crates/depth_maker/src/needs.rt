@@ -11,7 +11,7 @@ use crate::rows::{Source, need_rows};
 use cfg_recover::start_key;
 use depth_cert::Key;
 use frame_places::{
-    NEEDS_RULE, NeedRow, frame_edges, least_needs, needs_by_few_passes, node_ranks, number_or_zero,
+    NEEDS_RULE, NeedRow, frame_edges, least_needs, needs_in_few_passes, node_ranks, get_or_zero,
 };
 use std::alloc::{AllocError, Global};
 use tcd_plan::Plan;
@@ -43,15 +43,15 @@ pub(crate) fn least_frame_needs(
         None => 0,
     })?;
     let cap = need_limit(source.ground.plan);
-    let soon = needs_by_few_passes(alloc, frames.len(), rows.as_slice(), cap)?;
+    let soon = needs_in_few_passes(alloc, frames.len(), rows.as_slice(), cap)?;
     if let Some(found) = soon {
         return Ok(Ok(found));
     }
     let edges = frame_edges(alloc, rows.as_slice())?;
     let ranks = node_ranks(alloc, frames.len(), edges.as_slice())?;
-    rows.sort_by_key(|row| number_or_zero(ranks.as_slice(), row.node))?;
+    rows.sort_by_key(|row| get_or_zero(ranks.as_slice(), row.node))?;
     let recurs = first_recursion(alloc, source, edges.as_slice(), ranks.as_slice(), frames)?;
-    needs_from_rows(alloc, source, rows.as_slice(), recurs, frames)
+    least_needs_from_rows(alloc, source, rows.as_slice(), recurs, frames)
 }
 
 /// Returns the refusal by K14 if too many areas are needed: at the first recursion, or at the
@@ -81,7 +81,7 @@ pub(crate) fn need_refusal(source: &Source, place: Option<(Key, u32)>) -> MakeEr
 
 /// Returns the least needs that meet these rows of all points, or the first recursion, if any, if
 /// no needs are within the areas.
-fn needs_from_rows(
+fn least_needs_from_rows(
     alloc: Global,
     source: &Source,
     rows: &[NeedRow],

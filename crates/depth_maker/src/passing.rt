@@ -9,8 +9,8 @@ ghost use Rattle.depth_maker.specs.TableInvariant.{TableInvariantHoldsOn};
 ghost use Rattle.tc_isa.specs.InBounds.{IsShape};
 
 use crate::inputs_and_limits::Site;
-use crate::interrupt_contexts::are_interrupts_covered_at;
-use crate::join_place::add_joined_place;
+use crate::interrupt_contexts::are_interrupts_covered_for_ccpn;
+use crate::join_place::add_place_if_new;
 use crate::spelling::ccpn_fits_byte;
 use crate::table::Table;
 use cfg_recover::direct_target;
@@ -21,7 +21,7 @@ use tc_isa::Shape;
 /// Joins a nop's or jump's state at its new successor, which shares the state unread. Otherwise
 /// joins nothing, and returns false. Tried only at the place that was found last: other places'
 /// successors are mostly known.
-pub(crate) fn share_state(alloc: Global, table: &mut Table, site: &Site) -> Result<bool, Refusal>
+pub(crate) fn join_shared(alloc: Global, table: &mut Table, site: &Site) -> Result<bool, Refusal>
     requires fine { TableInvariantHoldsOn site.now.ground.now table.old }
     requires near { PlaceHasNumber table.old.places table.old.near
         (Point site.now.key site.now.addr) }
@@ -40,7 +40,7 @@ pub(crate) fn share_state(alloc: Global, table: &mut Table, site: &Site) -> Resu
         unreachable!();
     };
     let value = own.value.copy()?;
-    match add_joined_place(table, Spot::Point(site.key, to), value)? {
+    match add_place_if_new(table, Spot::Point(site.key, to), value)? {
         None => Ok(true),
         Some(_) => Ok(false),
     }
@@ -84,7 +84,7 @@ fn may_share_state(table: &Table, site: &Site) -> bool
     match own.value.outline() {
         Some(outline) => {
             ccpn_fits_byte(outline.ccpn);
-            !outline.ie || are_interrupts_covered_at(table, site.key.is, outline.ccpn)
+            !outline.ie || are_interrupts_covered_for_ccpn(table, site.key.is, outline.ccpn)
         }
         None => false,
     }

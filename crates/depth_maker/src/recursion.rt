@@ -7,8 +7,8 @@ use crate::rows::{KnownPoint, Source, point_row};
 use cfg_recover::start_state;
 use depth_cert::Key;
 use frame_places::{
-    FrameEdge, Spot, address_in_frame, first_recursive_node, frame_number, frame_order_numbers,
-    has_marked_node, nodes_reaching,
+    FrameEdge, Spot, address_in_frame, first_recursive_node, frame_number, numbers_of_keys,
+    has_marked_node, reaching_marks,
 };
 use small_states::ScratchState;
 use std::alloc::{AllocError, Global};
@@ -27,11 +27,11 @@ pub(crate) fn first_recursion(
     requires edges { AreTableEdges source.now edges.now }
     ensures { IfOk result (IsFirstRecursion source.now) }
 {
-    let orders = frame_order_numbers(alloc, frames)?;
+    let orders = numbers_of_keys(alloc, frames)?;
     let Some(node) = first_recursive_node(alloc, orders.as_slice(), edges, ranks)? else {
         return Ok(None);
     };
-    let marks = nodes_reaching(alloc, frames.len(), edges, node)?;
+    let marks = reaching_marks(alloc, frames.len(), edges, node)?;
     let key = frames[node];
     let points = source.table.points.as_slice();
     match first_recursive_address(alloc, source, marks.as_slice(), key, points)? {

@@ -8,13 +8,13 @@ ghost use Rattle.depth_maker.specs.InterruptHandlers.{AreNumberedHandlers};
 ghost use Rattle.depth_maker.specs.VisitDuties.{OwesDutiesOf};
 ghost use Rattle.depth_maker.specs.Rows.{AddsPointRow, AreRowFramesAmong, HasFirstRows, IsKnownRowPoint, IsPointRow, IsVisitedPointRow, HasEqualRow, IsRowSource, RowsOn};
 
-use crate::entered_frames::entered_frames;
+use crate::entered_frames::entered_frame_keys;
 use crate::inputs_and_limits::{Ground, Visit};
-use crate::interrupt_handlers::{Handler, add_taken_handlers};
+use crate::interrupt_handlers::{Handler, append_handlers_if_enabled};
 use crate::table::Table;
 use cfg_recover::{Located, check_local_rules, start_state};
 use depth_cert::Key;
-use frame_places::{Marked, NeedRow, Spot, frame_number_near, frame_numbers, is_plain_mark};
+use frame_places::{Marked, NeedRow, Spot, frame_number_near, entered_frame_numbers, is_plain_mark};
 use indexmap::IndexMap;
 use small_states::{Outline, ScratchState, SmallKnown};
 use std::alloc::{AllocError, Global};
@@ -54,7 +54,7 @@ pub(crate) fn point_row(
 {
     let g = source.ground;
     let cell = &at.known.value;
-    cell.read_state(g.bounds, state);
+    cell.write_state(g.bounds, state);
     let v = Visit {
         ground: g,
         key: at.key,
@@ -84,10 +84,10 @@ fn visited_point_row(
         → AreRowFramesAmong v.now frames → node ≡ frame_number_in frames v.now.key
         → IsVisitedPointRow v.now frames row) }
 {
-    let keys = entered_frames(alloc, v, found)?;
+    let keys = entered_frame_keys(alloc, v, found)?;
     let more = source.handlers.len();
-    let mut into = frame_numbers(alloc, source.numbers, keys.as_slice(), more)?;
-    add_taken_handlers(&mut into, v.state.ie, v.state.ccpn, source.handlers)?;
+    let mut into = entered_frame_numbers(alloc, source.numbers, keys.as_slice(), more)?;
+    append_handlers_if_enabled(&mut into, v.state.ie, v.state.ccpn, source.handlers)?;
     Ok(NeedRow {
         node,
         held: v.state.locals.len() as u8,
@@ -120,7 +120,7 @@ pub(crate) fn need_rows(alloc: Global, source: &Source) -> Result<Vec<NeedRow>, 
         node: 0,
     };
     for entry in 0..source.table.places.len() {
-        add_row(alloc, source, &mut draft, entry)?;
+        add_row_of_place(alloc, source, &mut draft, entry)?;
     }
     let RowsDraft { rows, .. } = draft;
     Ok(rows)
@@ -128,7 +128,7 @@ pub(crate) fn need_rows(alloc: Global, source: &Source) -> Result<Vec<NeedRow>, 
 
 /// Appends the row of the place with this number if it is a point without an equal row.
 #[inline(always)]
-fn add_row(
+fn add_row_of_place(
     alloc: Global,
     source: &Source,
     draft: &mut RowsDraft,
@@ -195,7 +195,7 @@ fn add_point_row(
         let cell = &at.known.value;
         if let Some(outline) = cell.outline() {
             let mut into = Vec::new(alloc);
-            add_taken_handlers(&mut into, outline.ie, outline.ccpn, source.handlers)?;
+            append_handlers_if_enabled(&mut into, outline.ie, outline.ccpn, source.handlers)?;
             draft.rows.push(NeedRow {
                 node: at.node,
                 held: outline.held,

@@ -10,8 +10,8 @@ ghost use Rattle.depth_maker.specs.SpotsAsPlaces.{spots_of_entries};
 use crate::rows::Source;
 use depth_cert::{Key, put_u16, write_key, write_no_exit};
 use frame_places::{
-    PointEntry, Spot, frame_number, frames_in_order, place_address, points_in_order,
-    sorted_frame_points,
+    PointEntry, Spot, frame_number, sorted_frames, place_address, sorted_points,
+    points_of_frame,
 };
 use std::alloc::Global;
 use tcd_base::{NoMemory, put_u32};
@@ -26,7 +26,7 @@ pub(crate) fn ccpn_fits_byte(_byte: u8)
 {}
 
 /// Appends the certificate's bytes of one point of the maker's table: its address and its state.
-fn spell_table_point(
+fn append_table_point(
     out: &mut Vec<u8>,
     source: &Source,
     _key: Key,
@@ -43,13 +43,13 @@ fn spell_table_point(
     };
     put_u32(out, place_address(place))?;
     let cell = &known.value;
-    cell.spell_state(source.ground.bounds, out)?;
+    cell.append_state(source.ground.bounds, out)?;
     Ok(())
 }
 
 /// Appends the certificate's bytes of these points of the maker's table, which are of one frame, by
 /// ascending address.
-fn spell_table_points(
+fn append_table_points(
     out: &mut Vec<u8>,
     source: &Source,
     key: Key,
@@ -61,14 +61,14 @@ fn spell_table_points(
         out.old.items out.new.items) }
 {
     for p in points {
-        spell_table_point(out, source, key, p)?;
+        append_table_point(out, source, key, p)?;
     }
     Ok(())
 }
 
 /// Appends the certificate's bytes of a frame's exit in the maker's table, or of no exit if none is
 /// known.
-fn spell_table_exit(out: &mut Vec<u8>, source: &Source, key: Key) -> Result<(), NoMemory>
+fn append_table_exit(out: &mut Vec<u8>, source: &Source, key: Key) -> Result<(), NoMemory>
     requires source { IsRowSource source.now }
     ensures { OnOk result (SpellsTableExit source.now key out.old.items out.new.items) }
 {
@@ -81,12 +81,12 @@ fn spell_table_exit(out: &mut Vec<u8>, source: &Source, key: Key) -> Result<(), 
         unreachable!();
     };
     ccpn_fits_byte(exit.ccpn);
-    exit.spell(out)?;
+    exit.append_bytes(out)?;
     Ok(())
 }
 
 /// Returns the least need of a frame, in areas, as the certificate's number of two bytes.
-fn spelled_need(source: &Source, needs: &[u32], key: Key) -> u16
+fn need_as_u16(source: &Source, needs: &[u32], key: Key) -> u16
     requires source { IsRowSource source.now }
     requires needs { AreLeastTableNeeds source.now needs.now }
     requires key { IsTableFrame source.now key }
@@ -109,7 +109,7 @@ pub(crate) struct Ordered<'a> {
 
 /// Returns the bytes of the certificate of the maker's finished table: a node for each frame, with
 /// its least need.
-pub(crate) fn spelled_cert_bytes(
+pub(crate) fn serialize_cert(
     alloc: Global,
     source: &Source,
     version: u8,
@@ -121,8 +121,8 @@ pub(crate) fn spelled_cert_bytes(
     requires needs { AreLeastTableNeeds source.now needs.now }
     ensures { IfOk result (λ out. AreClosedCertBytesOf source.now version out.items) }
 {
-    let frames = frames_in_order(alloc, source.table.frames.as_slice())?;
-    let points = points_in_order(alloc, &source.table.places)?;
+    let frames = sorted_frames(alloc, source.table.frames.as_slice())?;
+    let points = sorted_points(alloc, &source.table.places)?;
     let ordered = Ordered {
         source,
         needs,
@@ -133,35 +133,35 @@ pub(crate) fn spelled_cert_bytes(
     put_u32(&mut out, MAGIC)?;
     put_u16(&mut out, u16::from(version))?;
     put_u16(&mut out, frames.len() as u16)?;
-    spell_table_nodes(&mut out, &ordered, frames)?;
+    append_table_nodes(&mut out, &ordered, frames)?;
     Ok(out)
 }
 
 /// Appends the certificate's bytes of the nodes of these frames of the maker's table, in this
 /// order.
-fn spell_table_nodes(out: &mut Vec<u8>, ordered: &Ordered, frames: &[Key]) -> Result<(), NoMemory>
+fn append_table_nodes(out: &mut Vec<u8>, ordered: &Ordered, frames: &[Key]) -> Result<(), NoMemory>
     requires ordered { IsOrderedCertSource ordered.now }
     requires frames { AreTableFrames ordered.now frames.now }
     ensures { OnOk result (SpellsTableNodes ordered.now frames.now out.old.items out.new.items) }
 {
     for k in frames {
-        spell_table_node(out, ordered, *k)?;
+        append_table_node(out, ordered, *k)?;
     }
     Ok(())
 }
 
 /// Appends the certificate's bytes of one frame's node: its key, need, exit and points.
-fn spell_table_node(out: &mut Vec<u8>, ordered: &Ordered, key: Key) -> Result<(), NoMemory>
+fn append_table_node(out: &mut Vec<u8>, ordered: &Ordered, key: Key) -> Result<(), NoMemory>
     requires ordered { IsOrderedCertSource ordered.now }
     requires key { IsTableFrame ordered.now.source.now key }
     ensures { OnOk result (SpellsTableNode ordered.now key out.old.items out.new.items) }
 {
     let source = ordered.source;
-    let points = sorted_frame_points(ordered.points, key);
+    let points = points_of_frame(ordered.points, key);
     write_key(out, &key)?;
-    put_u16(out, spelled_need(source, ordered.needs, key))?;
-    spell_table_exit(out, source, key)?;
+    put_u16(out, need_as_u16(source, ordered.needs, key))?;
+    append_table_exit(out, source, key)?;
     put_u32(out, points.len() as u32)?;
-    spell_table_points(out, source, key, points)?;
+    append_table_points(out, source, key, points)?;
     Ok(())
 }

@@ -32,7 +32,7 @@ const MOST_ROOM: usize = 65536;
 
 /// Returns the number of places that the maker's table has room for at first: the image's
 /// halfwords, at most 65,536.
-pub(crate) fn first_table_room(image: &Image) -> usize {
+pub(crate) fn initial_table_capacity(image: &Image) -> usize {
     let mut room: usize = 0;
     for segment in image.segments.iter() {
         room = room.saturating_add(segment.bytes.len() / 2);

@@ -21,11 +21,11 @@ ghost use Rattle.vd_transfer.specs.EffectsOnStates.{EffectHasRoom};
 use crate::entered_frames::enters_no_frame;
 use crate::fixpoint::VisitScratch;
 use crate::inputs_and_limits::{Ground, Site, Visit};
-use crate::join_entries::{join_access_entry, join_entries, join_interrupts};
-use crate::join_successors::{join_exit_if_left, join_successors};
-use crate::passing::share_state;
+use crate::join_entries::{join_access_duties, join_entry_duties, join_irq_duties};
+use crate::join_successors::{join_exit_if_leaving, join_successors};
+use crate::passing::join_shared;
 use crate::table::Table;
-use cfg_recover::{Located, OperationCache, check_located, successor_change};
+use cfg_recover::{Located, OperationCache, check_decoded, write_successor_change};
 use frame_places::{Refusal, Spot};
 use std::alloc::Global;
 use tc_isa::Shape;
@@ -64,7 +64,7 @@ pub(crate) fn visit_place(
         addr,
         located: &located,
     };
-    if share_state(alloc, table, &site)? {
+    if join_shared(alloc, table, &site)? {
         return Ok(true);
     }
     visit_point(alloc, table, &site, scratch, change, cache)
@@ -73,7 +73,7 @@ pub(crate) fn visit_place(
 /// Writes to `c` the change from the visited point's state to the state after its instruction,
 /// which may be in `cache`.
 #[inline(always)]
-pub(crate) fn write_visit_change(
+pub(crate) fn write_step_change(
     v: &Visit,
     shape: Shape,
     c: &mut Change,
@@ -87,10 +87,10 @@ pub(crate) fn write_visit_change(
     ensures results { HoldsCachedResults v.now.ground.now.bounds.now cache.new }
 {
     let g = v.ground;
-    if cache.change(g.bounds, g.plan, shape, v.state, c) {
+    if cache.write_change(g.bounds, g.plan, shape, v.state, c) {
         return;
     }
-    successor_change(g.bounds, g.image, g.plan, shape, v.state, c);
+    write_successor_change(g.bounds, g.image, g.plan, shape, v.state, c);
 }
 
 /// Joins all that the visited point owes: successors, entries of frames, interrupts, and the exit.
@@ -113,10 +113,10 @@ fn join_visit_duties(
     ensures results { HoldsCachedResults v.now.ground.now.bounds.now cache.new }
 {
     join_successors(alloc, table, v, found, c, cache)?;
-    join_entries(alloc, table, v, found.shape, found.size, c)?;
-    join_access_entry(alloc, table, v, found)?;
-    join_interrupts(alloc, table, v)?;
-    join_exit_if_left(alloc, table, v, found.shape)
+    join_entry_duties(alloc, table, v, found.shape, found.size, c)?;
+    join_access_duties(alloc, table, v, found)?;
+    join_irq_duties(alloc, table, v)?;
+    join_exit_if_leaving(alloc, table, v, found.shape)
 }
 
 /// Visits a point: joins what its state owes, or refuses by the rule that fails there. Returns true
@@ -149,7 +149,7 @@ fn visit_point(
     };
     place
         .value
-        .read_state(site.ground.bounds, &mut scratch.state);
+        .write_state(site.ground.bounds, &mut scratch.state);
     let v = Visit {
         ground: site.ground,
         key: site.key,
@@ -157,7 +157,7 @@ fn visit_point(
         state: scratch.state.state(),
     };
     let g = v.ground;
-    match check_located(g.bounds, g.plan, &v.key, v.state, site.located) {
+    match check_decoded(g.bounds, g.plan, &v.key, v.state, site.located) {
         Ok(found) => {
             join_visit_duties(alloc, table, &v, found, change, cache)?;
             Ok(enters_no_frame(g.plan, found.shape))

@@ -61,7 +61,7 @@ pub(crate) fn check_no_overlap(loads: &[Header]) -> Result<(), ImageErr>
 
 /// Returns true if a check refuses a program header: its bytes pass the end of a file of this
 /// length, address 2^32 or its own memory size.
-pub(crate) fn exceeds_bounds(len: usize, header: &Header) -> bool
+pub(crate) fn has_bytes_out_of_bounds(len: usize, header: &Header) -> bool
     ensures { result ≡ exceeds_bounds len header.now }
 {
     let size = u64::from(header.file_size);
@@ -81,7 +81,7 @@ pub(crate) fn is_bad_header(bytes: &[u8], number: u16) -> bool
         return true;
     }
     let header = program_header_at(bytes, number);
-    header.kind == PT_LOAD && exceeds_bounds(bytes.len(), &header)
+    header.kind == PT_LOAD && has_bytes_out_of_bounds(bytes.len(), &header)
 }
 
 /// Returns true if the bytes that two program headers load share an address, for the check that

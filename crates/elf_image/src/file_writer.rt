@@ -18,8 +18,8 @@ pub(crate) fn elf_file(alloc: Global, entry: u32, segments: &[Segment]) -> Resul
     let mut out = Vec::new(alloc);
     let header = elf_header(entry, segments.len() as u16);
     out.extend_from_slice(&header)?;
-    put_program_headers(&mut out, segments)?;
-    put_segment_bytes(&mut out, segments)?;
+    append_program_headers(&mut out, segments)?;
+    append_elf_contents(&mut out, segments)?;
     Ok(out)
 }
 
@@ -40,7 +40,7 @@ fn elf_header(entry: u32, count: u16) -> [u8; 52]
 
 // Appends to an ELF file the program headers of these segments.
 #[tactic(auto, unfolding(crate::specs::WrittenElf::program_headers))]
-fn put_program_headers(out: &mut Vec<u8>, segments: &[Segment]) -> Result<(), ImageErr>
+fn append_program_headers(out: &mut Vec<u8>, segments: &[Segment]) -> Result<(), ImageErr>
     requires few { length segments.now ≤ 64 }
     requires small { sum_by (λ s. length s.bytes) (map segment_data segments.now) ≤ 2 ^ 24 }
     ensures ok { let all = map segment_data segments.now in
@@ -59,7 +59,7 @@ fn put_program_headers(out: &mut Vec<u8>, segments: &[Segment]) -> Result<(), Im
 
 // Appends to an ELF file the bytes of these segments, without gaps.
 #[tactic(auto, unfolding(crate::specs::WrittenElf::elf_contents))]
-fn put_segment_bytes(out: &mut Vec<u8>, segments: &[Segment]) -> Result<(), ImageErr>
+fn append_elf_contents(out: &mut Vec<u8>, segments: &[Segment]) -> Result<(), ImageErr>
     ensures ok { OnOk result
         (out.new.items ≡ out.old.items ++ elf_contents (map segment_data segments.now)) }
     ensures err { IfErr result (λ e. e ≡ ImageErr.NoMemory) }

@@ -3,7 +3,7 @@ use crate::ImageErr;
 use crate::file_checks::{check_elf_header, check_no_overlap, check_program_headers};
 use crate::file_writer::elf_file;
 use crate::headers::{E_ENTRY, elf_word_at, load_headers};
-use crate::segments::{Segment, is_held_by_segment, segment_byte, segments_of};
+use crate::segments::{Segment, segment_contains, segment_byte, loaded_segments};
 use std::alloc::Global;
 use std::marker::Model;
 
@@ -42,7 +42,7 @@ impl Image {
         check_program_headers(bytes)?;
         let loads = load_headers(alloc, bytes)?;
         check_no_overlap(&loads)?;
-        let segments = segments_of(alloc, bytes, &loads)?;
+        let segments = loaded_segments(alloc, bytes, &loads)?;
         Ok(Image {
             entry: elf_word_at(bytes, E_ENTRY),
             segments,
@@ -65,7 +65,7 @@ impl Image {
         ensures byte { result ≡ image_byte self.now addr }
     {
         for segment in &self.segments {
-            if is_held_by_segment(segment, addr) {
+            if segment_contains(segment, addr) {
                 return segment_byte(segment, addr);
             }
         }

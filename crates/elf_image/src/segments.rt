@@ -15,7 +15,7 @@ pub struct Segment {
 }
 
 /// Returns true if this segment of an executable holds an address.
-pub(crate) fn is_held_by_segment(segment: &Segment, addr: u32) -> bool
+pub(crate) fn segment_contains(segment: &Segment, addr: u32) -> bool
     ensures { result ≡ is_held_by_segment (segment_data segment.now) addr }
 {
     segment.at <= addr && ((addr - segment.at) as usize) < segment.bytes.len()
@@ -40,7 +40,7 @@ pub fn establish_segment_bytes(segments: &[Segment])
 }
 
 // Returns the segments that these program headers load from an ELF file, in order.
-pub(crate) fn segments_of(
+pub(crate) fn loaded_segments(
     alloc: Global,
     bytes: &[u8],
     loads: &[Header],
@@ -52,7 +52,7 @@ pub(crate) fn segments_of(
 {
     let mut segments = Vec::new(alloc);
     for load in loads {
-        let segment = segment_of(alloc, bytes, load)?;
+        let segment = loaded_segment(alloc, bytes, load)?;
         segments.push(segment)?;
     }
     Ok(segments)
@@ -68,7 +68,7 @@ fn segment_bytes_below_256(bytes: &[u8])
 }
 
 // Returns the segment that a program header loads from an ELF file.
-fn segment_of(alloc: Global, bytes: &[u8], load: &Header) -> Result<Segment, ImageErr>
+fn loaded_segment(alloc: Global, bytes: &[u8], load: &Header) -> Result<Segment, ImageErr>
     requires { load.now.offset + load.now.file_size ≤ length bytes.now }
     ensures ok { IfOk result (λ s. segment_data s ≡ segment_of bytes.now load.now) }
     ensures err { IfErr result (λ e. e ≡ ImageErr.NoMemory) }

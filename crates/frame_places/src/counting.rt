@@ -15,7 +15,7 @@ const MOST_FRAMES: usize = 2048;
 
 /// Counts a place that the maker finds, unless known: a point, and the frame that begins there.
 /// Refuses by K15 past the limits.
-pub fn count_place(
+pub fn record_place(
     known: bool,
     points: &mut Vec<Spot>,
     frames: &mut Vec<Key>,
@@ -36,13 +36,13 @@ pub fn count_place(
     }
     match y {
         Spot::Exit(_) => Ok(()),
-        Spot::Point(key, addr) => count_point(points, frames, key, addr),
+        Spot::Point(key, addr) => record_point(points, frames, key, addr),
     }
 }
 
 /// Counts a new point, and its frame if the point is the frame's entry. Refuses by K15 past 65,536
 /// points or 2,048 frames.
-fn count_point(
+fn record_point(
     points: &mut Vec<Spot>,
     frames: &mut Vec<Key>,
     key: Key,

@@ -13,21 +13,21 @@ mod readers;
 mod refusals;
 mod work_list;
 
-pub use counting::count_place;
-pub use marks::{begin_visit, end_visit, has_queued_mark, is_plain_mark};
-pub use needs::least::{least_needs, needs_by_few_passes};
-pub use needs::ranks::{node_ranks, number_or_zero};
+pub use counting::record_place;
+pub use marks::{begin_visit, end_visit, is_place_queued, is_plain_mark};
+pub use needs::least::{least_needs, needs_in_few_passes};
+pub use needs::ranks::{node_ranks, get_or_zero};
 pub use needs::reach::{
-    FrameEdge, first_recursive_node, frame_edges, has_marked_node, nodes_reaching,
+    FrameEdge, first_recursive_node, frame_edges, has_marked_node, reaching_marks,
 };
 pub use needs::row::NeedRow;
-pub use numbers::{frame_number, frame_number_near, frame_numbers, number_frames};
+pub use numbers::{frame_number, frame_number_near, entered_frame_numbers, frame_number_map};
 pub use ordering::{
-    PointEntry, frame_order_numbers, frames_in_order, points_in_order, sorted_frame_points,
+    PointEntry, numbers_of_keys, sorted_frames, sorted_points, points_of_frame,
 };
 pub use places::{
     Mark, Marked, Spot, add_or_find_place, add_queued_place, address_in_frame, place_address,
-    put_place_value,
+    set_and_queue_place,
 };
 pub use readers::{register_reader, requeue_readers_of};
 pub use refusals::{LIMITS_RULE, LOCALS_RULE, NEEDS_RULE, Refusal};

@@ -50,7 +50,7 @@ pub(crate) fn must_wait_for_round<V>(
 
 /// Puts each of these known readers back on the work list unless queued: for the next round if
 /// `waits`, else as next.
-pub(crate) fn requeue_all<V>(
+pub(crate) fn requeue_places<V>(
     places: &mut IndexMap<Spot, Marked<V>>,
     work: &mut Work,
     readers: &[Spot],
@@ -62,14 +62,14 @@ pub(crate) fn requeue_all<V>(
     ensures work { OnOk result (AllListed places.new (all_work work.new)) }
 {
     for x in readers {
-        requeue(places, work, *x, waits)?;
+        requeue_place(places, work, *x, waits)?;
     }
     Ok(())
 }
 
 /// Returns whether the place with this number is queued.
 #[inline(always)]
-pub fn has_queued_mark<V>(places: &IndexMap<Spot, Marked<V>>, number: usize) -> bool
+pub fn is_place_queued<V>(places: &IndexMap<Spot, Marked<V>>, number: usize) -> bool
     ensures { (x : Spot) → PlaceHasNumber places.now number x
         → result ≡ is_queued (mark_for places.now x) }
 {
@@ -114,7 +114,7 @@ pub fn end_visit<V>(places: &mut IndexMap<Spot, Marked<V>>, number: usize, plain
 
 /// Marks the known place `x` as queued, unless it is, and lists its number as work: it waits for
 /// the next round, or is next.
-pub(crate) fn requeue<V>(
+pub(crate) fn requeue_place<V>(
     places: &mut IndexMap<Spot, Marked<V>>,
     work: &mut Work,
     x: Spot,
@@ -128,7 +128,7 @@ pub(crate) fn requeue<V>(
     let Some(number) = places.get_index_of(&x) else {
         return Ok(());
     };
-    if !has_queued_mark(&*places, number) {
+    if !is_place_queued(&*places, number) {
         let later = must_wait_for_round(&*places, number, waits);
         mark_place(places, number, Mark::Queued);
         enqueue(work, number, later)?;

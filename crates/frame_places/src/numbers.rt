@@ -10,7 +10,7 @@ use indexmap::IndexMap;
 use std::alloc::{AllocError, AllocFailed, Global};
 
 /// Returns the map from each frame's key to its number, the position in this list.
-pub fn number_frames(
+pub fn frame_number_map(
     alloc: Global,
     frames: &[Key],
 ) -> Result<IndexMap<Key, usize>, AllocFailed<(Key, usize)>>
@@ -52,7 +52,7 @@ pub fn frame_number_near(numbers: &IndexMap<Key, usize>, near: usize, key: &Key)
 }
 
 /// Returns the numbers of the entered frames, in a list with room for `more` others.
-pub fn frame_numbers(
+pub fn entered_frame_numbers(
     alloc: Global,
     numbers: &IndexMap<Key, usize>,
     entered: &[Key],

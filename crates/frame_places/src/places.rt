@@ -179,7 +179,7 @@ pub fn add_or_find_place<V: Drop>(
 /// waits for the next round, any other place is next. An entry point that is queued and wasn't
 /// visited yet is queued again, before the places found earlier.
 #[inline(always)]
-pub fn put_place_value<V: Drop>(
+pub fn set_and_queue_place<V: Drop>(
     places: &mut IndexMap<Spot, Marked<V>>,
     work: &mut Work,
     number: usize,

@@ -8,7 +8,7 @@ ghost use Rattle.frame_places.specs.Spots.{spot_eq};
 ghost use Rattle.frame_places.specs.Work.{all_work};
 ghost use Rattle.frame_places.specs.declared.places.Spot as spots;
 
-use crate::marks::requeue_all;
+use crate::marks::requeue_places;
 use crate::places::{Marked, Spot};
 use crate::work_list::Work;
 use indexmap::IndexMap;
@@ -69,7 +69,7 @@ pub fn requeue_readers_of<V>(
     let Some(list) = readers.get_mut(&y) else {
         return Ok(());
     };
-    requeue_all(places, work, list.as_slice(), waits)?;
+    requeue_places(places, work, list.as_slice(), waits)?;
     list.clear();
     Ok(())
 }

@@ -123,11 +123,11 @@ impl Work {
         if let Some(number) = self.pop_next() {
             return Ok(Some(number));
         }
-        if let Some(number) = self.pop_round() {
+        if let Some(number) = self.pop_from_round() {
             return Ok(Some(number));
         }
         self.begin_round()?;
-        Ok(self.pop_round())
+        Ok(self.pop_from_round())
     }
 
     /// Takes the first place of the work list's queue, or `None` if no place is next.
@@ -148,7 +148,7 @@ impl Work {
 
     /// Takes a place of the work list's current round, or `None` if the round is over.
     #[inline(always)]
-    fn pop_round(&mut self) -> Option<usize>
+    fn pop_from_round(&mut self) -> Option<usize>
         ensures some { IfSome result (TakesRound self.old self.new) }
         ensures none { IfNone result ((self.old.round ≡ []) × (self.new ≡ self.old)) }
     {

@@ -9,7 +9,7 @@ ghost use Rattle.packed_cert.specs.NodesInBytes.{nodes_of, cert_of, AreNodePlace
 use crate::node_reader::read_node;
 use crate::places::NodePlaces;
 use crate::point_reader::{ExitRoom, ReadingRoom, blank_state_for_reading};
-use depth_cert::{CertErr, no_exit, read_magic, read_node_count, read_version};
+use depth_cert::{CertErr, blank_exit, read_magic, read_node_count, read_version};
 use std::alloc::Global;
 use tcd_base::{FileCursor, TRAILING, form_err_at};
 
@@ -54,7 +54,7 @@ fn read_nodes(
     let mut nodes = Vec::new(alloc);
     let mut room = ReadingRoom {
         exit: ExitRoom {
-            exit: no_exit(),
+            exit: blank_exit(),
             last: None,
         },
         state: blank_state_for_reading(),

@@ -93,7 +93,7 @@ impl Cert {
         ensures { result ≡ slice_get self.now.nodes index }
     {
         if index < self.nodes.len() {
-            return Some(Node::at(self.bytes.as_slice(), self.version, &self.nodes[index]));
+            return Some(Node::new(self.bytes.as_slice(), self.version, &self.nodes[index]));
         }
         None
     }
@@ -106,7 +106,7 @@ impl Cert {
         let number = key_number(key);
         let at = count_nodes_below(nodes, number);
         if at < nodes.len() && nodes[at].number == number {
-            return Some(Node::at(self.bytes.as_slice(), self.version, &nodes[at]));
+            return Some(Node::new(self.bytes.as_slice(), self.version, &nodes[at]));
         }
         None
     }
@@ -118,10 +118,10 @@ impl Cert {
     {
         let bytes = self.bytes.as_slice();
         let nodes = self.nodes.as_slice();
-        let Some(one) = entry_places(bytes, self.version, nodes, a) else {
+        let Some(one) = entry_and_exit_places(bytes, self.version, nodes, a) else {
             return false;
         };
-        let Some(two) = entry_places(bytes, self.version, nodes, b) else {
+        let Some(two) = entry_and_exit_places(bytes, self.version, nodes, b) else {
             return false;
         };
         one.0 == two.0 && one.1 == two.1
@@ -130,7 +130,7 @@ impl Cert {
 
 /// Returns the places of the state at a key's entry and of the exit of the key's node. `None` if
 /// there is no such node or no point at the entry. The bytes and the version are for the contract.
-fn entry_places(
+fn entry_and_exit_places(
     bytes: &[u8],
     version: u8,
     nodes: &[NodePlaces],

@@ -11,7 +11,7 @@ ghost use Rattle.value_domain.specs.Sets.{IsAscending, Within};
 use crate::certs::cert_bytes_below_256;
 use crate::restored_values::ValuesAt;
 use crate::value_reader::value_length_by_tag;
-use crate::values_at_places::{is_below_value_at, read_value_word, value_at_place};
+use crate::values_at_places::{is_below_value_at, word_at_place, value_at_place};
 use depth_cert::{SPAN, lower_register_value};
 use value_domain::{State, Val, extent_of, leq};
 use vd_transfer::{Change, changed_value};
@@ -30,7 +30,7 @@ pub(crate) enum ToCover<'a> {
 /// Returns true if each of the `n` abstract values to cover is below the one in its turn in a
 /// certificate's bytes.
 #[inline(always)]
-pub(crate) fn are_covered_at(
+pub(crate) fn are_values_covered_at(
     values: &ToCover,
     n: usize,
     bytes: &[u8],
@@ -59,7 +59,7 @@ pub(crate) fn are_covered_at(
 /// Returns true if the abstract value at one place of a certificate's bytes is below the value at
 /// another. The first is read.
 #[inline(never)]
-pub(crate) fn is_read_value_covered(low: ValuesAt<'_>, high: ValuesAt<'_>) -> bool
+pub(crate) fn is_below_at_places(low: ValuesAt<'_>, high: ValuesAt<'_>) -> bool
     requires low { HasValueInBytes low.version low.bytes.now low.place }
     requires high { HasValueInBytes high.version high.bytes.now high.place }
     ensures { IsTrue result
@@ -78,8 +78,8 @@ pub(crate) fn is_below_span_at(v: &Val, bytes: &[u8], version: u8, place: usize)
     requires span { 128 < slice_index bytes.now place }
     ensures { IsTrue result ↔ IsBelow v.now (value_in version bytes.now place) }
 {
-    let lo = read_value_word(bytes, place + 1);
-    let last = read_value_word(bytes, place + 5);
+    let lo = word_at_place(bytes, place + 1);
+    let last = word_at_place(bytes, place + 5);
     let step = bytes[place] - SPAN;
     let e = extent_of(v);
     if e.least < lo || last < e.greatest {
@@ -90,7 +90,7 @@ pub(crate) fn is_below_span_at(v: &Val, bytes: &[u8], version: u8, place: usize)
 
 /// Returns true if each word of a Set is one of the `n` ascending words at a place of a
 /// certificate's bytes. Both are walked once.
-pub(crate) fn are_words_covered_at(own: &[u32], bytes: &[u8], place: usize, n: usize) -> bool
+pub(crate) fn are_words_in_set_at(own: &[u32], bytes: &[u8], place: usize, n: usize) -> bool
     requires within { place + 4 * n ≤ length bytes.now }
     requires own { IsAscending own.now }
     requires words { IsAscending (words_at bytes.now place n) }
@@ -98,8 +98,8 @@ pub(crate) fn are_words_covered_at(own: &[u32], bytes: &[u8], place: usize, n: u
 {
     let mut k = 0;
     for x in own {
-        k = first_covering_word(bytes, place, n, k, *x);
-        if k == n || read_value_word(bytes, place + 4 * k) != *x {
+        k = first_word_at_least(bytes, place, n, k, *x);
+        if k == n || word_at_place(bytes, place + 4 * k) != *x {
             return false;
         }
         k += 1;
@@ -110,7 +110,7 @@ pub(crate) fn are_words_covered_at(own: &[u32], bytes: &[u8], place: usize, n: u
 /// Returns true if an abstract value is below the one at a place of a certificate's bytes, which is
 /// read. A function of its own, so that the others have no room of a value to fill.
 #[inline(never)]
-pub(crate) fn is_covered_by_read(v: &Val, bytes: &[u8], version: u8, place: usize) -> bool
+pub(crate) fn is_below_decoded_value(v: &Val, bytes: &[u8], version: u8, place: usize) -> bool
     requires well { IsWellFormed v.now }
     requires stands { HasValueInBytes version bytes.now place }
     ensures { IsTrue result ↔ IsBelow v.now (value_in version bytes.now place) }
@@ -129,7 +129,7 @@ fn value_to_cover<'a>(values: &'a ToCover, any: &'a Val, i: usize) -> &'a Val
     match values {
         ToCover::Whole(s) => {
             let _regs = &s.regs[..];
-            state_value_at(s, i)
+            value_in_slot(s, i)
         }
         ToCover::Changed(s, c) => {
             let _regs = &s.regs[..];
@@ -144,7 +144,7 @@ fn value_to_cover<'a>(values: &'a ToCover, any: &'a Val, i: usize) -> &'a Val
 
 /// Returns register value number `i` of a state that a certificate's state is to cover.
 #[inline(always)]
-fn state_value_at<'a>(s: &'a State, i: usize) -> &'a Val
+fn value_in_slot<'a>(s: &'a State, i: usize) -> &'a Val
     requires place { i < 27 }
     ensures { result.now ≡ slice_index_or s.now.regs i any_val }
 {
@@ -153,7 +153,7 @@ fn state_value_at<'a>(s: &'a State, i: usize) -> &'a Val
 }
 
 /// Returns the number of the first word from number `k` on that isn't below `x`, or `n` if all are.
-fn first_covering_word(bytes: &[u8], place: usize, n: usize, k: usize, x: u32) -> usize
+fn first_word_at_least(bytes: &[u8], place: usize, n: usize, k: usize, x: u32) -> usize
     requires within { place + 4 * n ≤ length bytes.now }
     requires start { k ≤ n }
     ensures start { k ≤ result }
@@ -161,11 +161,11 @@ fn first_covering_word(bytes: &[u8], place: usize, n: usize, k: usize, x: u32) -
     ensures below { (j : ℕ) → k ≤ j → j < result → word_in_bytes bytes.now (place + 4 * j) < x }
     ensures reached { result < n → x ≤ word_in_bytes bytes.now (place + 4 * result) }
 {
-    if k < n && read_value_word(bytes, place + 4 * k) == x {
+    if k < n && word_at_place(bytes, place + 4 * k) == x {
         return k;
     }
     let mut at = k;
-    while at < n && read_value_word(bytes, place + 4 * at) < x {
+    while at < n && word_at_place(bytes, place + 4 * at) < x {
         at += 1;
     }
     at

@@ -5,13 +5,13 @@ ghost use Rattle.std.specs.Option.{option_map};
 ghost use Rattle.depth_cert.specs.Grammar.{optional_exit_at, exit_at};
 
 use crate::certs::cert_bytes_below_256;
-use crate::covered_values::{ToCover, are_covered_at};
+use crate::covered_values::{ToCover, are_values_covered_at};
 use crate::places::{ExitPlaces, LOWER_VALUES};
 use crate::point_reader::ExitRoom;
 use crate::repeated_bytes::skip_if_repeated;
 use crate::restored_values::ValuesAt;
 use crate::values_at_places::are_values_at;
-use depth_cert::{Exit, no_exit, read_exit, read_has_exit};
+use depth_cert::{Exit, blank_exit, read_exit, read_has_exit};
 use std::marker::Model;
 use tcd_base::{FileCursor, FormErr};
 use value_domain::{Bounds, State};
@@ -41,7 +41,7 @@ impl<'a> ExitAt<'a> {
     ghost use Rattle.packed_cert.specs.ValuesInBytes.{values_in, HaveValuesInBytes};
 
     /// Returns the exit of a certificate's node at a place of the bytes.
-    pub(crate) fn at(bytes: &'a [u8], version: u8, place: usize) -> ExitAt<'a>
+    pub(crate) fn new(bytes: &'a [u8], version: u8, place: usize) -> ExitAt<'a>
         requires short { length bytes.now ≤ 2 ^ 30 }
         requires exit { HasExit version bytes.now place }
         ensures { result ≡ exit_in version bytes.now place }
@@ -103,7 +103,7 @@ impl<'a> ExitAt<'a> {
             return false;
         }
         let lower = self.lower();
-        are_covered_at(
+        are_values_covered_at(
             &ToCover::Lower(s),
             LOWER_VALUES,
             lower.bytes,
@@ -113,12 +113,12 @@ impl<'a> ExitAt<'a> {
     }
 
     /// Returns this exit as a struct, read from the certificate's bytes.
-    pub fn read(&self) -> Exit
+    pub fn to_exit(&self) -> Exit
         ensures { result ≡ self.now }
     {
         let mut c = FileCursor::new(self.bytes);
         let _front = c.take(self.place);
-        let mut exit = no_exit();
+        let mut exit = blank_exit();
         let _read = read_exit(&mut c, self.version, &mut exit);
         exit
     }
@@ -127,7 +127,7 @@ impl<'a> ExitAt<'a> {
 /// Reads the exit of a certificate's node, if there is one, over the last exit in `room`, and
 /// returns its place for an `ExitAt`.
 #[tactic(auto, unfolding(depth_cert::specs::Grammar::optional_exit_at))]
-pub(crate) fn read_exit_place(
+pub(crate) fn read_optional_exit(
     c: &mut FileCursor<'_>,
     bytes: &[u8],
     version: u8,

@@ -16,30 +16,30 @@ use crate::states::StateAt;
 use crate::value_reader::value_length_by_tag;
 use crate::values_at_places::is_below_value_at;
 use std::marker::Model;
-use value_domain::{State, Val, are_flags_implied, leq};
+use value_domain::{State, Val, flags_imply, leq};
 use vd_transfer::{Change, changed_value};
 
 /// Returns true if each value that a change puts outside the next point's row is below the
 /// unchanged state's value there.
-pub(crate) fn are_puts_below(s: &State, c: &Change, row: ValueRow) -> bool
+pub(crate) fn are_changed_values_below(s: &State, c: &Change, row: ValueRow) -> bool
     requires base { c.now.base ≡ Same }
     requires hand { AreWellFormed s.now.regs }
     requires well { AreWellFormed (state_after s.now c.now).regs }
     ensures { IsTrue result → (i : ℕ) → i < 27 → IsOutsideRow row i → IsCoveredByOwn s.now c.now i }
 {
     let _regs = &s.regs[..];
-    if !is_put_below(s, c, row, c.first.at) {
+    if !is_changed_value_below(s, c, row, c.first.at) {
         return false;
     }
-    if !is_put_below(s, c, row, c.second.at) {
+    if !is_changed_value_below(s, c, row, c.second.at) {
         return false;
     }
-    is_put_below(s, c, row, c.third.at)
+    is_changed_value_below(s, c, row, c.third.at)
 }
 
 /// Returns true if each changed value in the row of a certificate's point is below the point's own,
 /// in the bytes.
-pub(crate) fn is_row_below(
+pub(crate) fn is_changed_row_below(
     s: &State,
     c: &Change,
     bytes: &[u8],
@@ -68,7 +68,7 @@ pub(crate) fn is_row_below(
 
 /// Returns true if the state of a point covers the one before it, changed by what is put alone.
 /// Only the values that are put and those of the point's row are compared.
-pub(crate) fn does_next_point_cover(
+pub(crate) fn is_covered_by_next_point(
     s: &State,
     c: &Change,
     bytes: &[u8],
@@ -84,19 +84,19 @@ pub(crate) fn does_next_point_cover(
         → Covers (state_in version bytes.now point.place) (state_after s.now c.now) }
 {
     let _regs = &s.regs[..];
-    let upper = StateAt::at(bytes, version, point.place as usize);
+    let upper = StateAt::new(bytes, version, point.place as usize);
     if !upper.covers_context(c.ie, c.ccpn, c.lower) {
         return false;
     }
-    if !are_flags_implied(upper.locals().as_slice(), c.locals.as_slice()) {
+    if !flags_imply(upper.locals().as_slice(), c.locals.as_slice()) {
         return false;
     }
-    are_puts_below(s, c, point.row) && is_row_below(s, c, bytes, version, point)
+    are_changed_values_below(s, c, point.row) && is_changed_row_below(s, c, bytes, version, point)
 }
 
 /// Returns true if the changed value at a place is below the unchanged state's. Also if there is no
 /// place, or the row has that place.
-fn is_put_below(s: &State, c: &Change, row: ValueRow, place: Option<usize>) -> bool
+fn is_changed_value_below(s: &State, c: &Change, row: ValueRow, place: Option<usize>) -> bool
     requires hand { AreWellFormed s.now.regs }
     requires well { AreWellFormed (state_after s.now c.now).regs }
     ensures { IsTrue result → (i : ℕ) → place ≡ Some i → i < 27 → IsOutsideRow row i

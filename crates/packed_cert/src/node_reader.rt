@@ -7,7 +7,7 @@ ghost use Rattle.depth_cert.specs.Nodes.{count_points};
 ghost use Rattle.packed_cert.specs.NodesInBytes.{node_of, nodes_of, AreNodePlaces, IsExitAtPlaces};
 ghost use Rattle.packed_cert.specs.PointsInBytes.{IsStateAtPlaces};
 
-use crate::exits::read_exit_place;
+use crate::exits::read_optional_exit;
 use crate::places::NodePlaces;
 use crate::point_reader::{ReadingRoom, read_points};
 use depth_cert::{CertErr, key_number, read_key, read_need};
@@ -48,7 +48,7 @@ pub(crate) fn read_node(
     let key = read_key(c, last_read_node_number(before))?;
     let number = key_number(&key);
     let need = read_need(c)?;
-    let exit = read_exit_place(c, bytes, version, key.kind, &mut room.exit)?;
+    let exit = read_optional_exit(c, bytes, version, key.kind, &mut room.exit)?;
     let points = read_points(alloc, c, bytes, version, room)?;
     Ok(NodePlaces {
         key,

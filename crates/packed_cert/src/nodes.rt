@@ -39,7 +39,7 @@ impl<'a> Node<'a> {
     ghost use Rattle.depth_cert.specs.Points.{ArePoints, find_point};
 
     /// Returns the node of a packed certificate that has these places.
-    pub(crate) fn at(bytes: &'a [u8], version: u8, places: &'a NodePlaces) -> Node<'a>
+    pub(crate) fn new(bytes: &'a [u8], version: u8, places: &'a NodePlaces) -> Node<'a>
         requires { AreNodePlaces version bytes.now places.now }
         ensures { result ≡ node_of version bytes.now places.now }
     {
@@ -55,7 +55,7 @@ impl<'a> Node<'a> {
     }
 
     /// Returns this node. A look-up of a point tries point number `near` first.
-    pub fn near(&self, near: usize) -> Node<'a>
+    pub fn with_hint(&self, near: usize) -> Node<'a>
         ensures { result ≡ self.now }
     {
         Node {
@@ -74,7 +74,7 @@ impl<'a> Node<'a> {
         ensures { result ≡ self.now.exit }
     {
         match self.exit {
-            Some(place) => Some(ExitAt::at(self.bytes, self.version, place as usize)),
+            Some(place) => Some(ExitAt::new(self.bytes, self.version, place as usize)),
             None => None,
         }
     }
@@ -87,7 +87,7 @@ impl<'a> Node<'a> {
     }
 
     /// Puts a walk before the first of this `Node`'s points, which are by ascending address.
-    pub fn walk(&self, walk: &mut PointWalk<'a>)
+    pub fn start_walk(&self, walk: &mut PointWalk<'a>)
         ensures all { walk.new.left ≡ self.now.points }
         ensures points { walk.new.points ≡ self.now.points }
         ensures rising { ArePoints self.now.points }
@@ -103,7 +103,7 @@ impl<'a> Node<'a> {
         let at = count_points_below(points, addr, self.near);
         if at < points.len() && points[at].addr == addr {
             let place = points[at].place as usize;
-            return Some(StateAt::at(self.bytes, self.version, place));
+            return Some(StateAt::new(self.bytes, self.version, place));
         }
         None
     }

@@ -124,7 +124,7 @@ pub(crate) fn read_or_skip_state(
     ensures bytes { c.new.bytes ≡ c.old.bytes }
 {
     let Some(at) = before else {
-        return read_state_after(c, bytes, version, None, out);
+        return read_changed_state(c, bytes, version, None, out);
     };
     let place = c.place();
     let same = count_repeated_before(bytes, at.start, place, at.end);
@@ -137,7 +137,7 @@ pub(crate) fn read_or_skip_state(
         });
     }
     let repeated = RepeatedState { at, same };
-    read_state_after(c, bytes, version, Some(repeated), out)
+    read_changed_state(c, bytes, version, Some(repeated), out)
 }
 
 /// Reads the fields of a point's state over those of the point before. Returns the place of the
@@ -173,7 +173,7 @@ pub(crate) fn read_state_fields(
 /// Reads a point's state over that of the point before, if there is one, when not all bytes of that
 /// state come again.
 #[inline(never)]
-pub(crate) fn read_state_after(
+pub(crate) fn read_changed_state(
     c: &mut FileCursor<'_>,
     bytes: &[u8],
     version: u8,

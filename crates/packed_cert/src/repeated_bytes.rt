@@ -36,7 +36,7 @@ pub(crate) fn count_repeated_bytes(bytes: &[u8], x: usize, y: usize, n: usize) -
     if are_last_eight_repeated(bytes, x, y, from, n) {
         return n;
     }
-    count_repeated_from(bytes, x, y, from, n)
+    count_repeated_one_by_one(bytes, x, y, from, n)
 }
 
 /// At least this number of bytes is compared as slices first. That takes 17 instructions for 64
@@ -119,7 +119,7 @@ fn are_last_eight_repeated(bytes: &[u8], x: usize, y: usize, from: usize, n: usi
 
 /// Counts the bytes that are equal at two places, if the first `from` are.
 #[inline(always)]
-fn count_repeated_from(bytes: &[u8], x: usize, y: usize, from: usize, n: usize) -> usize
+fn count_repeated_one_by_one(bytes: &[u8], x: usize, y: usize, from: usize, n: usize) -> usize
     requires first { x + n ≤ length bytes.now }
     requires second { y + n ≤ length bytes.now }
     requires from { from ≤ n }
@@ -218,12 +218,12 @@ fn are_eight_bytes_repeated(bytes: &[u8], x: usize, y: usize) -> bool
     requires second { y + 8 ≤ length bytes.now }
     ensures { IsTrue result → eight_bytes_at_place bytes.now x ≡ eight_bytes_at_place bytes.now y }
 {
-    eight_bytes_to_compare(bytes, x) == eight_bytes_to_compare(bytes, y)
+    read_double_word(bytes, x) == read_double_word(bytes, y)
 }
 
 /// Returns the eight bytes from a place on as a number, little-endian, to compare them at once.
 #[inline(always)]
-fn eight_bytes_to_compare(bytes: &[u8], place: usize) -> u64
+fn read_double_word(bytes: &[u8], place: usize) -> u64
     requires { place + 8 ≤ length bytes.now }
     ensures { result ≡ eight_bytes_at_place bytes.now place }
 {

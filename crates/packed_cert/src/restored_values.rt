@@ -8,7 +8,7 @@ ghost use Rattle.depth_cert.specs.Exits.{values_with_lower_from};
 ghost use Rattle.packed_cert.specs.ValuesInBytes.{place_after_value, value_in, HasValueInBytes, values_in, HaveValuesInBytes};
 
 use crate::certs::cert_bytes_below_256;
-use crate::covered_values::is_read_value_covered;
+use crate::covered_values::is_below_at_places;
 use crate::places::VALUES;
 use crate::value_reader::value_length_by_tag;
 use crate::values_at_places::{is_below_value_at, value_at_place};
@@ -52,7 +52,7 @@ pub(crate) fn are_restored_below(regs: &[Val; 27], lower: ValuesAt<'_>, high: Va
         if !is_restored_below(regs, i, low, here) {
             return false;
         }
-        from = next_lower_place(i, low);
+        from = next_exit_value_place(i, low);
         at += value_length_by_tag(high.bytes[at]);
     }
     true
@@ -80,14 +80,14 @@ fn is_restored_below(regs: &[Val; 27], i: usize, low: ValuesAt<'_>, high: Values
         return true;
     }
     if is_lower_slot(i) {
-        return is_read_value_covered(low, high);
+        return is_below_at_places(low, high);
     }
     is_below_value_at(&regs[i], high.bytes, high.version, high.place)
 }
 
 /// Returns the place of the exit's next lower value: the one after `low` if value number `i` is a
 /// lower register's, else `low`.
-fn next_lower_place(i: usize, low: ValuesAt<'_>) -> usize
+fn next_exit_value_place(i: usize, low: ValuesAt<'_>) -> usize
     requires { IsTrue (states.is_lower_slot i)
         → HasValueInBytes low.version low.bytes.now low.place }
     ensures { result

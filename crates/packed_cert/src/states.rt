@@ -5,14 +5,14 @@ ghost use Rattle.vd_transfer.specs.Changes.{state_after};
 ghost use Rattle.packed_cert.specs.ValuesInBytes.{values_in, HaveValuesInBytes};
 ghost use Rattle.packed_cert.specs.PointsInBytes.{flags_in, state_in, HasState, IsStateAt};
 
-use crate::covered_values::{ToCover, are_covered_at};
+use crate::covered_values::{ToCover, are_values_covered_at};
 use crate::exits::ExitAt;
 use crate::places::VALUES;
 use crate::restored_values::{ValuesAt, are_restored_below};
 use arrayvec::ArrayVec;
 use depth_cert::CALL;
 use std::marker::Model;
-use value_domain::{State, are_flags_implied};
+use value_domain::{State, flags_imply};
 use vd_transfer::Change;
 
 /// A state that stays in the bytes of its certificate.
@@ -36,7 +36,7 @@ impl<'a> Model for StateAt<'a> {
 
 impl<'a> StateAt<'a> {
     /// Returns the state of a certificate's point at a place of the bytes.
-    pub(crate) fn at(bytes: &'a [u8], version: u8, place: usize) -> StateAt<'a>
+    pub(crate) fn new(bytes: &'a [u8], version: u8, place: usize) -> StateAt<'a>
         requires { HasState version bytes.now place }
         ensures { result ≡ state_in version bytes.now place }
     {
@@ -103,11 +103,11 @@ impl<'a> StateAt<'a> {
         if !self.covers_context(s.ie, s.ccpn, s.lower) {
             return false;
         }
-        if !are_flags_implied(self.locals().as_slice(), s.locals.as_slice()) {
+        if !flags_imply(self.locals().as_slice(), s.locals.as_slice()) {
             return false;
         }
         let place = place_of_values(self.bytes, self.version, self.place);
-        are_covered_at(&ToCover::Whole(s), VALUES, self.bytes, self.version, place)
+        are_values_covered_at(&ToCover::Whole(s), VALUES, self.bytes, self.version, place)
     }
 
     /// Returns true if this state of a certificate covers the state `s` after the change `c`, which
@@ -120,11 +120,11 @@ impl<'a> StateAt<'a> {
         if !self.covers_context(c.ie, c.ccpn, c.lower) {
             return false;
         }
-        if !are_flags_implied(self.locals().as_slice(), c.locals.as_slice()) {
+        if !flags_imply(self.locals().as_slice(), c.locals.as_slice()) {
             return false;
         }
         let place = place_of_values(self.bytes, self.version, self.place);
-        are_covered_at(
+        are_values_covered_at(
             &ToCover::Changed(s, c),
             VALUES,
             self.bytes,
@@ -143,7 +143,7 @@ impl<'a> StateAt<'a> {
         if !self.covers_context(ie, ccpn, false) {
             return false;
         }
-        if !are_flags_implied(self.locals().as_slice(), s.locals.as_slice()) {
+        if !flags_imply(self.locals().as_slice(), s.locals.as_slice()) {
             return false;
         }
         let high = ValuesAt {

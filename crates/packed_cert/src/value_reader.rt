@@ -23,7 +23,7 @@ pub(crate) const FEW_BYTES: usize = 64;
 /// and returns the row of those that were read. The bytes of these values up to `stop` come again.
 // The cursor stays until a value is read: `place` is where it would be, and the bytes from `from`
 // up to `stop` are the same there.
-pub(crate) fn read_values_after(
+pub(crate) fn read_changed_values(
     c: &mut FileCursor<'_>,
     bytes: &[u8],
     version: u8,
@@ -114,7 +114,7 @@ pub(crate) fn read_or_skip_values(
 {
     if let Some(state) = before {
         let stop = end_of_repeated(bytes, state, start, c.place());
-        return read_values_after(c, bytes, version, state.at, stop, out);
+        return read_changed_values(c, bytes, version, state.at, stop, out);
     }
     let count = out.len() as u8;
     let from = c.place() as u32;

@@ -8,7 +8,7 @@ ghost use Rattle.packed_cert.specs.ValuesInBytes.{words_at, value_in, HasValueIn
 ghost use Rattle.value_domain.specs.State.{AreValues};
 ghost use Rattle.tcd_base.specs.Bytes.{word_in_bytes};
 
-use crate::covered_values::{are_words_covered_at, is_below_span_at, is_covered_by_read};
+use crate::covered_values::{are_words_in_set_at, is_below_span_at, is_below_decoded_value};
 use crate::value_reader::{MOST_WORDS, value_length_by_tag};
 use depth_cert::SPAN;
 use value_domain::{Bounds, Val, is_value, set_span, set_words, write_any};
@@ -26,12 +26,12 @@ pub(crate) fn is_below_value_at(v: &Val, bytes: &[u8], version: u8, place: usize
     if tag > MOST_WORDS {
         return is_below_span_at(v, bytes, version, place);
     }
-    if has_words_at(v, bytes, place + 1, tag as usize) {
+    if is_set_of_words_at(v, bytes, place + 1, tag as usize) {
         return true;
     }
     match v {
-        Val::Set(words) => are_words_covered_at(words.as_slice(), bytes, place + 1, tag as usize),
-        Val::Span { .. } => is_covered_by_read(v, bytes, version, place),
+        Val::Set(words) => are_words_in_set_at(words.as_slice(), bytes, place + 1, tag as usize),
+        Val::Span { .. } => is_below_decoded_value(v, bytes, version, place),
     }
 }
 
@@ -77,28 +77,28 @@ pub(crate) fn read_value_at_place(bytes: &[u8], version: u8, place: usize, out: 
         return;
     }
     if tag == 1 {
-        set_words(out, &[read_value_word(bytes, place + 1)]);
+        set_words(out, &[word_at_place(bytes, place + 1)]);
         return;
     }
     if tag > MOST_WORDS {
-        let lo = read_value_word(bytes, place + 1);
-        let last = read_value_word(bytes, place + 5);
+        let lo = word_at_place(bytes, place + 1);
+        let last = word_at_place(bytes, place + 5);
         set_span(out, lo, last, tag - SPAN);
         return;
     }
-    if has_words_at(out, bytes, place + 1, tag as usize) {
+    if is_set_of_words_at(out, bytes, place + 1, tag as usize) {
         return;
     }
     if tag <= 8 {
-        make_set_at_place::<8>(out, bytes, place + 1, tag as usize);
+        read_set_at_place::<8>(out, bytes, place + 1, tag as usize);
     } else {
-        make_set_at_place::<128>(out, bytes, place + 1, tag as usize);
+        read_set_at_place::<128>(out, bytes, place + 1, tag as usize);
     }
 }
 
 /// Overwrites an abstract value with the Set of the `n` words at a place of a certificate's bytes,
 /// at most `N`.
-fn make_set_at_place<const N: usize>(out: &mut Val, bytes: &[u8], place: usize, n: usize)
+fn read_set_at_place<const N: usize>(out: &mut Val, bytes: &[u8], place: usize, n: usize)
     requires within { place + 4 * n ≤ length bytes.now }
     requires few { n ≤ N }
     requires small { N ≤ 128 }
@@ -107,14 +107,14 @@ fn make_set_at_place<const N: usize>(out: &mut Val, bytes: &[u8], place: usize, 
 {
     let mut words = [0u32; N];
     for i in 0..n {
-        words[i] = read_value_word(bytes, place + 4 * i);
+        words[i] = word_at_place(bytes, place + 4 * i);
     }
     set_words(out, &words[..n]);
 }
 
 /// Returns true if an abstract value is the Set of just the `n` words at a place of a certificate's
 /// bytes.
-fn has_words_at(v: &Val, bytes: &[u8], place: usize, n: usize) -> bool
+fn is_set_of_words_at(v: &Val, bytes: &[u8], place: usize, n: usize) -> bool
     requires within { place + 4 * n ≤ length bytes.now }
     ensures { IsTrue result → v.now ≡ Set (words_at bytes.now place n) }
 {
@@ -126,7 +126,7 @@ fn has_words_at(v: &Val, bytes: &[u8], place: usize, n: usize) -> bool
         return false;
     }
     for i in 0..n {
-        if own[i] != read_value_word(bytes, place + 4 * i) {
+        if own[i] != word_at_place(bytes, place + 4 * i) {
             return false;
         }
     }
@@ -144,7 +144,7 @@ fn is_value_at(b: &Bounds, bytes: &[u8], version: u8, place: usize) -> bool
 }
 
 /// Returns the word at a place of a certificate's bytes, little-endian.
-pub(crate) fn read_value_word(bytes: &[u8], place: usize) -> u32
+pub(crate) fn word_at_place(bytes: &[u8], place: usize) -> u32
     requires { place + 4 ≤ length bytes.now }
     ensures { result ≡ word_in_bytes bytes.now place }
 {

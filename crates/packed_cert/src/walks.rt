@@ -6,7 +6,7 @@ ghost use Rattle.packed_cert.specs.ChangedRows.{ChangesOnlyRow};
 ghost use Rattle.packed_cert.specs.ValuesInBytes.{values_in, HaveValuesInBytes};
 ghost use Rattle.packed_cert.specs.Moves.{DiffersOnlyInRow};
 
-use crate::next_covers::does_next_point_cover;
+use crate::next_covers::is_covered_by_next_point;
 use crate::nodes::count_points_below;
 use crate::places::{PointPlace, ValueRow, empty_row};
 use crate::point_reader::blank_state_for_reading;
@@ -56,7 +56,7 @@ impl<'a> PointWalk<'a> {
     ghost use Rattle.packed_cert.specs.Walks.{StepsTo, IsNextWithSameState, CoversNext, CoversAt};
 
     /// Returns a walk over no points, as room for a walk over the points of a certificate's node.
-    pub fn none() -> PointWalk<'a>
+    pub fn empty() -> PointWalk<'a>
         ensures { result.left ≡ [] }
     {
         PointWalk {
@@ -88,14 +88,14 @@ impl<'a> PointWalk<'a> {
     /// Goes on to the next point of a certificate's node and returns its address, or `None` after
     /// the last. The walk then has the point's state.
     #[inline(always)]
-    pub fn step(&mut self) -> Option<u32>
+    pub fn advance(&mut self) -> Option<u32>
         ensures { StepsTo self.old result self.new }
     {
         if self.next >= self.points.len() {
             return None;
         }
         let point = self.points[self.next];
-        self.row = walk_to_point(self.bytes, self.version, point, &mut self.state);
+        self.row = read_state_of_point(self.bytes, self.version, point, &mut self.state);
         self.next += 1;
         Some(point.addr)
     }
@@ -114,7 +114,7 @@ impl<'a> PointWalk<'a> {
 
     /// Returns true if the walk's next point has this address and is seen to cover the state at
     /// hand after the change `c`. Only values put or in the point's row are compared.
-    pub fn covers_next(&self, addr: u32, c: &Change) -> bool
+    pub fn is_covered_by_next(&self, addr: u32, c: &Change) -> bool
         requires hand { AreWellFormed self.now.current.regs }
         requires changed { AreWellFormed (state_after self.now.current c.now).regs }
         ensures { IsTrue result → CoversNext self.now addr (state_after self.now.current c.now) }
@@ -127,14 +127,14 @@ impl<'a> PointWalk<'a> {
             return false;
         }
         match c.base {
-            Base::Same => does_next_point_cover(&self.state, c, self.bytes, self.version, point),
+            Base::Same => is_covered_by_next_point(&self.state, c, self.bytes, self.version, point),
             _ => false,
         }
     }
 
     /// Returns true if the node has a point at this address whose state covers the one at hand.
     /// Values aren't compared if both are at the same place of the file.
-    pub fn covers_at(&self, addr: u32) -> bool
+    pub fn is_covered_at(&self, addr: u32) -> bool
         requires { AreWellFormed self.now.current.regs }
         ensures { IsTrue result ↔ CoversAt self.now addr }
     {
@@ -145,7 +145,7 @@ impl<'a> PointWalk<'a> {
             if self.next > 0 && points[self.next - 1].place == place {
                 return true;
             }
-            return StateAt::at(self.bytes, self.version, place as usize).covers(&self.state);
+            return StateAt::new(self.bytes, self.version, place as usize).covers(&self.state);
         }
         false
     }
@@ -159,7 +159,7 @@ impl<'a> PointWalk<'a> {
 
     /// Returns the values at hand that the walk's last step read, and perhaps others between them.
     /// The rest were at hand before.
-    pub fn anew(&self) -> &[Val]
+    pub fn new_values(&self) -> &[Val]
         ensures { result.now ≡ self.now.anew }
     {
         let regs = &self.state.regs[..];
@@ -169,7 +169,7 @@ impl<'a> PointWalk<'a> {
 
 /// Overwrites the state before a point of a certificate with that of the point. Only the values of
 /// its row are read. Returns the row.
-fn walk_to_point(bytes: &[u8], version: u8, point: PointPlace, room: &mut State) -> ValueRow
+fn read_state_of_point(bytes: &[u8], version: u8, point: PointPlace, room: &mut State) -> ValueRow
     requires state { HasState version bytes.now point.place }
     requires moved { DiffersOnlyInRow version bytes.now room.old point }
     ensures state { room.new ≡ state_in version bytes.now point.place }
@@ -179,18 +179,18 @@ fn walk_to_point(bytes: &[u8], version: u8, point: PointPlace, room: &mut State)
     if point.same {
         return empty_row();
     }
-    let at = StateAt::at(bytes, version, point.place as usize);
+    let at = StateAt::new(bytes, version, point.place as usize);
     room.ie = at.ie();
     room.ccpn = at.ccpn();
     room.lower = at.lower();
     room.locals = at.locals();
-    read_row(bytes, version, point, &mut room.regs);
+    read_row_values(bytes, version, point, &mut room.regs);
     point.row
 }
 
 /// Reads the row of the walk's next point, those of its values that may differ, over the values of
 /// the state before.
-fn read_row(bytes: &[u8], version: u8, point: PointPlace, out: &mut [Val; 27])
+fn read_row_values(bytes: &[u8], version: u8, point: PointPlace, out: &mut [Val; 27])
     requires row { ChangesOnlyRow out.old (state_in version bytes.now point.place).regs point.row }
     requires few { point.row.behind ≤ 27 }
     requires have { 0 < point.row.behind

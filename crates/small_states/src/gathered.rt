@@ -52,7 +52,7 @@ impl Gathered {
 
     /// Appends the gathered bytes of a state to `out`.
     #[inline(always)]
-    pub(crate) fn add_to(&self, out: &mut Vec<u8>) -> Result<(), NoMemory>
+    pub(crate) fn append_to(&self, out: &mut Vec<u8>) -> Result<(), NoMemory>
         ensures { OnOk result (out.new.items ≡ out.old.items ++ self.now) }
     {
         out.extend_from_slice(&self.bytes[..self.len])?;
@@ -65,7 +65,7 @@ impl Gathered {
         ensures added { OnOk result (out.new.items ≡ out.old.items ++ self.old) }
         ensures none { OnOk result (self.new ≡ []) }
     {
-        self.add_to(out)?;
+        self.append_to(out)?;
         *self = Gathered::new();
         Ok(())
     }
@@ -96,7 +96,7 @@ impl Gathered {
 
     /// Adds the bytes that spell a set of these words to the buffer, at most 32 words at a time.
     #[tactic(auto, unfolding(depth_cert::specs::Spelling::bytes_of_value))]
-    pub(crate) fn put_set(&mut self, out: &mut Vec<u8>, words: &[u32]) -> Result<(), NoMemory>
+    pub(crate) fn push_set(&mut self, out: &mut Vec<u8>, words: &[u32]) -> Result<(), NoMemory>
         requires { length words.now ≤ 128 }
         ensures { OnOk result (out.new.items ++ self.new
             ≡ (out.old.items ++ self.old) ++ bytes_of_value (Set words.now)) }
@@ -114,7 +114,7 @@ impl Gathered {
     }
 
     /// Adds the bytes that spell a range of words to the buffer.
-    pub(crate) fn put_range(
+    pub(crate) fn push_range(
         &mut self,
         out: &mut Vec<u8>,
         lo: u32,
@@ -126,7 +126,7 @@ impl Gathered {
             ≡ (out.old.items ++ self.old) ++ bytes_of_value (Span lo last step)) }
     {
         if is_all_words_range(lo, last, step) {
-            return self.put_anys(out, 1);
+            return self.push_unknowns(out, 1);
         }
         self.make_room(out, 9)?;
         self.push(SPAN + step);
@@ -137,12 +137,12 @@ impl Gathered {
     /// Adds the bytes of unknown values and then of a single word. Returns false, with nothing
     /// added, for another value or without room.
     #[inline(always)]
-    pub(crate) fn put_spaced_word(&mut self, here: &SpacedValue) -> bool
+    pub(crate) fn push_spaced_word(&mut self, here: &SpacedValue) -> bool
         ensures put { IsTrue result
             → self.new ≡ (self.old ++ replicate here.now.anys 0) ++ bytes_of_value here.now.value }
         ensures kept { result ≡ false → self.new ≡ self.old }
     {
-        let Some(x) = here.value.word() else {
+        let Some(x) = here.value.single_word() else {
             return false;
         };
         let at = self.len + here.anys as usize;
@@ -161,7 +161,7 @@ impl Gathered {
 
     /// Adds the bytes of `count` unknown values to the buffer: a zero for each.
     #[inline(always)]
-    pub(crate) fn put_anys(&mut self, out: &mut Vec<u8>, count: u32) -> Result<(), NoMemory>
+    pub(crate) fn push_unknowns(&mut self, out: &mut Vec<u8>, count: u32) -> Result<(), NoMemory>
         ensures { OnOk result
             (out.new.items ++ self.new ≡ (out.old.items ++ self.old) ++ replicate count 0) }
     {

@@ -7,7 +7,7 @@ ghost use Rattle.value_domain.specs.State.{AreValues, AreWellFormed, Covers, joi
 ghost use Rattle.small_states.specs.CompactForms.{all_values, whole_state, whole_known, whole_exit};
 ghost use Rattle.depth_cert.specs.Exits.{ExitCovers, joined_exit};
 
-use crate::incoming_values::{are_incoming_covered, join_incoming_values};
+use crate::incoming_values::{are_incoming_values_covered, join_incoming_values};
 use crate::known::{KnownForm, SmallKnown};
 use crate::small_value::SmallForm;
 use crate::{Small, SmallExit, SmallState, Values};
@@ -16,7 +16,7 @@ use depth_cert::CALL;
 use std::alloc::{AllocError, Global};
 use std::marker::Model;
 use std::rc::Rc;
-use value_domain::{Bounds, State, Val, are_flags_implied, copy_locals, join_locals};
+use value_domain::{Bounds, State, Val, flags_imply, copy_locals, join_locals};
 use vd_transfer::Change;
 
 /// What flows into a place, described by the state of the point that it comes from. No state is
@@ -53,7 +53,7 @@ pub(crate) struct Context<'a> {
 
 /// Returns the CCPN of the state or exit that flows into a place.
 #[inline(always)]
-pub fn incoming_priority(incoming: &Incoming) -> u8
+pub fn incoming_ccpn(incoming: &Incoming) -> u8
     ensures { result ≡ known_priority (incoming_known incoming.now) }
 {
     match incoming {
@@ -80,7 +80,7 @@ pub(crate) fn is_exit_flow(incoming: &Incoming) -> bool
 pub(crate) fn incoming_context<'a>(incoming: &Incoming<'a>) -> Context<'a>
     ensures { incoming_known incoming.now ≡ incoming_known_with incoming.now result }
 {
-    let ccpn = incoming_priority(incoming);
+    let ccpn = incoming_ccpn(incoming);
     match incoming {
         Incoming::Changed(_, c) => Context {
             ie: c.ie,
@@ -144,10 +144,10 @@ pub(crate) fn is_incoming_state_covered(
     if !upper.covers_context(k.ie, k.ccpn, k.lower) {
         return false;
     }
-    if !are_flags_implied(upper.locals.as_slice(), k.locals.as_slice()) {
+    if !flags_imply(upper.locals.as_slice(), k.locals.as_slice()) {
         return false;
     }
-    are_incoming_covered(upper.regs.as_ref(), incoming)
+    are_incoming_values_covered(upper.regs.as_ref(), incoming)
 }
 
 /// Returns the least state that covers both, or `None` if their numbers of locals differ.
@@ -197,7 +197,7 @@ pub(crate) fn is_incoming_exit_covered(upper: &SmallExit, incoming: &Incoming, k
     if !upper.covers_context(k.ie, k.ccpn) {
         return false;
     }
-    are_incoming_covered(upper.lower.as_ref(), incoming)
+    are_incoming_values_covered(upper.lower.as_ref(), incoming)
 }
 
 /// Returns the least exit that covers a compact one and the incoming one. There always is one.

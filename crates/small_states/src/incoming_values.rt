@@ -18,32 +18,32 @@ use std::alloc::{AllocError, Global};
 use std::marker::Model;
 use std::rc::Rc;
 use value_domain::{A10_SLOT, Bounds, State, Val};
-use vd_transfer::{Base, Change, Put, is_lower_slot};
+use vd_transfer::{Base, Change, RegisterWrite, is_lower_slot};
 
 /// Returns the values of what flows in as a compact list, each copied from the sender's state, the
 /// change or the exit. A call of its own, since it has room for a whole value.
 #[inline(never)]
-pub(crate) fn compact_values(alloc: Global, incoming: &Incoming) -> Result<Values, AllocError>
+pub(crate) fn copy_incoming_values(alloc: Global, incoming: &Incoming) -> Result<Values, AllocError>
     ensures { IfOk result (λ values. all_values values ≡ incoming_values incoming.now) }
 {
     let any = Small {
         form: SmallForm::Any,
     };
-    let count = count_incoming(incoming);
+    let count = count_incoming_values(incoming);
     let mut values = Values {
         known: Vec::with_capacity(alloc, 0)?,
         rest: 0,
     };
     for i in 0..count {
-        let value = Small::of_incoming(alloc, &incoming_value(&*incoming, &any, i))?;
-        values.add_small(value)?;
+        let value = Small::from_incoming(alloc, &incoming_value(&*incoming, &any, i))?;
+        values.push_value(value)?;
     }
     Ok(values)
 }
 
 /// Returns the values of what flows in as a compact list, from the sender's compact list `own`,
 /// which is shared if no value changes.
-pub(crate) fn compact_shared_values(
+pub(crate) fn incoming_values_from_sender(
     alloc: Global,
     own: &Rc<Values>,
     incoming: &Incoming,
@@ -52,9 +52,9 @@ pub(crate) fn compact_shared_values(
     ensures { IfOk result (λ values. all_values values.value ≡ incoming_values incoming.now) }
 {
     match incoming {
-        Incoming::Changed(s, c) => compact_changed_values(alloc, own, s, c),
+        Incoming::Changed(s, c) => values_after_change(alloc, own, s, c),
         _ => {
-            let values = compact_from_own(alloc, own.as_ref(), incoming)?;
+            let values = copy_from_sender(alloc, own.as_ref(), incoming)?;
             Ok(Rc::new(alloc, values)?)
         }
     }
@@ -62,13 +62,13 @@ pub(crate) fn compact_shared_values(
 
 /// Returns whether each incoming value is below the known value at the same index. Unknown values,
 /// which cover all, are skipped.
-pub(crate) fn are_incoming_covered(upper: &Values, incoming: &Incoming) -> bool
+pub(crate) fn are_incoming_values_covered(upper: &Values, incoming: &Incoming) -> bool
     requires upper { AreWellFormed (all_values upper.now) }
     requires incoming { AreWellFormed (incoming_values incoming.now) }
     requires long { length (all_values upper.now) ≡ length (incoming_values incoming.now) }
     ensures { IsTrue result ↔ AreBelow (incoming_values incoming.now) (all_values upper.now) }
 {
-    let _count = count_incoming(incoming);
+    let _count = count_incoming_values(incoming);
     let any = Small {
         form: SmallForm::Any,
     };
@@ -103,7 +103,7 @@ pub(crate) fn join_incoming_values(
         (λ values. all_values values
         ≡ joined_regs b.now (all_values left.now) (incoming_values incoming.now)) }
 {
-    let _count = count_incoming(incoming);
+    let _count = count_incoming_values(incoming);
     let any = Small {
         form: SmallForm::Any,
     };
@@ -120,10 +120,10 @@ pub(crate) fn join_incoming_values(
         let value = here
             .value
             .join_incoming(alloc, b, &incoming_value(&*incoming, &any, place))?;
-        values.add_spaced(anys, value)?;
+        values.push_after_unknowns(anys, value)?;
         at = place + 1;
     }
-    values.add_anys(left.rest);
+    values.push_unknowns(left.rest);
     Ok(values)
 }
 
@@ -154,7 +154,7 @@ pub(crate) fn incoming_value<'a>(incoming: &'a Incoming, any: &'a Small, i: usiz
 /// Returns the compact list of a changed state's values, from that of the state; shared if no value
 /// changes.
 #[inline(always)]
-fn compact_changed_values(
+fn values_after_change(
     alloc: Global,
     own: &Rc<Values>,
     s: &State,
@@ -164,13 +164,13 @@ fn compact_changed_values(
     ensures { IfOk result (λ values. all_values values.value ≡ (state_after s.now c.now).regs) }
 {
     let _regs = &s.regs[..];
-    put_change_over(alloc, own, c)
+    apply_change(alloc, own, c)
 }
 
 /// Returns the values of what flows in as a new compact list, from the sender's compact list `own`
 /// and the exit's.
 #[inline(never)]
-fn compact_from_own(alloc: Global, own: &Values, incoming: &Incoming) -> Result<Values, AllocError>
+fn copy_from_sender(alloc: Global, own: &Values, incoming: &Incoming) -> Result<Values, AllocError>
     requires { all_values own.now ≡ (sender_state incoming.now).regs }
     ensures { IfOk result (λ values. all_values values ≡ incoming_values incoming.now) }
 {
@@ -179,20 +179,20 @@ fn compact_from_own(alloc: Global, own: &Values, incoming: &Incoming) -> Result<
         rest: 0,
     };
     match incoming {
-        Incoming::Changed(_, _) => compact_values(alloc, incoming),
+        Incoming::Changed(_, _) => copy_incoming_values(alloc, incoming),
         Incoming::After(s, exit, _) => {
             let _regs = &s.regs[..];
             let lower = exit.lower.as_ref();
-            values.add_part(lower, 0, 8)?;
-            values.add_part(own, 8, 8)?;
-            values.add_part(lower, 8, 6)?;
-            values.add_part(own, A10_SLOT, 5)?;
+            values.extend_from_range(lower, 0, 8)?;
+            values.extend_from_range(own, 8, 8)?;
+            values.extend_from_range(lower, 8, 6)?;
+            values.extend_from_range(own, A10_SLOT, 5)?;
             Ok(values)
         }
         Incoming::Leaving(s) => {
             let _regs = &s.regs[..];
-            values.add_part(own, 0, 8)?;
-            values.add_part(own, 16, 6)?;
+            values.extend_from_range(own, 0, 8)?;
+            values.extend_from_range(own, 16, 6)?;
             Ok(values)
         }
     }
@@ -201,7 +201,7 @@ fn compact_from_own(alloc: Global, own: &Values, incoming: &Incoming) -> Result<
 /// Returns a compact list of values with a change put over them. If the change keeps all values,
 /// the list is shared.
 #[inline(always)]
-fn put_change_over(alloc: Global, own: &Rc<Values>, c: &Change) -> Result<Rc<Values>, AllocError>
+fn apply_change(alloc: Global, own: &Rc<Values>, c: &Change) -> Result<Rc<Values>, AllocError>
     requires { length (all_values own.now.value) ≡ 27 }
     ensures { IfOk result
         (λ values. all_values values.value
@@ -214,9 +214,9 @@ fn put_change_over(alloc: Global, own: &Rc<Values>, c: &Change) -> Result<Rc<Val
         }
     }
     let mut values = base_values(alloc, own.as_ref(), c.base)?;
-    put_value_over(alloc, &mut values, &c.first)?;
-    put_value_over(alloc, &mut values, &c.second)?;
-    put_value_over(alloc, &mut values, &c.third)?;
+    apply_write(alloc, &mut values, &c.first)?;
+    apply_write(alloc, &mut values, &c.second)?;
+    apply_write(alloc, &mut values, &c.third)?;
     Ok(Rc::new(alloc, values)?)
 }
 
@@ -239,14 +239,14 @@ fn base_values(alloc: Global, own: &Values, base: Base) -> Result<Values, AllocE
 
 /// Puts one register's value of a change into a compact list, if the change has that value.
 #[inline(always)]
-fn put_value_over(alloc: Global, values: &mut Values, put: &Put) -> Result<(), AllocError>
-    ensures { OnOk result (all_values values.new ≡ with_put (all_values values.old) put.now) }
+fn apply_write(alloc: Global, values: &mut Values, write: &RegisterWrite) -> Result<(), AllocError>
+    ensures { OnOk result (all_values values.new ≡ with_put (all_values values.old) write.now) }
 {
-    let Some(at) = put.at else {
+    let Some(at) = write.at else {
         return Ok(());
     };
-    let value = Small::of(alloc, &put.value)?;
-    values.put(at, value)
+    let value = Small::from_value(alloc, &write.value)?;
+    values.set_at_index(at, value)
 }
 
 /// Returns a compact list of a state's values in which those of the lower registers are unknown.
@@ -260,9 +260,9 @@ fn without_lower_values(alloc: Global, own: &Values) -> Result<Values, AllocErro
         known: Vec::with_capacity(alloc, own.known.len() + 1)?,
         rest: 8,
     };
-    values.add_part(own, 8, 8)?;
-    values.add_anys(6);
-    values.add_part(own, A10_SLOT, 5)?;
+    values.extend_from_range(own, 8, 8)?;
+    values.push_unknowns(6);
+    values.extend_from_range(own, A10_SLOT, 5)?;
     Ok(values)
 }
 
@@ -345,7 +345,7 @@ fn lower_or_caller_value<'a>(i: usize, exit: &'a SmallExit, any: &'a Small, v: &
 
 /// Returns the number of register values of what flows into a place: 27 for a state, 14 for an
 /// exit.
-pub(crate) fn count_incoming(incoming: &Incoming) -> usize
+pub(crate) fn count_incoming_values(incoming: &Incoming) -> usize
     ensures long { result ≡ length (incoming_values incoming.now) }
     ensures few { result ≤ 27 }
 {

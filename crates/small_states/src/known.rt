@@ -9,7 +9,7 @@ use crate::incoming::{
     Given, Incoming, incoming_context, incoming_form, is_exit_flow, is_incoming_exit_covered,
     is_incoming_state_covered, join_incoming_exit, join_incoming_state,
 };
-use crate::incoming_values::{compact_shared_values, compact_values};
+use crate::incoming_values::{incoming_values_from_sender, copy_incoming_values};
 use crate::small_value::{Small, SmallForm};
 use crate::values::are_all_below;
 use crate::{ScratchState, SmallExit, SmallState};
@@ -17,8 +17,8 @@ use std::alloc::{AllocError, Global};
 use std::marker::Model;
 use std::rc::Rc;
 use tcd_base::NoMemory;
-use value_domain::{Bounds, are_flags_implied, copy_locals};
-use vd_transfer::{Base, Put};
+use value_domain::{Bounds, flags_imply, copy_locals};
+use vd_transfer::{Base, RegisterWrite};
 
 /// A state at a point, or the exit of a frame.
 #[derive(Drop)]
@@ -56,7 +56,7 @@ impl Model for SmallKnown {
 /// Returns whether the incoming state may cover the known compact one: only a hint, which saves
 /// most comparisons.
 #[inline(always)]
-fn may_be_above_known(known: &KnownForm, incoming: &Incoming) -> bool {
+fn may_cover_known(known: &KnownForm, incoming: &Incoming) -> bool {
     let KnownForm::Point(known) = known else {
         return false;
     };
@@ -64,15 +64,15 @@ fn may_be_above_known(known: &KnownForm, incoming: &Incoming) -> bool {
         return false;
     };
     matches!(c.base, Base::Same)
-        && has_known_grown(known, &c.first)
-        && has_known_grown(known, &c.second)
-        && has_known_grown(known, &c.third)
+        && may_cover_known_value(known, &c.first)
+        && may_cover_known_value(known, &c.second)
+        && may_cover_known_value(known, &c.third)
 }
 
 /// Returns whether a change's value for a register is the known compact one or has more words, only
 /// as a hint. True without a value.
-fn has_known_grown(known: &SmallState, put: &Put) -> bool {
-    let Some(at) = put.at else {
+fn may_cover_known_value(known: &SmallState, write: &RegisterWrite) -> bool {
+    let Some(at) = write.at else {
         return true;
     };
     let any = Small {
@@ -80,7 +80,7 @@ fn has_known_grown(known: &SmallState, put: &Put) -> bool {
     };
     match known.regs.as_ref().value_or_any(&any, at) {
         Given::Whole(_) => false,
-        Given::Compact(low) => low.is_same(&put.value) || low.has_fewer_words(&put.value),
+        Given::Compact(low) => low.stands_for(&write.value) || low.has_fewer_words(&write.value),
     }
 }
 
@@ -90,20 +90,20 @@ impl SmallKnown {
         requires { IsWellFormedKnown _b.now (incoming_known incoming.now) }
         ensures { IfOk result (λ c. c ≡ incoming_known incoming.now) }
     {
-        let values = Rc::new(alloc, compact_values(alloc, incoming)?)?;
+        let values = Rc::new(alloc, copy_incoming_values(alloc, incoming)?)?;
         let form = incoming_form(values, incoming);
         Ok(SmallKnown { form })
     }
 
     /// Returns a compact copy of what flows from the point with this known state; unchanged lists
     /// of values are shared.
-    pub fn apply(&self, alloc: Global, incoming: &Incoming) -> Result<SmallKnown, AllocError>
+    pub fn compact_copy(&self, alloc: Global, incoming: &Incoming) -> Result<SmallKnown, AllocError>
         requires { self.now ≡ state (sender_state incoming.now) }
         ensures { IfOk result (λ c. c ≡ incoming_known incoming.now) }
     {
         let values = match &self.form {
-            KnownForm::Point(own) => compact_shared_values(alloc, &own.regs, incoming)?,
-            KnownForm::Leaves(_) => Rc::new(alloc, compact_values(alloc, incoming)?)?,
+            KnownForm::Point(own) => incoming_values_from_sender(alloc, &own.regs, incoming)?,
+            KnownForm::Leaves(_) => Rc::new(alloc, copy_incoming_values(alloc, incoming)?)?,
         };
         let form = incoming_form(values, incoming);
         Ok(SmallKnown { form })
@@ -180,7 +180,7 @@ impl SmallKnown {
 
     /// Returns the same as `join`, and shares values with `own`, the sender's state, if the
     /// incoming state covers the known one.
-    pub fn join_from(
+    pub fn join_sharing(
         &self,
         alloc: Global,
         b: &Bounds,
@@ -192,8 +192,8 @@ impl SmallKnown {
         requires own { own.now ≡ state (sender_state incoming.now) }
         ensures { IfOk result (λ r. r ≡ joined_known b.now self.now (incoming_known incoming.now)) }
     {
-        if may_be_above_known(&self.form, incoming) {
-            let above = own.apply(alloc, incoming)?;
+        if may_cover_known(&self.form, incoming) {
+            let above = own.compact_copy(alloc, incoming)?;
             if above.is_above(self, b) {
                 return Ok(Some(above));
             }
@@ -217,7 +217,7 @@ impl SmallKnown {
     }
 
     /// Writes the known compact state over a scratch state of whole values. An exit writes nothing.
-    pub fn read_state(&self, _b: &Bounds, into: &mut ScratchState)
+    pub fn write_state(&self, _b: &Bounds, into: &mut ScratchState)
         requires { IsWellFormedKnown _b.now self.now }
         ensures { IsKnownState self.now into.new }
     {
@@ -227,14 +227,14 @@ impl SmallKnown {
     }
 
     /// Appends the certificate's bytes of the known state. For an exit, nothing is appended.
-    pub fn spell_state(&self, _b: &Bounds, out: &mut Vec<u8>) -> Result<(), NoMemory>
+    pub fn append_state(&self, _b: &Bounds, out: &mut Vec<u8>) -> Result<(), NoMemory>
         requires { IsWellFormedKnown _b.now self.now }
         ensures { OnOk result (AddsKnownState self.now out.old.items out.new.items) }
     {
         match &self.form {
             KnownForm::Point(s) => {
                 let _ccpn = s.ccpn;
-                s.spell(out)
+                s.append_bytes(out)
             }
             KnownForm::Leaves(_) => Ok(()),
         }
@@ -267,7 +267,7 @@ impl SmallKnown {
         if !upper.covers_context(s.ie, s.ccpn, s.lower) {
             return false;
         }
-        if !are_flags_implied(upper.locals.as_slice(), s.locals.as_slice()) {
+        if !flags_imply(upper.locals.as_slice(), s.locals.as_slice()) {
             return false;
         }
         are_all_below(s.regs.as_ref(), upper.regs.as_ref())

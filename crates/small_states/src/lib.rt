@@ -11,7 +11,7 @@ mod spelling;
 mod states;
 mod values;
 
-pub use incoming::{Incoming, incoming_priority};
+pub use incoming::{Incoming, incoming_ccpn};
 pub use known::{Outline, SmallKnown};
 pub use scratch::ScratchState;
 pub use small_value::Small;

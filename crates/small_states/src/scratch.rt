@@ -43,7 +43,7 @@ fn write_scratch_values(values: &Rc<Values>, last: &mut Option<Rc<Values>>, regs
                 return;
             }
         }
-        None => values.as_ref().write(regs),
+        None => values.as_ref().write_to(regs),
     }
     *last = match values.clone() {
         Ok(own) => Some(own),
@@ -63,7 +63,7 @@ fn overwrite_last_values(values: &Values, last: &Values, regs: &mut [Val; 27]) -
     let known = values.known.as_slice();
     let old = last.known.as_slice();
     if old.len() != known.len() {
-        values.write(regs);
+        values.write_to(regs);
         return false;
     }
     let mut same = true;
@@ -72,12 +72,12 @@ fn overwrite_last_values(values: &Values, last: &Values, regs: &mut [Val; 27]) -
         let here = &known[n];
         let before = &old[n];
         if before.anys != here.anys {
-            values.write(regs);
+            values.write_to(regs);
             return false;
         }
         let place = at + here.anys as usize;
         if !here.value.is_equal(&before.value) {
-            here.value.replace(&mut regs[place]);
+            here.value.write_to(&mut regs[place]);
             same = false;
         }
         at = place + 1;

@@ -67,12 +67,12 @@ fn have_same_words(v: &Val, w: &Val) -> bool
     let Some(words) = w.words() else {
         return false;
     };
-    own.len() == words.len() && begins_with_words(own, words)
+    own.len() == words.len() && starts_with_words(own, words)
 }
 
 /// Returns how many words, from the first on, are among those of a compact set, up to the first
 /// that isn't. Both ascend.
-fn count_held_words(own: &[u32], words: &[u32]) -> usize
+fn count_leading_members(own: &[u32], words: &[u32]) -> usize
     requires own { IsAscending own.now }
     requires words { IsAscending words.now }
     ensures within { result ≤ length words.now }
@@ -95,7 +95,7 @@ fn count_held_words(own: &[u32], words: &[u32]) -> usize
 
 /// Returns whether each member of `v` is one of `own`, which a compact value shares. Of two sets
 /// the greatest words are compared first.
-fn is_below_small_value(v: &Val, own: &Val) -> bool
+fn is_below_shared_value(v: &Val, own: &Val) -> bool
     requires value { IsWellFormed v.now }
     requires own { IsWellFormed own.now }
     ensures { IsTrue result ↔ IsBelow v.now own.now }
@@ -111,11 +111,11 @@ fn is_below_small_value(v: &Val, own: &Val) -> bool
         return false;
     }
     if end < held.len() && held[end] == words[end] {
-        if begins_with_words(held, words) {
+        if starts_with_words(held, words) {
             return true;
         }
     }
-    count_held_words(held, words) == words.len()
+    count_leading_members(held, words) == words.len()
 }
 
 /// Returns whether each member of a value is a word of a range.
@@ -138,7 +138,7 @@ fn is_word_in_range(x: u32, lo: u32, last: u32, step: u8) -> bool
 
 /// Returns the compact form of a range that isn't all words, out of line.
 #[inline(never)]
-fn small_range_form(lo: u32, last: u32, step: u8) -> SmallForm
+fn range_form(lo: u32, last: u32, step: u8) -> SmallForm
     ensures { small_value_of result ≡ Span lo last step }
 {
     SmallForm::Range { lo, last, step }
@@ -147,7 +147,7 @@ fn small_range_form(lo: u32, last: u32, step: u8) -> SmallForm
 /// Returns true only if the words of one set begin with those of another. All are compared, since
 /// that takes several at once.
 #[inline(always)]
-fn begins_with_words(own: &[u32], words: &[u32]) -> bool
+fn starts_with_words(own: &[u32], words: &[u32]) -> bool
     ensures { IsTrue result → (rest : List ℕ) × (own.now ≡ words.now ++ rest) }
 {
     if own.len() < words.len() {
@@ -167,7 +167,7 @@ fn begins_with_words(own: &[u32], words: &[u32]) -> bool
 impl Small {
     /// Returns a compact copy of a value: of a single word, a range, a shared set, or all words.
     #[inline(always)]
-    pub fn of(alloc: Global, v: &Val) -> Result<Small, AllocError>
+    pub fn from_value(alloc: Global, v: &Val) -> Result<Small, AllocError>
         ensures { IfOk result (λ s. s ≡ v.now) }
     {
         match v {
@@ -177,7 +177,7 @@ impl Small {
                     let form = SmallForm::One(first);
                     return Ok(Small { form });
                 }
-                Small::of_shared(alloc, v)
+                Small::from_shared(alloc, v)
             }
             Val::Span { lo, last, step } => {
                 // All words have a form of their own, which is recognised at once.
@@ -186,7 +186,7 @@ impl Small {
                         form: SmallForm::Any,
                     });
                 }
-                let form = small_range_form(*lo, *last, *step);
+                let form = range_form(*lo, *last, *step);
                 Ok(Small { form })
             }
         }
@@ -227,7 +227,7 @@ impl Small {
 
     /// Returns true only if this compact value stands for the given one.
     #[inline(always)]
-    pub fn is_same(&self, v: &Val) -> bool
+    pub fn stands_for(&self, v: &Val) -> bool
         ensures { IsTrue result → v.now ≡ self.now }
     {
         match &self.form {
@@ -243,7 +243,7 @@ impl Small {
 
     /// Returns the word of a compact value that has the form of a single word, else `None`.
     #[inline(always)]
-    pub(crate) fn word(&self) -> Option<u32>
+    pub(crate) fn single_word(&self) -> Option<u32>
         ensures { IfSome result (λ x. self.now ≡ Set (x ∷ [])) }
     {
         match &self.form {
@@ -259,9 +259,9 @@ impl Small {
         ensures { IsTrue result → v.now ≡ self.now }
     {
         if let SmallForm::One(x) = &v.form {
-            return self.word() == Some(*x);
+            return self.single_word() == Some(*x);
         }
-        self.is_equal_form(v)
+        self.has_equal_form(v)
     }
 
     /// Returns a copy of a compact value. The words of a set are shared.
@@ -284,18 +284,18 @@ impl Small {
 
     /// Returns a compact copy of an incoming value, which is whole or compact.
     #[inline(always)]
-    pub(crate) fn of_incoming(alloc: Global, v: &Given) -> Result<Small, AllocError>
+    pub(crate) fn from_incoming(alloc: Global, v: &Given) -> Result<Small, AllocError>
         ensures { IfOk result (λ s. s ≡ value_of_given v.now) }
     {
         match v {
-            Given::Whole(v) => Small::of(alloc, v),
+            Given::Whole(v) => Small::from_value(alloc, v),
             Given::Compact(v) => v.copy(),
         }
     }
 
     /// Writes the whole value that a compact one stands for over another.
     #[inline(never)]
-    pub fn replace(&self, out: &mut Val)
+    pub fn write_to(&self, out: &mut Val)
         ensures { out.new ≡ self.now }
     {
         match &self.form {
@@ -311,7 +311,7 @@ impl Small {
 
     /// Appends the certificate's bytes of a compact value, by way of the whole value.
     #[inline(never)]
-    pub(crate) fn spell(&self, out: &mut Vec<u8>) -> Result<(), NoMemory>
+    pub(crate) fn append_bytes(&self, out: &mut Vec<u8>) -> Result<(), NoMemory>
         requires { IsWellFormed self.now }
         ensures { OnOk result (out.new.items ≡ out.old.items ++ bytes_of_value self.now) }
     {
@@ -326,12 +326,12 @@ impl Small {
         ensures { IsTrue result ↔ IsBelow v.now self.now }
     {
         if let Some(x) = singleton_word(v) {
-            return self.has(x);
+            return self.has_member(x);
         }
         match &self.form {
-            SmallForm::Many(own) => is_below_small_value(v, own.as_ref()),
+            SmallForm::Many(own) => is_below_shared_value(v, own.as_ref()),
             SmallForm::One(x) => match v.words() {
-                Some(words) => count_held_words(&[*x], words) == words.len(),
+                Some(words) => count_leading_members(&[*x], words) == words.len(),
                 None => is_below_range(v, *x, *x, 0),
             },
             SmallForm::Range { lo, last, step } => {
@@ -393,16 +393,16 @@ impl Small {
         requires value { IsValue b.now v.now }
         ensures { IfOk result (λ s. s ≡ join_of b.now self.now v.now) }
     {
-        if self.is_same(v) {
+        if self.stands_for(v) {
             return self.copy();
         }
         if let Some(x) = singleton_word(v) {
-            if self.has(x) {
+            if self.has_member(x) {
                 return self.copy();
             }
         }
         match v {
-            Val::Set(words) => self.join_words(alloc, b, v, words.as_slice()),
+            Val::Set(words) => self.join_word_set(alloc, b, v, words.as_slice()),
             Val::Span { .. } => self.join_range(alloc, b, v),
         }
     }
@@ -432,7 +432,7 @@ impl Small {
 
     /// Returns a compact form with a copy of the whole value, which copies of the form share.
     #[inline(never)]
-    fn of_shared(alloc: Global, v: &Val) -> Result<Small, AllocError>
+    fn from_shared(alloc: Global, v: &Val) -> Result<Small, AllocError>
         ensures { IfOk result (λ s. s ≡ v.now) }
     {
         let form = SmallForm::Many(Rc::new(alloc, v.copy())?);
@@ -441,12 +441,12 @@ impl Small {
 
     /// Returns true only if both compact values have the same form and stand for the same value.
     #[inline(always)]
-    fn is_equal_form(&self, v: &Small) -> bool
+    fn has_equal_form(&self, v: &Small) -> bool
         ensures { IsTrue result → v.now ≡ self.now }
     {
         match &v.form {
             SmallForm::Any => self.is_any(),
-            SmallForm::One(x) => self.word() == Some(*x),
+            SmallForm::One(x) => self.single_word() == Some(*x),
             SmallForm::Many(words) => match &self.form {
                 SmallForm::Many(own) => have_same_words(words.as_ref(), own.as_ref()),
                 _ => false,
@@ -472,7 +472,7 @@ impl Small {
 
     /// Returns whether a word is a member of a compact value.
     #[inline(always)]
-    fn has(&self, x: u32) -> bool
+    fn has_member(&self, x: u32) -> bool
         ensures { IsTrue result ↔ IsMember x self.now }
     {
         match &self.form {
@@ -495,7 +495,7 @@ impl Small {
         ensures { IsTrue result ↔ IsBelow v.now self.now }
     {
         match &v.form {
-            SmallForm::One(x) => self.has(*x),
+            SmallForm::One(x) => self.has_member(*x),
             SmallForm::Many(words) => self.covers(words.as_ref()),
             SmallForm::Range { lo, last, step } => {
                 if self.has_all_of_range(*lo, *last, *step) {
@@ -536,7 +536,7 @@ impl Small {
     /// If this one is a set of fewer words than it lacks, they are added to `words`. Else up to 16
     /// words that it lacks are added to it; if there are more, both sets are merged.
     #[inline(never)]
-    fn join_words(
+    fn join_word_set(
         &self,
         alloc: Global,
         b: &Bounds,
@@ -549,7 +549,7 @@ impl Small {
         ensures { IfOk result (λ s. s ≡ join_of b.now self.now v.now) }
     {
         if let SmallForm::One(x) = &self.form {
-            return Small::with_others(alloc, b, words, &[*x]);
+            return Small::from_word_lists(alloc, b, words, &[*x]);
         }
         let SmallForm::Many(own) = &self.form else {
             return self.with_words(alloc, b, words);
@@ -557,13 +557,13 @@ impl Small {
         let Some(held) = own.as_ref().words() else {
             return self.with_words(alloc, b, words);
         };
-        let n = count_held_words(held, words);
+        let n = count_leading_members(held, words);
         if n == words.len() {
             return self.copy_out_of_line();
         }
         let missing = words.len() - n;
         if held.len() < missing {
-            return Small::with_others(alloc, b, words, held);
+            return Small::from_word_lists(alloc, b, words, held);
         }
         if missing > 16 {
             return self.join_whole(alloc, b, v);
@@ -584,7 +584,7 @@ impl Small {
                 return self.copy_out_of_line();
             }
             if self.is_inside_range(*lo, *last, *step) {
-                return Small::of(alloc, v);
+                return Small::from_value(alloc, v);
             }
         }
         self.join_whole(alloc, b, v)
@@ -593,7 +593,7 @@ impl Small {
     /// Returns the least compact value with the words of a set and others, which are added to a
     /// copy of the set.
     #[inline(never)]
-    fn with_others(
+    fn from_word_lists(
         alloc: Global,
         b: &Bounds,
         words: &[u32],
@@ -609,7 +609,7 @@ impl Small {
             let form = SmallForm::Many(Rc::new(alloc, out)?);
             return Ok(Small { form });
         }
-        Small::of(alloc, &out)
+        Small::from_value(alloc, &out)
     }
 
     /// Returns the least compact value with the members of this one and these words, which are
@@ -620,13 +620,13 @@ impl Small {
         ensures { IfOk result (λ s. s ≡ cover b.now (members self.now ++ words.now)) }
     {
         let mut out = Val::one(0);
-        self.replace(&mut out);
+        self.write_to(&mut out);
         join_word_list(b, &mut out, words);
         if is_set(&out) {
             let form = SmallForm::Many(Rc::new(alloc, out)?);
             return Ok(Small { form });
         }
-        Small::of(alloc, &out)
+        Small::from_value(alloc, &out)
     }
 
     /// Returns a copy of a compact value, out of line, for rare cases.
@@ -646,21 +646,21 @@ impl Small {
         ensures { IfOk result (λ s. s ≡ join_of b.now self.now v.now) }
     {
         let mut out = Val::one(0);
-        self.replace(&mut out);
+        self.write_to(&mut out);
         join_into(b, &mut out, v);
-        Small::of_moved(alloc, out)
+        Small::from_owned(alloc, out)
     }
 
     /// Returns the compact form of a value. A set of several words is moved, not copied.
     #[inline(never)]
-    fn of_moved(alloc: Global, v: Val) -> Result<Small, AllocError>
+    fn from_owned(alloc: Global, v: Val) -> Result<Small, AllocError>
         ensures { IfOk result (λ s. s ≡ v) }
     {
         if singleton_word(&v).is_none() && is_set(&v) {
             let form = SmallForm::Many(Rc::new(alloc, v)?);
             return Ok(Small { form });
         }
-        Small::of(alloc, &v)
+        Small::from_value(alloc, &v)
     }
 
     /// Returns true only if a compact value's form shows that its members are words of a range.
@@ -689,7 +689,7 @@ impl Small {
     {
         match &v.form {
             SmallForm::One(x) => {
-                if self.has(*x) {
+                if self.has_member(*x) {
                     return self.copy();
                 }
                 self.with_words(alloc, b, &[*x])

@@ -14,7 +14,7 @@ use tcd_base::NoMemory;
 
 /// Returns the byte that spells a flag of a compact state or exit: 1 or 0.
 #[inline(always)]
-fn spelled_flag_byte(x: bool) -> u8
+fn flag_as_byte(x: bool) -> u8
     ensures { result ≡ keys.cert_flag_byte x }
 {
     if x { 1 } else { 0 }
@@ -23,7 +23,7 @@ fn spelled_flag_byte(x: bool) -> u8
 /// Appends the certificate's bytes of all values of a compact list, known and unknown, by way of
 /// the buffer.
 #[inline(always)]
-fn spell_values(out: &mut Vec<u8>, gathered: &mut Gathered, values: &Values) -> Result<(), NoMemory>
+fn append_list(out: &mut Vec<u8>, gathered: &mut Gathered, values: &Values) -> Result<(), NoMemory>
     requires { All IsWellFormed (all_values values.now) }
     ensures { OnOk result (out.new.items ++ gathered.new
         ≡ (out.old.items ++ gathered.old) ++ flat_map bytes_of_value (all_values values.now)) }
@@ -31,17 +31,17 @@ fn spell_values(out: &mut Vec<u8>, gathered: &mut Gathered, values: &Values) -> 
     let known = values.known.as_slice();
     for n in 0..known.len() {
         let here = &known[n];
-        if !gathered.put_spaced_word(here) {
-            spell_spaced_value(out, gathered, here.anys, &here.value)?;
+        if !gathered.push_spaced_word(here) {
+            append_spaced_value(out, gathered, here.anys, &here.value)?;
         }
     }
-    gathered.put_anys(out, values.rest)
+    gathered.push_unknowns(out, values.rest)
 }
 
 /// Appends the certificate's bytes of unknown values and then of a known one, which is no single
 /// word that had room.
 #[inline(never)]
-fn spell_spaced_value(
+fn append_spaced_value(
     out: &mut Vec<u8>,
     gathered: &mut Gathered,
     anys: u32,
@@ -51,54 +51,54 @@ fn spell_spaced_value(
     ensures { OnOk result (out.new.items ++ gathered.new
         ≡ ((out.old.items ++ gathered.old) ++ replicate anys 0) ++ bytes_of_value v.now) }
 {
-    gathered.put_anys(out, anys)?;
+    gathered.push_unknowns(out, anys)?;
     if let SmallForm::Many(own) = &v.form {
         if let Some(words) = own.as_ref().words() {
-            return gathered.put_set(out, words);
+            return gathered.push_set(out, words);
         }
     }
     if let SmallForm::Range { lo, last, step } = &v.form {
-        return gathered.put_range(out, *lo, *last, *step);
+        return gathered.push_range(out, *lo, *last, *step);
     }
     gathered.flush(out)?;
-    v.spell(out)
+    v.append_bytes(out)
 }
 
 impl SmallState {
     /// Appends the bytes that spell the state.
     #[tactic(auto, unfolding(depth_cert::specs::Spelling::bytes_of_state))]
-    pub(crate) fn spell(&self, out: &mut Vec<u8>) -> Result<(), NoMemory>
+    pub(crate) fn append_bytes(&self, out: &mut Vec<u8>) -> Result<(), NoMemory>
         requires { All IsWellFormed (all_values self.now.regs.value) }
         ensures { OnOk result
             (out.new.items ≡ out.old.items ++ bytes_of_state (whole_state self.now)) }
     {
         let locals = self.locals.as_slice();
         let mut gathered = Gathered::new();
-        gathered.push(spelled_flag_byte(self.ie));
+        gathered.push(flag_as_byte(self.ie));
         gathered.push(self.ccpn);
-        gathered.push(spelled_flag_byte(self.lower));
+        gathered.push(flag_as_byte(self.lower));
         gathered.push(locals.len() as u8);
         for flag in locals {
-            gathered.push(spelled_flag_byte(*flag));
+            gathered.push(flag_as_byte(*flag));
         }
-        spell_values(out, &mut gathered, self.regs.as_ref())?;
-        gathered.add_to(out)
+        append_list(out, &mut gathered, self.regs.as_ref())?;
+        gathered.append_to(out)
     }
 }
 
 impl SmallExit {
     /// Appends the bytes that spell the exit.
     #[tactic(auto, unfolding(depth_cert::specs::Spelling::bytes_of_exit))]
-    pub fn spell(&self, out: &mut Vec<u8>) -> Result<(), NoMemory>
+    pub fn append_bytes(&self, out: &mut Vec<u8>) -> Result<(), NoMemory>
         requires { All IsWellFormed (all_values self.now.lower.value) }
         ensures { OnOk result
             (out.new.items ≡ out.old.items ++ bytes_of_exit (Some (whole_exit self.now))) }
     {
         let mut gathered = Gathered::new();
         gathered.push(1);
-        gathered.push(spelled_flag_byte(self.ie));
+        gathered.push(flag_as_byte(self.ie));
         gathered.push(self.ccpn);
-        spell_values(out, &mut gathered, self.lower.as_ref())?;
-        gathered.add_to(out)
+        append_list(out, &mut gathered, self.lower.as_ref())?;
+        gathered.append_to(out)
     }
 }

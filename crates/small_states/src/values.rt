@@ -29,7 +29,7 @@ pub struct Values {
 
 /// Writes unknown values, all words, to the indices from `from` to before `to` of a state's values.
 #[inline(always)]
-fn write_anys(out: &mut [Val; 27], from: usize, to: usize)
+fn write_unknowns(out: &mut [Val; 27], from: usize, to: usize)
     requires ordered { from ≤ to }
     requires within { to ≤ 27 }
     ensures written { take to out.new ≡ take from out.old ++ replicate (to - from) any_val }
@@ -43,7 +43,7 @@ fn write_anys(out: &mut [Val; 27], from: usize, to: usize)
 impl Values {
     /// Appends `count` unknown values to a compact list.
     #[inline(always)]
-    pub(crate) fn add_anys(&mut self, count: u32)
+    pub(crate) fn push_unknowns(&mut self, count: u32)
         requires { length (all_values self.old) + count < 2 ^ 32 }
         ensures { all_values self.new ≡ all_values self.old ++ replicate count any_val }
     {
@@ -52,7 +52,7 @@ impl Values {
 
     /// Appends a value to a compact list, which only counts unknown ones.
     #[inline(always)]
-    pub(crate) fn add_small(&mut self, value: Small) -> Result<(), AllocError>
+    pub(crate) fn push_value(&mut self, value: Small) -> Result<(), AllocError>
         requires { length (all_values self.old) + 1 < 2 ^ 32 }
         ensures { OnOk result (all_values self.new ≡ all_values self.old ++ value ∷ []) }
     {
@@ -68,13 +68,13 @@ impl Values {
 
     /// Appends `anys` unknown values and then a value to a compact list.
     #[inline(always)]
-    pub(crate) fn add_spaced(&mut self, anys: u32, value: Small) -> Result<(), AllocError>
+    pub(crate) fn push_after_unknowns(&mut self, anys: u32, value: Small) -> Result<(), AllocError>
         requires { length (all_values self.old) + anys + 1 < 2 ^ 32 }
         ensures { OnOk result (all_values self.new
             ≡ (all_values self.old ++ replicate anys any_val) ++ value ∷ []) }
     {
-        self.add_anys(anys);
-        self.add_small(value)
+        self.push_unknowns(anys);
+        self.push_value(value)
     }
 
     /// Returns the value at an index of a compact list. `any` is returned for an unknown value.
@@ -82,7 +82,7 @@ impl Values {
         requires { any.now ≡ any_val }
         ensures { value_of_given result ≡ slice_index_or (all_values self.now) i any_val }
     {
-        let (n, anys) = self.find(i);
+        let (n, anys) = self.locate_index(i);
         if n < self.known.len() {
             let here = &self.known[n];
             if here.anys as usize == anys {
@@ -93,20 +93,20 @@ impl Values {
     }
 
     /// Puts a value at an index of a compact list. Past the end, nothing changes.
-    pub(crate) fn put(&mut self, i: usize, value: Small) -> Result<(), AllocError>
+    pub(crate) fn set_at_index(&mut self, i: usize, value: Small) -> Result<(), AllocError>
         ensures { OnOk result
             (all_values self.new ≡ slice_set (all_values self.old) i value) }
     {
-        let (n, anys) = self.find(i);
+        let (n, anys) = self.locate_index(i);
         if n < self.known.len() {
-            return self.put_before(n, anys, value);
+            return self.set_before_known(n, anys, value);
         }
-        self.put_behind(anys, value)
+        self.set_after_known(anys, value)
     }
 
     /// Writes a compact list of 27 values over a state's whole ones.
     #[inline(never)]
-    pub(crate) fn write(&self, out: &mut [Val; 27])
+    pub(crate) fn write_to(&self, out: &mut [Val; 27])
         requires { length (all_values self.now) ≡ 27 }
         ensures { out.new ≡ all_values self.now }
     {
@@ -115,13 +115,13 @@ impl Values {
         for n in 0..known.len() {
             let here = &known[n];
             let place = at + here.anys as usize;
-            write_anys(out, at, place);
-            if !here.value.is_same(&out[place]) {
-                here.value.replace(&mut out[place]);
+            write_unknowns(out, at, place);
+            if !here.value.stands_for(&out[place]) {
+                here.value.write_to(&mut out[place]);
             }
             at = place + 1;
         }
-        write_anys(out, at, 27);
+        write_unknowns(out, at, 27);
     }
 
     /// Returns a copy of a compact list, with room for one more known value.
@@ -136,7 +136,7 @@ impl Values {
         while n < own.len() {
             let here = &own[n];
             let anys = here.anys;
-            let Some(x) = here.value.word() else {
+            let Some(x) = here.value.single_word() else {
                 break;
             };
             let value = Small {
@@ -156,7 +156,7 @@ impl Values {
 
     /// Appends `count` values of another compact list, from the index `from` on.
     #[inline(always)]
-    pub(crate) fn add_part(
+    pub(crate) fn extend_from_range(
         &mut self,
         others: &Values,
         from: usize,
@@ -176,24 +176,24 @@ impl Values {
             let here = &known[n];
             let place = at + here.anys as usize;
             if place >= to {
-                self.add_anys((to - done) as u32);
+                self.push_unknowns((to - done) as u32);
                 return Ok(());
             }
             at = place + 1;
             if place >= from {
                 let value = here.value.copy()?;
-                self.add_spaced((place - done) as u32, value)?;
+                self.push_after_unknowns((place - done) as u32, value)?;
                 done = at;
             }
         }
-        self.add_anys((to - done) as u32);
+        self.push_unknowns((to - done) as u32);
         Ok(())
     }
 
     /// Finds an index of a compact list: returns how many known values are before, and how many
     /// unknown ones lie between.
     #[inline(always)]
-    fn find(&self, i: usize) -> (usize, usize)
+    fn locate_index(&self, i: usize) -> (usize, usize)
         ensures { IsIndexAfter self.now i result.0 result.1 }
     {
         let known = self.known.as_slice();
@@ -210,7 +210,7 @@ impl Values {
 
     /// Puts a value into a compact list, `anys` unknown values after the `n`th known one: over the
     /// next known value, or between.
-    fn put_before(&mut self, n: usize, anys: usize, value: Small) -> Result<(), AllocError>
+    fn set_before_known(&mut self, n: usize, anys: usize, value: Small) -> Result<(), AllocError>
         requires within { n < length self.old.known.items }
         requires before { (d : spaced.SpacedValue)
             → anys ≤ (slice_index_or self.old.known.items n d).anys }
@@ -240,7 +240,7 @@ impl Values {
 
     /// Puts a value into a compact list, `anys` unknown values after the last known one. Past the
     /// end, nothing changes.
-    fn put_behind(&mut self, anys: usize, value: Small) -> Result<(), AllocError>
+    fn set_after_known(&mut self, anys: usize, value: Small) -> Result<(), AllocError>
         ensures { OnOk result
             (all_values self.new
             ≡ slice_set (all_values self.old)

@@ -9,7 +9,7 @@ ghost use Rattle.store_ranges.specs.Accesses.{IsAccessSize};
 ghost use Rattle.store_ranges.specs.Loads as loads;
 ghost use Rattle.store_ranges.specs.Loads.{HoldsLoads, all_loaded_words, loaded_words_at, load_value_of};
 
-use crate::ranges::device_range_at;
+use crate::ranges::device_of_accesses;
 use crate::rom::rom_number;
 use elf_image::Image;
 use tcd_base::sext;
@@ -131,7 +131,7 @@ fn device_of_load(plan: &Plan, low: u32, high: u32, size: u8) -> Option<Device>
     if size != 4 {
         return None;
     }
-    device_range_at(plan.devices.as_slice(), low, high, 4)
+    device_of_accesses(plan.devices.as_slice(), low, high, 4)
 }
 
 /// Returns the word that a load writes to its register: the loaded number, extended by its sign or
@@ -159,13 +159,13 @@ fn write_peripheral_answers(b: &Bounds, device: Option<Device>, load: LoadKind, 
 {
     match device {
         Some(device) => write_cover(b, device.lo, device.hi, 0, out),
-        None => write_any_loaded_word(b, load, out),
+        None => write_all_loaded_words(b, load, out),
     }
 }
 
 /// Overwrites an abstract value with the cover of all words that a load of this size and sign can
 /// give.
-fn write_any_loaded_word(b: &Bounds, load: LoadKind, out: &mut Val)
+fn write_all_loaded_words(b: &Bounds, load: LoadKind, out: &mut Val)
     requires { IsAccessSize load.size }
     ensures cover { out.new ≡ cover b.now (all_loaded_words load.size load.signed) }
     ensures value { IsValue b.now out.new }
@@ -174,13 +174,13 @@ fn write_any_loaded_word(b: &Bounds, load: LoadKind, out: &mut Val)
     if load.signed {
         write_any(out);
     } else {
-        write_unsigned_load_range(b, load.size, out);
+        write_unsigned_loaded_words(b, load.size, out);
     }
 }
 
 /// Overwrites an abstract value with the cover of all numbers of `size` bytes, which an unsigned
 /// load can give.
-fn write_unsigned_load_range(b: &Bounds, size: u8, out: &mut Val)
+fn write_unsigned_loaded_words(b: &Bounds, size: u8, out: &mut Val)
     requires { IsAccessSize size }
     ensures cover { out.new ≡ cover b.now (all_loaded_words size false) }
     ensures value { IsValue b.now out.new }
@@ -189,7 +189,7 @@ fn write_unsigned_load_range(b: &Bounds, size: u8, out: &mut Val)
     if size == 4 {
         write_any(out);
     } else {
-        let last = b.above(greatest_loaded_number(size)) - 1;
+        let last = b.threshold_above(greatest_loaded_number(size)) - 1;
         set_span(out, 0, last as u32, 0);
     }
 }

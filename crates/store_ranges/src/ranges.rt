@@ -11,14 +11,14 @@ use tcd_plan::{Device, Plan};
 use value_domain::alignment_log2;
 
 /// Returns the first memory range that holds all `n` bytes of a store at `x`, or `None`.
-pub(crate) fn store_range_at(ranges: &[Range], x: u32, n: u8) -> Option<Range>
+pub(crate) fn range_of_store(ranges: &[Range], x: u32, n: u8) -> Option<Range>
     ensures { result ≡ find (is_within_range x n) ranges.now }
 {
     ranges.iter().find(|r| r.holds(x, u32::from(n))).copied()
 }
 
 /// Returns the first peripheral whose range has an access of `n` bytes both at `low` and at `high`.
-pub(crate) fn device_range_at(devices: &[Device], low: u32, high: u32, n: u8) -> Option<Device>
+pub(crate) fn device_of_accesses(devices: &[Device], low: u32, high: u32, n: u8) -> Option<Device>
     ensures { result ≡ find (λ d. is_within_range low n d.range && is_within_range high n d.range)
         devices.now }
 {
@@ -84,10 +84,10 @@ fn store_range_end(plan: &Plan, x: u32, size: u8) -> Option<u64>
     ensures { MatchOption result (¬ IsStoreInRange plan.now (x, size))
         (λ end. AreStoresInRangeUntil plan.now size x end) }
 {
-    match store_range_at(plan.ram.as_slice(), x, size) {
+    match range_of_store(plan.ram.as_slice(), x, size) {
         Some(range) => Some(range.end()),
         None => {
-            let device = device_range_at(plan.devices.as_slice(), x, x, size)?;
+            let device = device_of_accesses(plan.devices.as_slice(), x, x, size)?;
             Some(device.range.end())
         }
     }

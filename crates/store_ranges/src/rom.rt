@@ -8,7 +8,7 @@ ghost use Rattle.store_ranges.specs.Loads as loads;
 ghost use Rattle.store_ranges.specs.Loads.{IsLoadedRom};
 
 use elf_image::Image;
-use tcd_base::is_in_any_range;
+use tcd_base::is_in_one_range;
 use tcd_plan::Plan;
 
 /// Returns true if the `len` bytes from `addr` on are in one rom range and held by segments of the
@@ -40,7 +40,7 @@ fn is_in_rom(plan: &Plan, x: u32, n: u8) -> bool
     ensures value { result ≡ list_any (is_within_range x n) plan.now.rom }
     ensures fits { OnTrue result (x + n ≤ 2 ^ 32) }
 {
-    is_in_any_range(plan.rom.as_slice(), x, u32::from(n))
+    is_in_one_range(plan.rom.as_slice(), x, u32::from(n))
 }
 
 /// Returns true if segments of the image hold the `n` bytes from `x` on.

@@ -4,7 +4,7 @@ ghost use Rattle.tcd_text.specs.Lines.{text_lines};
 ghost use Rattle.task_chains.specs.declared.task_lists.TasksErr.TheVariants.{BadLine};
 ghost use Rattle.task_chains.specs.TaskListText.{IsFirstBadTaskLine, IsTasksDraftOf, IsTasksDraftAfterLine, IsErrOfTaskLine};
 
-use crate::lines::{Places, switch_places_in, task_pair_in_line};
+use crate::lines::{Places, switch_addresses_in, number_pair_in_line};
 use crate::{Task, TasksErr};
 use arrayvec::ArrayVec;
 use tcd_text::cut_line;
@@ -58,13 +58,13 @@ fn add_tasks_text_line(draft: &mut TasksDraft, number: u32, line: &[u8]) -> Resu
         return Ok(());
     }
     if draft.places.is_none() {
-        let Some(places) = switch_places_in(line) else {
+        let Some(places) = switch_addresses_in(line) else {
             return Err(TasksErr::BadLine(number));
         };
         draft.places = Some(places);
         return Ok(());
     }
-    let Some((entry, sp)) = task_pair_in_line(b"task".as_slice(), line) else {
+    let Some((entry, sp)) = number_pair_in_line(b"task".as_slice(), line) else {
         return Err(TasksErr::BadLine(number));
     };
     if draft.list.len() < MOST_TASKS {

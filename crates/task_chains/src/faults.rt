@@ -30,12 +30,12 @@ pub fn task_fault(view: &Image, plan: &Plan, tasks: &Tasks, cert: &Cert) -> Opti
         tasks,
     };
     let mut codes = KnownCodes::new();
-    let mut walk = PointWalk::none();
+    let mut walk = PointWalk::empty();
     for i in 0..cert.len() {
         let Some(node) = cert.get(i) else {
             unreachable!()
         };
-        if let Some(addr) = node_task_fault(&rule, &mut codes, &node, &mut walk) {
+        if let Some(addr) = first_fault_in_node(&rule, &mut codes, &node, &mut walk) {
             return Some((node.key, addr));
         }
     }
@@ -44,7 +44,7 @@ pub fn task_fault(view: &Image, plan: &Plan, tasks: &Tasks, cert: &Cert) -> Opti
 
 /// Returns the first address of a node's points at which K17, the rule on tasks, fails, or None if
 /// the rule holds at all of them.
-fn node_task_fault<'a>(
+fn first_fault_in_node<'a>(
     rule: &TasksRule,
     codes: &mut KnownCodes,
     node: &Node<'a>,
@@ -58,8 +58,8 @@ fn node_task_fault<'a>(
     ensures some { let r = rule.now in
         IfSome result (IsRule17NodeFault r.bounds.now r.view.now r.plan.now r.tasks.now node.now) }
 {
-    node.walk(walk);
-    while let Some(addr) = walk.step() {
+    node.start_walk(walk);
+    while let Some(addr) = walk.advance() {
         if !keeps_rule_17(rule, codes, &node.key, addr, walk.state()) {
             return Some(addr);
         }

@@ -24,7 +24,7 @@ pub fn safe_tasks_law()
 
 /// From plain equations: the machines that start tasks, the tasks that are ready for their first
 /// turn, and the tasks that fit a plan. A text has one list of tasks, or one error.
-pub fn tasks_in_words()
+pub fn task_guard_laws()
     ensures ready { EveryTaskIsReady }
     ensures fits { EveryPlanFits }
     ensures starts { EveryTasksStart }
@@ -33,7 +33,7 @@ pub fn tasks_in_words()
 
 /// What safe runs of tasks means, in plain equations: each state of a run has these parts, and they
 /// are all that is promised.
-pub fn safe_tasks_in_words()
+pub fn safe_task_guard_laws()
     ensures says { SafeTasksSay }
     ensures parts { TaskPartsAreSafe }
 {}

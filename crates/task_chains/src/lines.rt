@@ -13,10 +13,10 @@ pub struct Places {
 }
 
 /// Returns the addresses of a line `switch Y B`, if Y is even and B a multiple of 4.
-pub(crate) fn switch_places_in(line: &[u8]) -> Option<Places>
+pub(crate) fn switch_addresses_in(line: &[u8]) -> Option<Places>
     ensures { result ≡ switch_places_of line.now }
 {
-    match task_pair_in_line(b"switch".as_slice(), line) {
+    match number_pair_in_line(b"switch".as_slice(), line) {
         Some((switch, block)) if switch % 2 == 0 && block % 4 == 0 => Some(Places {
             switch,
             block,
@@ -28,7 +28,7 @@ pub(crate) fn switch_places_in(line: &[u8]) -> Option<Places>
 /// Returns the two numbers of a line `NAME X Y` of a text of tasks, or None if the line has another
 /// form or name.
 #[tactic(auto, using(crate::proofs::LineForms::more), unfolding(crate::specs::TaskListText::task_pair_of_words))]
-pub(crate) fn task_pair_in_line(name: &[u8], line: &[u8]) -> Option<(u32, u32)>
+pub(crate) fn number_pair_in_line(name: &[u8], line: &[u8]) -> Option<(u32, u32)>
     ensures { result ≡ task_pair_of_words name.now (line_words line.now) }
 {
     let Words::Three(word, x, y) = words_in(line) else {

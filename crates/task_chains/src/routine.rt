@@ -7,9 +7,9 @@ ghost use Rattle.tcd_base.specs.Ranges.{IsInOneRange};
 
 use crate::Tasks;
 use arrayvec::ArrayVec;
-use cfg_recover::is_code_in_rom;
+use cfg_recover::are_bytes_in_rom;
 use elf_image::Image;
-use tc_isa::{lower_half, upper_half};
+use tc_isa::{lower_half, adjusted_upper_half};
 use tcd_plan::Plan;
 
 /// The number of bytes of the routine: 18 instructions of four bytes.
@@ -43,7 +43,7 @@ pub(crate) fn routine_bytes_of_words(words: &[u32; 18]) -> [u8; 72]
 pub(crate) fn switch_routine_bytes(tasks: &Tasks) -> [u8; 72]
     ensures { result ≡ routine_bytes tasks.now }
 {
-    routine_bytes_of_words(&routine_words(tasks.list.len() as u32, tasks.block))
+    routine_bytes_of_words(&switch_routine_words(tasks.list.len() as u32, tasks.block))
 }
 
 /// Returns the first address of the switch routine at which the image doesn't have it: its bytes
@@ -82,11 +82,11 @@ pub(crate) fn view_routine_bytes(tasks: &Tasks) -> [u8; 72]
 }
 
 /// Returns the 18 instruction words of the switch routine for `n` tasks whose block is at `b`.
-fn routine_words(n: u32, b: u32) -> [u32; 18]
+fn switch_routine_words(n: u32, b: u32) -> [u32; 18]
     requires { n ≤ 7 }
     ensures { flat_map four_bytes result ≡ bytes_of_routine (switch_routine_of n b) }
 {
-    let upper = upper_half(b);
+    let upper = adjusted_upper_half(b);
     let lower = bol_offset_bits(lower_half(b));
     let count = bol_offset_bits(4 * n);
     [
@@ -118,7 +118,7 @@ fn has_routine_byte(image: &Image, plan: &Plan, tasks: &Tasks, i: u32, byte: u8)
     requires byte { slice_index (routine_bytes tasks.now) i ≡ byte }
     ensures { IsTrue result ↔ HasRoutineByte image.now plan.now tasks.now i }
 {
-    if !is_code_in_rom(plan, tasks.switch, i + 1) {
+    if !are_bytes_in_rom(plan, tasks.switch, i + 1) {
         return false;
     }
     image.has_byte(tasks.switch + i, byte)
@@ -130,7 +130,7 @@ fn view_routine_words(n: u32, b: u32) -> [u32; 18]
     requires { n ≤ 7 }
     ensures { flat_map four_bytes result ≡ bytes_of_routine (view_routine_of n b) }
 {
-    let upper = upper_half(b);
+    let upper = adjusted_upper_half(b);
     let lower = bol_offset_bits(lower_half(b));
     [
         0x0340_000D, // disable

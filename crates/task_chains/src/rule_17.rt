@@ -51,7 +51,7 @@ pub(crate) fn keeps_rule_17(
 
 /// Returns whether no access of `size` bytes (1, 2 or 4), at an address that is a word of the
 /// value, shares a byte with the `len` bytes from `from` on, as K17 asks of a load.
-pub(crate) fn are_accesses_apart(at: &Val, size: u8, from: u32, len: u32) -> bool
+pub(crate) fn are_accesses_outside(at: &Val, size: u8, from: u32, len: u32) -> bool
     requires at { IsWellFormed at.now }
     requires size { IsAccessSize size }
     requires some { 0 < len }
@@ -92,7 +92,7 @@ fn has_access_between(v: &Val, low: u32, high: u32) -> bool
     match v {
         Val::Set(words) => has_word_between(words.as_slice(), low, high),
         Val::Span { lo, last, step } => {
-            next_multiple_of_step(u64::from(low.max(*lo)), *step) <= u64::from(high.min(*last))
+            align_up(u64::from(low.max(*lo)), *step) <= u64::from(high.min(*last))
         }
     }
 }
@@ -110,7 +110,7 @@ fn has_word_between(words: &[u32], low: u32, high: u32) -> bool
 }
 
 /// Returns the least multiple of `2 ^ step` from `x` on, for the test of K17 on accesses.
-fn next_multiple_of_step(x: u64, step: u8) -> u64
+fn align_up(x: u64, step: u8) -> u64
     requires step { step ≤ 2 }
     requires small { x ≤ 2 ^ 32 }
     ensures { result ≡ (x + (2 ^ step - 1)) / 2 ^ step * 2 ^ step }
@@ -154,8 +154,8 @@ fn misses_areas_and_routine(b: &Bounds, plan: &Plan, tasks: &Tasks, s: &State, s
     match shape {
         Shape::Load { size, .. } => {
             let at = address_by_shape(b, plan, shape, s);
-            are_accesses_apart(&at, size, plan.csa_at, 64 * plan.areas)
-                && are_accesses_apart(&at, size, tasks.switch, ROUTINE_BYTES)
+            are_accesses_outside(&at, size, plan.csa_at, 64 * plan.areas)
+                && are_accesses_outside(&at, size, tasks.switch, ROUTINE_BYTES)
         }
         _ => true,
     }

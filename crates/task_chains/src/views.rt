@@ -21,7 +21,7 @@ pub fn view_image(alloc: Global, image: &Image, tasks: &Tasks, u: usize) -> Resu
 {
     let mut segments = Vec::new(alloc);
     for segment in &image.segments {
-        segments.push(segment_of_view(alloc, segment, tasks)?)?;
+        segments.push(view_segment(alloc, segment, tasks)?)?;
     }
     establish_segment_bytes(&segments);
     Ok(Image {
@@ -62,7 +62,7 @@ pub fn view_plan(plan: &Plan, tasks: &Tasks, u: usize) -> Plan
 
 /// Returns a copy of a segment for the image of a task's view, with the view's bytes in place of
 /// the switch routine's.
-fn segment_of_view(alloc: Global, segment: &Segment, tasks: &Tasks) -> Result<Segment, NoMemory>
+fn view_segment(alloc: Global, segment: &Segment, tasks: &Tasks) -> Result<Segment, NoMemory>
     ensures { IfOk result (λ s. segment_data s
         ≡ view_segment tasks.now (segment_data segment.now)) }
 {
@@ -80,13 +80,13 @@ fn write_view_routine(bytes: &mut [u8], at: u32, tasks: &Tasks)
 {
     let routine = view_routine_bytes(tasks);
     for (i, byte) in routine.iter().enumerate() {
-        put_view_byte(bytes, at, u64::from(tasks.switch) + i as u64, *byte);
+        write_view_byte(bytes, at, u64::from(tasks.switch) + i as u64, *byte);
     }
 }
 
 /// Writes a byte of the view's switch routine, that of address `x`, into a segment's bytes from
 /// address `at`, if they reach `x`.
-fn put_view_byte(bytes: &mut [u8], at: u32, x: u64, byte: u8)
+fn write_view_byte(bytes: &mut [u8], at: u32, x: u64, byte: u8)
     ensures { bytes.new ≡ (if nat_le at x && nat_lt (x - at) (length bytes.old)
         then set bytes.old (x - at) byte else bytes.old) }
 {

@@ -1,7 +1,7 @@
 // The draft of an object: the sections and symbols of the lines so far.
 use crate::encode::{assembled_code_size, first_assembled_bytes};
-use crate::rules::is_reloc;
-use crate::sections::{Part, add_part_use, extend_by_zeros, extend_part, number_of_part, part_len};
+use crate::rules::is_relocation_kind;
+use crate::sections::{Part, add_section_use, add_section_zeros, grow_section, section_number, section_len};
 use crate::symbols::{Place, Symbols};
 use std::alloc::{AllocError, Global};
 use std::marker::Model;
@@ -74,14 +74,14 @@ impl<'a> Draft<'a> {
         ensures { result ≡ next_byte_offset self.now }
     {
         if self.section < self.parts.len() {
-            part_len(&self.parts[self.section])
+            section_len(&self.parts[self.section])
         } else {
             0
         }
     }
 
     /// Whether the draft of an object has a current section.
-    pub fn has_section(&self) -> bool
+    pub fn has_current_section(&self) -> bool
         ensures { result ≡ has_section self.now }
     {
         self.section < self.parts.len()
@@ -100,8 +100,8 @@ impl<'a> Draft<'a> {
     pub(crate) fn add_bytes(&mut self, bytes: &[u8]) -> Result<(), AllocError>
         ensures { OnOk result (self.new ≡ with_bytes self.old bytes.now) }
     {
-        if self.has_section() && self.has_room(bytes.len()) {
-            extend_part(&mut self.parts, self.section, bytes)?;
+        if self.has_current_section() && self.has_room(bytes.len()) {
+            grow_section(&mut self.parts, self.section, bytes)?;
             self.total += bytes.len();
         }
         Ok(())
@@ -114,14 +114,14 @@ impl<'a> Draft<'a> {
     pub(crate) fn add_use(&mut self, size: usize, r: Reference<'a>) -> Result<(), AllocError>
         ensures { OnOk result (self.new ≡ with_use self.old size (reference_of r.entry)) }
     {
-        if self.has_section()
+        if self.has_current_section()
             && self.has_room(size)
             && size == 4
-            && is_reloc(r.kind)
+            && is_relocation_kind(r.kind)
             && self.count < MOST_RELOCS
         {
             let offset = self.next_byte_offset();
-            add_part_use(&mut self.parts, self.section, offset, r)?;
+            add_section_use(&mut self.parts, self.section, offset, r)?;
             self.count += 1;
         }
         Ok(())
@@ -197,9 +197,9 @@ impl<'a> Draft<'a> {
                 let r = Some(reference_to(WORD32, *name, *minus, *size));
                 self.scan_data(first_assembled_bytes(&[0; 4], *len), &r)?
             }
-            Item::Section(_) => self.scan_other(alloc, none, item)?,
-            Item::Global(_) => self.scan_other(alloc, none, item)?,
-            Item::Zeros(_) => self.scan_other(alloc, none, item)?,
+            Item::Section(_) => self.scan_other_item(alloc, none, item)?,
+            Item::Global(_) => self.scan_other_item(alloc, none, item)?,
+            Item::Zeros(_) => self.scan_other_item(alloc, none, item)?,
         }
         Ok(true)
     }
@@ -262,7 +262,7 @@ impl<'a> Draft<'a> {
         if !is_source_name(name) {
             return Ok(());
         }
-        let number = number_of_part(&self.parts, name);
+        let number = section_number(&self.parts, name);
         if number < self.parts.len() {
             self.section = number;
             return Ok(());
@@ -319,8 +319,8 @@ impl<'a> Draft<'a> {
     fn add_zeros(&mut self, n: usize) -> Result<(), AllocError>
         ensures { OnOk result (self.new ≡ with_bytes self.old (replicate n 0)) }
     {
-        if self.has_section() && self.has_room(n) {
-            extend_by_zeros(&mut self.parts, self.section, n)?;
+        if self.has_current_section() && self.has_room(n) {
+            add_section_zeros(&mut self.parts, self.section, n)?;
             self.total += n;
         }
         Ok(())
@@ -366,7 +366,7 @@ impl<'a> Draft<'a> {
 
     /// Extends the draft of the first pass by a section, a global name or zeros, with an empty
     /// table of labels.
-    fn scan_other(
+    fn scan_other_item(
         &mut self,
         alloc: Global,
         none: &Symbols<'a>,

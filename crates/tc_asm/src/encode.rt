@@ -76,7 +76,7 @@ impl<'a> Draft<'a> {
     /// Returns the fields of the draft's next instruction, of the row with this number, with its
     /// target resolved unless a relocation will fill it in.
     #[inline(always)]
-    pub(crate) fn resolve(
+    pub(crate) fn resolve_instruction(
         &self,
         labels: &Symbols<'a>,
         row: u8,
@@ -109,7 +109,7 @@ impl<'a> Draft<'a> {
         ensures { take result.len result.bytes
             ≡ code_bytes labels.now self.now row fields.now (option_map reference_of r.now) }
     {
-        let found = self.resolve(labels, row, fields, r);
+        let found = self.resolve_instruction(labels, row, fields, r);
         assembled_code(row, &found.fields)
     }
 
@@ -173,7 +173,7 @@ impl<'a> Draft<'a> {
         match labels.place(r.name) {
             None => None,
             Some(label) => {
-                if self.has_section() && label.section == self.section {
+                if self.has_current_section() && label.section == self.section {
                     let size = u128::from(r.size);
                     let here = self.next_byte_offset() as u128 + if r.minus { size } else { 0 };
                     let there = label.offset as u128 + if r.minus { 0 } else { size };

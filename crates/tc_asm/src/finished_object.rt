@@ -7,7 +7,7 @@ ghost use Rattle.tc_asm.specs.Symbols.{symbol as known_as};
 ghost use Rattle.tc_asm.specs.DraftInvariants.{IsDraft, IsSmallLabelPlace};
 
 use crate::draft::Draft;
-use crate::sections::{Part, Use, part_len};
+use crate::sections::{Part, Use, section_len};
 use crate::symbols::{Entry, Symbols};
 use std::alloc::{AllocError, Global};
 use tc_object::{
@@ -148,7 +148,7 @@ fn emit_sections(alloc: Global, parts: &[Part]) -> Result<Vec<Section>, AllocErr
     for i in 0..parts.len() {
         let part = &parts[i];
         let name = emit_name(alloc, part.name)?;
-        let bytes = emit_part_bytes(alloc, part)?;
+        let bytes = emit_section_bytes(alloc, part)?;
         out.push(Section { name, bytes })?;
     }
     Ok(out)
@@ -156,10 +156,10 @@ fn emit_sections(alloc: Global, parts: &[Part]) -> Result<Vec<Section>, AllocErr
 
 /// The bytes that the object gets from a section of the draft, with the zeros that are only
 /// counted.
-fn emit_part_bytes(alloc: Global, part: &Part) -> Result<Vec<u8>, AllocError>
+fn emit_section_bytes(alloc: Global, part: &Part) -> Result<Vec<u8>, AllocError>
     ensures { IfOk result (λ v. v.items ≡ (part_of part.now).bytes) }
 {
     let mut bytes = Vec::from_slice(alloc, &part.bytes)?;
-    bytes.resize(part_len(part), 0)?;
+    bytes.resize(section_len(part), 0)?;
     Ok(bytes)
 }

@@ -6,7 +6,7 @@ ghost use Rattle.tc_asm.specs.KnownSymbols.{kept, second_pass_rule};
 
 use crate::draft::Draft;
 use crate::encode::{assembled_code, first_assembled_bytes};
-use crate::sections::extend_part;
+use crate::sections::grow_section;
 use crate::symbols::Symbols;
 use std::alloc::{AllocError, Global};
 use tc_isa::{Fields, WORD32};
@@ -21,7 +21,7 @@ impl<'a> Draft<'a> {
 
     /// Adds an item, and returns the least rule that it breaks, or no rule. `labels` are the
     /// symbols of the whole source. If they are `known`, the draft is kept without symbols.
-    pub(crate) fn put_item(
+    pub(crate) fn add_checked(
         &mut self,
         alloc: Global,
         labels: &Symbols<'a>,
@@ -34,15 +34,15 @@ impl<'a> Draft<'a> {
             (λ rule. rule ≡ item_rule labels.now (kept known self.old) (item_of item.now)) }
     {
         if known {
-            self.put_item_without_symbol(alloc, labels, item)
+            self.add_checked_item_without_symbol(alloc, labels, item)
         } else {
-            self.put_item_with_symbol(alloc, labels, item)
+            self.add_checked_item_with_symbol(alloc, labels, item)
         }
     }
 
     // Adds an item to the draft, but no symbol, since the first pass found all. Returns the least
     // rule that the item breaks.
-    fn put_item_without_symbol(
+    fn add_checked_item_without_symbol(
         &mut self,
         alloc: Global,
         labels: &Symbols<'a>,
@@ -57,18 +57,18 @@ impl<'a> Draft<'a> {
         match item {
             Item::Label(name) => Ok(self.known_label_rule(labels, *name)),
             Item::Global(name) => Ok(self.known_global_rule(labels, *name)),
-            Item::Code(row, fields) => self.put_plain_code(labels, *row, fields),
+            Item::Code(row, fields) => self.add_checked_code(labels, *row, fields),
             Item::Linked(row, kind, minus, fields, size, name) => {
                 let r = reference_to(*kind, *name, *minus, *size);
-                self.put_code_with_symbol(labels, *row, fields, r)
+                self.add_checked_code_with_symbol(labels, *row, fields, r)
             }
-            Item::Data(len, bytes) => self.put_plain_bytes(first_assembled_bytes(bytes, *len)),
+            Item::Data(len, bytes) => self.add_checked_bytes(first_assembled_bytes(bytes, *len)),
             Item::Word(len, minus, size, name) => {
                 let r = reference_to(WORD32, *name, *minus, *size);
-                self.put_bytes_with_symbol(first_assembled_bytes(&[0; 4], *len), r)
+                self.add_checked_symbol_bytes(first_assembled_bytes(&[0; 4], *len), r)
             }
-            Item::Section(_) => self.put_item_with_symbol(alloc, labels, item),
-            Item::Zeros(_) => self.put_item_with_symbol(alloc, labels, item),
+            Item::Section(_) => self.add_checked_item_with_symbol(alloc, labels, item),
+            Item::Zeros(_) => self.add_checked_item_with_symbol(alloc, labels, item),
         }
     }
 
@@ -92,7 +92,7 @@ impl<'a> Draft<'a> {
 
     // Adds an instruction without a symbol, and returns the least rule that it breaks.
     #[inline(always)]
-    fn put_plain_code(
+    fn add_checked_code(
         &mut self,
         labels: &Symbols<'a>,
         row: u8,
@@ -104,14 +104,14 @@ impl<'a> Draft<'a> {
             (λ rule. rule ≡ item_rule labels.now self.old (code row fields.now None)) }
     {
         let code = assembled_code(row, fields);
-        let rule = self.put_plain_bytes(first_assembled_bytes(&code.bytes, code.len))?;
+        let rule = self.add_checked_bytes(first_assembled_bytes(&code.bytes, code.len))?;
         // There is no target that breaks a rule.
         Ok(NO_RULE.min(rule))
     }
 
     // Adds an instruction with a symbol that is known, and returns the least rule that it breaks.
     #[tactic(auto, unfolding(crate::specs::Rules::item_rule, crate::specs::Drafts::draft_after_item, crate::specs::Drafts::code_bytes))]
-    fn put_code_with_symbol(
+    fn add_checked_code_with_symbol(
         &mut self,
         labels: &Symbols<'a>,
         row: u8,
@@ -124,15 +124,15 @@ impl<'a> Draft<'a> {
         ensures rule { IfOk result (λ rule. rule ≡ item_rule labels.now (without_symbols self.old)
             (code row fields.now (Some (reference_of r.entry)))) }
     {
-        let found = self.resolve(labels, row, fields, &Some(r));
+        let found = self.resolve_instruction(labels, row, fields, &Some(r));
         let code = assembled_code(row, &found.fields);
-        let rule = self.put_bytes_with_symbol(first_assembled_bytes(&code.bytes, code.len), r)?;
+        let rule = self.add_checked_symbol_bytes(first_assembled_bytes(&code.bytes, code.len), r)?;
         Ok(found.rule.min(rule))
     }
 
     // Adds bytes with a symbol that is known, and returns the least rule that they break.
     #[inline(never)]
-    fn put_bytes_with_symbol(&mut self, bytes: &[u8], r: Reference<'a>) -> Result<u8, AllocError>
+    fn add_checked_symbol_bytes(&mut self, bytes: &[u8], r: Reference<'a>) -> Result<u8, AllocError>
         ensures draft { OnOk result (without_symbols self.new
             ≡ without_symbols (with_content self.old bytes.now (Some (reference_of r.entry)))) }
         ensures rule { IfOk result (λ rule. rule ≡ content_rule (without_symbols self.old)
@@ -149,7 +149,7 @@ impl<'a> Draft<'a> {
 
     // Adds an item to the draft, with its symbol if it has one, and returns the least rule that the
     // item breaks.
-    fn put_item_with_symbol(
+    fn add_checked_item_with_symbol(
         &mut self,
         alloc: Global,
         labels: &Symbols<'a>,
@@ -168,13 +168,13 @@ impl<'a> Draft<'a> {
     // Adds bytes without a symbol, and returns the least rule that they break.
     #[inline(never)]
     #[tactic(auto, unfolding(crate::specs::Drafts::with_bytes))]
-    fn put_plain_bytes(&mut self, bytes: &[u8]) -> Result<u8, AllocError>
+    fn add_checked_bytes(&mut self, bytes: &[u8]) -> Result<u8, AllocError>
         ensures draft { OnOk result (self.new ≡ with_bytes self.old bytes.now) }
         ensures rule { IfOk result
             (λ rule. rule ≡ content_rule self.old (length bytes.now) None) }
     {
-        if self.has_section() && self.has_room(bytes.len()) {
-            extend_part(&mut self.parts, self.section, bytes)?;
+        if self.has_current_section() && self.has_room(bytes.len()) {
+            grow_section(&mut self.parts, self.section, bytes)?;
             self.total += bytes.len();
             return Ok(NO_RULE);
         }
@@ -196,7 +196,7 @@ impl<'a> Draft<'a> {
 
 /// Puts items into a draft one after another, each checked, and returns the least rule that they
 /// break.
-pub(crate) fn put_items<'a>(
+pub(crate) fn add_checked_items<'a>(
     alloc: Global,
     draft: &mut Draft<'a>,
     labels: &Symbols<'a>,
@@ -210,7 +210,7 @@ pub(crate) fn put_items<'a>(
 {
     let mut rule = NO_RULE;
     for item in items {
-        rule = draft.put_item(alloc, labels, known, item)?.min(rule);
+        rule = draft.add_checked(alloc, labels, known, item)?.min(rule);
     }
     Ok(rule)
 }

@@ -4,7 +4,7 @@ ghost use Rattle.tc_isa.specs.Relocations.{is_relocation_kind as needs_reloc};
 
 use crate::draft::{Draft, MOST_RELOCS, MOST_SECTIONS};
 use crate::encode::first_assembled_bytes;
-use crate::sections::number_of_part;
+use crate::sections::section_number;
 use crate::symbols::Symbols;
 use tc_isa::{Fields, REL24, WORD32};
 use tc_stmt::{
@@ -16,7 +16,7 @@ use tc_stmt::{
 const MOST_SYMBOLS: usize = 65535;
 
 /// Whether this is the kind of a relocation. Rule 13 limits the number of relocations.
-pub(crate) fn is_reloc(kind: u8) -> bool
+pub(crate) fn is_relocation_kind(kind: u8) -> bool
     ensures { result ≡ needs_reloc kind }
 {
     REL24 <= kind && kind <= WORD32
@@ -33,7 +33,7 @@ impl<'a> Draft<'a> {
     pub(crate) fn section_rule(&self) -> u8
         ensures { result ≡ section_rule self.now }
     {
-        if self.has_section() {
+        if self.has_current_section() {
             NO_RULE
         } else {
             NO_SECTION
@@ -63,7 +63,7 @@ impl<'a> Draft<'a> {
     pub(crate) fn reloc_limit_rule(&self, r: Reference<'a>) -> u8
         ensures { result ≡ reloc_limit_rule self.now (reference_of r.entry) }
     {
-        if is_reloc(r.kind) && self.count >= MOST_RELOCS {
+        if is_relocation_kind(r.kind) && self.count >= MOST_RELOCS {
             PAST_LIMITS
         } else {
             NO_RULE
@@ -175,7 +175,7 @@ impl<'a> Draft<'a> {
     fn section_limit_rule(&self, name: &[u8]) -> u8
         ensures { result ≡ section_limit_rule self.now name.now }
     {
-        let known = number_of_part(&self.parts, name) < self.parts.len();
+        let known = section_number(&self.parts, name) < self.parts.len();
         if known || self.parts.len() < MOST_SECTIONS {
             NO_RULE
         } else {
@@ -197,7 +197,7 @@ impl<'a> Draft<'a> {
         ensures { result
             ≡ item_rule labels.now self.now (code row fields.now (option_map reference_of r.now)) }
     {
-        let target = self.resolve(labels, row, fields, r).rule;
+        let target = self.resolve_instruction(labels, row, fields, r).rule;
         let code = self.code_bytes(labels, row, fields, r);
         let len = first_assembled_bytes(&code.bytes, code.len).len();
         target.min(self.content_rule(len, r))

@@ -33,18 +33,18 @@ pub struct Part<'a> {
 }
 
 /// The number of the draft's section with this name, or the number of sections if none has it.
-pub(crate) fn number_of_part(parts: &[Part], name: &[u8]) -> usize
+pub(crate) fn section_number(parts: &[Part], name: &[u8]) -> usize
     ensures value { result ≡ number_of_part (map part_of parts.now) name.now }
     ensures within { result ≤ length parts.now }
 {
-    match find_part(parts, name) {
+    match find_section(parts, name) {
         Some(i) => i,
         None => parts.len(),
     }
 }
 
 /// The number of bytes of a section so far.
-pub(crate) fn part_len(part: &Part) -> usize
+pub(crate) fn section_len(part: &Part) -> usize
     ensures { result ≡ length (part_of part.now).bytes }
 {
     part.bytes.len() + part.zeros as usize
@@ -52,7 +52,7 @@ pub(crate) fn part_len(part: &Part) -> usize
 
 /// Adds bytes at the end of section `i` of a draft.
 #[inline(always)]
-pub(crate) fn extend_part(parts: &mut Vec<Part>, i: usize, bytes: &[u8]) -> Result<(), AllocError>
+pub(crate) fn grow_section(parts: &mut Vec<Part>, i: usize, bytes: &[u8]) -> Result<(), AllocError>
     requires { i < length parts.old.items }
     ensures { OnOk result
         (map part_of parts.new.items ≡ with_part_bytes (map part_of parts.old.items) i bytes.now) }
@@ -64,7 +64,7 @@ pub(crate) fn extend_part(parts: &mut Vec<Part>, i: usize, bytes: &[u8]) -> Resu
 }
 
 /// Adds `n` zeros at the end of section `i` of a draft. They are only counted.
-pub(crate) fn extend_by_zeros(parts: &mut Vec<Part>, i: usize, n: usize) -> Result<(), AllocError>
+pub(crate) fn add_section_zeros(parts: &mut Vec<Part>, i: usize, n: usize) -> Result<(), AllocError>
     requires place { i < length parts.old.items }
     requires few { n ≤ 2 ^ 24 }
     ensures { OnOk result
@@ -78,7 +78,7 @@ pub(crate) fn extend_by_zeros(parts: &mut Vec<Part>, i: usize, n: usize) -> Resu
 }
 
 /// Notes that the four bytes at `offset` in section `i` of a draft wait for the value of a symbol.
-pub(crate) fn add_part_use<'a>(
+pub(crate) fn add_section_use<'a>(
     parts: &mut Vec<Part<'a>>,
     i: usize,
     offset: usize,
@@ -100,14 +100,14 @@ pub(crate) fn write_counted_zeros(part: &mut Part) -> Result<(), AllocError>
     ensures same { OnOk result (part_of part.new ≡ part_of part.old) }
     ensures none { OnOk result (part.new.zeros ≡ 0) }
 {
-    let len = part_len(part);
+    let len = section_len(part);
     part.bytes.resize(len, 0)?;
     part.zeros = 0;
     Ok(())
 }
 
 /// The number of the section with this name, if one has it.
-fn find_part(parts: &[Part], name: &[u8]) -> Option<usize>
+fn find_section(parts: &[Part], name: &[u8]) -> Option<usize>
     ensures { result ≡ position (λ p. bytes_eq name.now p.name.now) parts.now }
 {
     parts.iter().position(|p| are_same_bytes(name, p.name))

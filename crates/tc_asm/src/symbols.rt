@@ -109,7 +109,7 @@ impl<'a> Symbols<'a> {
     pub fn place(&self, name: &[u8]) -> Option<Place>
         ensures { result ≡ place_in self.now name.now }
     {
-        self.entry_of(name).place
+        self.entry_or_undefined(name).place
     }
 
     /// Adds a name that is used to the assembler's table of symbols, if it isn't there.
@@ -120,7 +120,7 @@ impl<'a> Symbols<'a> {
         if self.get(name).is_some() {
             return Ok(());
         }
-        self.put(name, UNSEEN)?;
+        self.insert(name, UNSEEN)?;
         Ok(())
     }
 
@@ -139,10 +139,10 @@ impl<'a> Symbols<'a> {
             place: Some(place),
             is_global: false,
         };
-        match self.put(name, new)? {
+        match self.insert(name, new)? {
             None => Ok(None),
             Some(old) => {
-                self.put(name, entry_with_label(old, place))?;
+                self.insert(name, entry_with_label(old, place))?;
                 Ok(old.place)
             }
         }
@@ -154,15 +154,15 @@ impl<'a> Symbols<'a> {
     pub fn make_global(&mut self, name: &'a [u8]) -> Result<(), AllocError>
         ensures { OnOk result (self.new ≡ with_global_symbol self.old name.entry.now) }
     {
-        let mut entry = self.entry_of(name);
+        let mut entry = self.entry_or_undefined(name);
         entry.is_global = true;
-        self.put(name, entry)?;
+        self.insert(name, entry)?;
         Ok(())
     }
 
     /// The entry of a name in the assembler's table of symbols, or `UNSEEN` if it isn't in the
     /// table.
-    fn entry_of(&self, name: &[u8]) -> Entry
+    fn entry_or_undefined(&self, name: &[u8]) -> Entry
         ensures { result ≡ entry_of self.now name.now }
     {
         self.get(name).unwrap_or(UNSEEN)
@@ -170,7 +170,7 @@ impl<'a> Symbols<'a> {
 
     // Sets the entry of a name in the assembler's table of symbols, and returns the entry before,
     // if there was one.
-    fn put(&mut self, name: &'a [u8], entry: Entry) -> Result<Option<Entry>, AllocError>
+    fn insert(&mut self, name: &'a [u8], entry: Entry) -> Result<Option<Entry>, AllocError>
         ensures put { OnOk result (self.new ≡ put_entry self.old name.entry.now entry) }
         ensures old { IfOk result (λ old. old ≡ entry_in self.old name.entry.now) }
     {

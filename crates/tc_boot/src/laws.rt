@@ -11,7 +11,7 @@ pub fn boot_reaches_the_start()
 /// Consequences of this crate's definitions in plain equations: the machines at reset, the
 /// addresses of a machine that boots, and what a safe boot promises. The test of a boot sequence
 /// has a single answer.
-pub fn boots_in_words()
+pub fn boot_guard_laws()
     ensures reset { AllAreAtReset }
     ensures inside { BootsStayInSequence }
     ensures safe { EveryBootIsSafe }

@@ -5,7 +5,7 @@ ghost use Rattle.elf_image.specs.Images.{segment_data, is_segment};
 ghost use Rattle.tc_disasm.specs.Listing.{section_text, listing_sections_from, listing_of};
 ghost use Rattle.tc_disasm.specs.LentSegments.{lent_segment_data};
 
-use crate::lines::append_lines;
+use crate::lines::append_listing;
 use crate::ordering::segments_in_listing_order;
 use crate::texts::append_listing_decimal;
 use elf_image::{Image, Segment};
@@ -58,5 +58,5 @@ fn append_section(text: &mut String, number: u32, segment: &Segment) -> Result<(
     append_str(text, " # ")?;
     append_hex_word(text, segment.at)?;
     append_str(text, "\n")?;
-    append_lines(text, segment.at, &segment.bytes)
+    append_listing(text, segment.at, &segment.bytes)
 }

@@ -25,12 +25,12 @@ pub(crate) fn append_instruction(text: &mut String, inst: &Inst) -> Result<(), N
         n: inst.n,
         k: inst.k,
     };
-    append_row(text, &rows()[place], wants()[place], &fields)
+    append_row_text(text, &rows()[place], wants()[place], &fields)
 }
 
 /// Appends the text of an instruction of this row: its name, and its operands.
 #[tactic(auto, unfolding(crate::specs::Texts::row_text))]
-fn append_row(text: &mut String, row: &Row, wants: &[Want], f: &Fields) -> Result<(), NoMemory>
+fn append_row_text(text: &mut String, row: &Row, wants: &[Want], f: &Fields) -> Result<(), NoMemory>
     requires wants { wants.now ≡ wants_of (row_of row.now) }
     requires fits { AreFieldsBelow f.now (bounds row.now.form) }
     ensures { OnOk result

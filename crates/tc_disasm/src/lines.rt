@@ -12,7 +12,7 @@ use tcd_base::NoMemory;
 use tcd_text::{append_ascii, append_hex_byte, append_str, hex_byte, hex_word};
 
 /// Appends the lines of bytes that begin at an address. The time is linear in their number.
-pub(crate) fn append_lines(text: &mut String, address: u32, bytes: &[u8]) -> Result<(), NoMemory>
+pub(crate) fn append_listing(text: &mut String, address: u32, bytes: &[u8]) -> Result<(), NoMemory>
     requires { address + length bytes.now ≤ 2 ^ 32 }
     ensures { OnOk result
         (string_bytes text.new ≡ string_bytes text.old ++ listing_lines_from address bytes.now 0) }
@@ -54,15 +54,15 @@ fn append_line(text: &mut String, address: u32, bytes: &[u8]) -> Result<usize, N
     ensures some { IfOk result (λ n. 0 < n) }
     ensures within { IfOk result (λ n. n ≤ length bytes.now) }
 {
-    let size = append_listed_text(text, bytes)?;
-    append_remark(text, address, &bytes[..size])?;
+    let size = append_instruction_or_data(text, bytes)?;
+    append_comment(text, address, &bytes[..size])?;
     Ok(size)
 }
 
 // Appends the first instruction of these bytes, or data if there is none, to a listing as text, and
 // returns its size in bytes.
 #[tactic(auto, unfolding(crate::specs::Listing::listed_text_at, crate::specs::Listing::listed_size_at))]
-fn append_listed_text(text: &mut String, bytes: &[u8]) -> Result<usize, NoMemory>
+fn append_instruction_or_data(text: &mut String, bytes: &[u8]) -> Result<usize, NoMemory>
     requires { 0 < length bytes.now }
     ensures text { OnOk result
         (string_bytes text.new ≡ string_bytes text.old ++ listed_text_at bytes.now) }
@@ -84,14 +84,14 @@ fn append_listed_text(text: &mut String, bytes: &[u8]) -> Result<usize, NoMemory
 
 /// Appends the comment of a line: an address, its bytes and a line feed.
 #[tactic(auto, unfolding(crate::specs::Listing::listing_remark))]
-fn append_remark(text: &mut String, address: u32, bytes: &[u8]) -> Result<(), NoMemory>
+fn append_comment(text: &mut String, address: u32, bytes: &[u8]) -> Result<(), NoMemory>
     ensures { OnOk result
         (string_bytes text.new ≡ string_bytes text.old ++ listing_remark address bytes.now) }
 {
     match bytes {
-        [a, b] => append_half_remark(text, address, *a, *b),
-        [a, b, c, d] => append_four_remark(text, address, *a, *b, *c, *d),
-        _ => append_long_remark(text, address, bytes),
+        [a, b] => append_two_byte_comment(text, address, *a, *b),
+        [a, b, c, d] => append_four_byte_comment(text, address, *a, *b, *c, *d),
+        _ => append_long_comment(text, address, bytes),
     }
 }
 
@@ -114,7 +114,7 @@ fn append_data(text: &mut String, bytes: &[u8]) -> Result<(), NoMemory>
 }
 
 /// Appends the comment of a line: an address, two bytes and a line feed.
-fn append_half_remark(text: &mut String, address: u32, a: u8, b: u8) -> Result<(), NoMemory>
+fn append_two_byte_comment(text: &mut String, address: u32, a: u8, b: u8) -> Result<(), NoMemory>
     ensures { OnOk result (string_bytes text.new ≡ string_bytes text.old ++ (codes " # "
         ++ (hex_word address ++ (32 ∷ (hex_byte a ++ (hex_byte b ++ (10 ∷ []))))))) }
 {
@@ -129,7 +129,7 @@ fn append_half_remark(text: &mut String, address: u32, a: u8, b: u8) -> Result<(
 }
 
 /// Appends the comment of a line: an address, four bytes and a line feed.
-fn append_four_remark(
+fn append_four_byte_comment(
     text: &mut String,
     address: u32,
     a: u8,
@@ -155,17 +155,17 @@ fn append_four_remark(
 
 /// Appends the comment of a line: an address, any number of bytes and a line feed.
 #[tactic(auto, unfolding(crate::specs::Listing::listing_remark))]
-fn append_long_remark(text: &mut String, address: u32, bytes: &[u8]) -> Result<(), NoMemory>
+fn append_long_comment(text: &mut String, address: u32, bytes: &[u8]) -> Result<(), NoMemory>
     ensures { OnOk result
         (string_bytes text.new ≡ string_bytes text.old ++ listing_remark address bytes.now) }
 {
     append_listing_address(text, address)?;
-    append_remark_bytes(text, bytes)?;
+    append_hex_bytes(text, bytes)?;
     append_str(text, "\n")
 }
 
 // Appends bytes to a listing, each as two hex digits.
-fn append_remark_bytes(text: &mut String, bytes: &[u8]) -> Result<(), NoMemory>
+fn append_hex_bytes(text: &mut String, bytes: &[u8]) -> Result<(), NoMemory>
     ensures { OnOk result (string_bytes text.new
         ≡ string_bytes text.old ++ flat_map hex_byte bytes.now) }
 {

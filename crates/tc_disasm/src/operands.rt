@@ -10,7 +10,7 @@ ghost use Rattle.tc_stmt.specs.Displacements.{is_two_way};
 ghost use Rattle.std.specs.List.{flat_map};
 
 use crate::texts::append_listing_decimal;
-use tc_isa::{Fields, Form, bounds_of};
+use tc_isa::{Fields, Form, field_bounds};
 use tc_stmt::{Field, Want, field_of, wants};
 use tcd_base::NoMemory;
 use tcd_text::{append_hex_word, append_str};
@@ -31,10 +31,10 @@ pub(crate) fn append_operand(
     match want {
         Want::Reg(bank, field) => append_register(text, bank, field_of(field, f)),
         Want::A10 => append_str(text, "a10"),
-        Want::Number(signed, field) => append_field(text, signed, field, form, f),
-        Want::Target => append_target(text, is_two_way(form), bounds_of(form).k, f.k),
-        Want::Absolute => append_absolute(text, form, f),
-        Want::Memory(plus, offset) => append_memory(text, form, f, plus, offset),
+        Want::Number(signed, field) => append_constant_operand(text, signed, field, form, f),
+        Want::Target => append_target_operand(text, can_jump_back(form), field_bounds(form).k, f.k),
+        Want::Absolute => append_absolute_operand(text, form, f),
+        Want::Memory(plus, offset) => append_memory_operand(text, form, f, plus, offset),
     }
 }
 
@@ -69,7 +69,7 @@ fn append_register(text: &mut String, is_address: bool, n: u32) -> Result<(), No
 }
 
 /// Appends the field of an operand as a constant in decimal.
-fn append_field(
+fn append_constant_operand(
     text: &mut String,
     signed: bool,
     field: Field,
@@ -85,14 +85,14 @@ fn append_field(
     append_number(
         text,
         signed,
-        field_of(field, &bounds_of(form)),
+        field_of(field, &field_bounds(form)),
         field_of(field, f),
     )
 }
 
 /// Appends the target of a jump: `.+` or `.-`, and a number of bytes.
 #[tactic(auto, unfolding(crate::specs::Texts::target_text))]
-fn append_target(text: &mut String, both: bool, bound: u32, k: u32) -> Result<(), NoMemory>
+fn append_target_operand(text: &mut String, both: bool, bound: u32, k: u32) -> Result<(), NoMemory>
     requires within { k ≤ bound }
     requires small { bound ≤ 2 ^ 24 }
     ensures { OnOk result
@@ -110,7 +110,7 @@ fn append_target(text: &mut String, both: bool, bound: u32, k: u32) -> Result<()
 /// Returns true if the text of a target operand may have a `-`: a displacement of this form can be
 /// negative.
 #[tactic(auto, unfolding(tc_stmt::specs::Displacements::is_two_way, tc_isa::specs::Forms::form_index))]
-fn is_two_way(form: Form) -> bool
+fn can_jump_back(form: Form) -> bool
     ensures { result ≡ is_two_way form }
 {
     match form {
@@ -124,7 +124,7 @@ fn is_two_way(form: Form) -> bool
 
 /// Appends an absolute address as an operand: `0x` and eight hex digits.
 #[tactic(auto, unfolding(crate::specs::Texts::absolute_text))]
-fn append_absolute(text: &mut String, form: Form, f: &Fields) -> Result<(), NoMemory>
+fn append_absolute_operand(text: &mut String, form: Form, f: &Fields) -> Result<(), NoMemory>
     ensures { OnOk result
         (string_bytes text.new ≡ string_bytes text.old ++ absolute_text form f.now) }
 {
@@ -135,7 +135,7 @@ fn append_absolute(text: &mut String, form: Form, f: &Fields) -> Result<(), NoMe
 /// Appends a memory operand: its base register, `[aN]` or `[aN+]`, and its offset if the row has
 /// one.
 #[tactic(auto, unfolding(crate::specs::Texts::operand_text, crate::specs::Texts::base_text))]
-fn append_memory(
+fn append_memory_operand(
     text: &mut String,
     form: Form,
     f: &Fields,
@@ -151,7 +151,7 @@ fn append_memory(
     append_register(text, true, u32::from(f.s2))?;
     append_str(text, if plus { "+]" } else { "]" })?;
     if offset {
-        append_number(text, true, bounds_of(form).k, f.k)?;
+        append_number(text, true, field_bounds(form).k, f.k)?;
     }
     Ok(())
 }
@@ -180,15 +180,15 @@ fn absolute_operand_address(form: Form, f: &Fields) -> u32
     match form {
         Form::Abs => f.k / 16384 % 16 * 268_435_456 + f.k % 16384,
         Form::Rlc | Form::Rr | Form::Rc | Form::Bol | Form::Bo | Form::Brr | Form::Brc | Form::B =>
-            code_address(f),
+            code_operand_address(f),
         Form::Sys | Form::Sr | Form::Sc | Form::Sb | Form::Sbr | Form::Src | Form::Srr =>
-            code_address(f),
-        Form::Slr | Form::Ssr => code_address(f),
+            code_operand_address(f),
+        Form::Slr | Form::Ssr => code_operand_address(f),
     }
 }
 
 /// The address of code that the 24 bits of k encode, for an operand of a B row.
-fn code_address(f: &Fields) -> u32
+fn code_operand_address(f: &Fields) -> u32
     ensures { result ≡ code_address_in_constant f.now }
 {
     f.k / 1_048_576 % 16 * 268_435_456 + f.k % 1_048_576 * 2

@@ -22,12 +22,12 @@ pub fn completion(first: u8, n: u8, part: u32) -> Option<Inst>
 {
     let (starts, ends) = index_by_first_byte();
     let place = usize::from(first);
-    completion_between(starts[place], ends[place], first, n, part)
+    completion_in_rows(starts[place], ends[place], first, n, part)
 }
 
 /// Returns an instruction of more than `n` bytes that begins with these, of the table's rows `from`
 /// up to before `to`.
-fn completion_between(from: u8, to: u8, first: u8, n: u8, part: u32) -> Option<Inst>
+fn completion_in_rows(from: u8, to: u8, first: u8, n: u8, part: u32) -> Option<Inst>
     requires places { to ≤ ROW_COUNT }
     requires low { 1 ≤ n }
     requires high { n < decoded_length first }
@@ -38,7 +38,7 @@ fn completion_between(from: u8, to: u8, first: u8, n: u8, part: u32) -> Option<I
         ((i : InstData) → IsCompletionOf n part i → from ≤ i.row → i.row < to → ⊥) }
 {
     for place in from..to {
-        if let Some(found) = completion_at(place, first, n, part) {
+        if let Some(found) = completion_at_row(place, first, n, part) {
             return Some(found);
         }
     }
@@ -47,7 +47,7 @@ fn completion_between(from: u8, to: u8, first: u8, n: u8, part: u32) -> Option<I
 
 /// Returns an instruction of more than `n` bytes that begins with these, of the table's row at this
 /// place.
-fn completion_at(place: u8, first: u8, n: u8, part: u32) -> Option<Inst>
+fn completion_at_row(place: u8, first: u8, n: u8, part: u32) -> Option<Inst>
     requires place { place < ROW_COUNT }
     requires low { 1 ≤ n }
     requires high { n < decoded_length first }
@@ -75,7 +75,7 @@ fn completion_in_row(place: u8, row: &Row, n: u8, part: u32) -> Option<Inst>
     ensures none { IfNone result ((i : InstData) → IsCompletionOf n part i → i.row ≡ place → ⊥) }
 {
     let rest = word_of_fields(row.form, row.op1, row.op2, &least_completion_fields(row));
-    let span = word_part_span(n);
+    let span = power_of_256(n);
     decode_row_word(place, row, part + rest / span * span)
 }
 
@@ -99,7 +99,7 @@ fn least_completion_fields(row: &Row) -> Fields
 
 /// Returns the number of values of the low `n` bytes of an instruction's word, which a completion
 /// keeps: 256 to the power of `n`.
-fn word_part_span(n: u8) -> u32
+fn power_of_256(n: u8) -> u32
     requires low { 1 ≤ n }
     requires high { n ≤ 3 }
     ensures span { result ≡ word_part_span n }

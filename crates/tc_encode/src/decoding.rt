@@ -60,23 +60,23 @@ fn decode_by_first_byte(bytes: &[u8]) -> Result<(Inst, usize), DecodeErr>
     match bytes {
         [] => Err(DecodeErr::Short),
         [a, ..] => if a % 2 == 1 {
-            decode_long(bytes)
+            decode_32_bit(bytes)
         } else {
-            decode_short(bytes)
+            decode_16_bit(bytes)
         },
     }
 }
 
 /// Decodes bytes of which the first is odd, as in all instructions of 32 bits.
-fn decode_long(bytes: &[u8]) -> Result<(Inst, usize), DecodeErr>
+fn decode_32_bit(bytes: &[u8]) -> Result<(Inst, usize), DecodeErr>
     requires { slice_index bytes.now 0 % 2 ≡ 1 }
     ensures { result ≡ decoded_of bytes.now }
 {
     match bytes {
         [] => Err(DecodeErr::Short),
-        [a] => Err(decode_refusal(*a, 1, u32::from(*a))),
-        [a, b] => Err(decode_refusal(*a, 2, u32::from(*a) + u32::from(*b) * 256)),
-        [a, b, c] => Err(decode_refusal(
+        [a] => Err(decode_error(*a, 1, u32::from(*a))),
+        [a, b] => Err(decode_error(*a, 2, u32::from(*a) + u32::from(*b) * 256)),
+        [a, b, c] => Err(decode_error(
             *a,
             3,
             u32::from(*a) + u32::from(*b) * 256 + u32::from(*c) * 65536,
@@ -86,19 +86,19 @@ fn decode_long(bytes: &[u8]) -> Result<(Inst, usize), DecodeErr>
 }
 
 /// Decodes bytes of which the first is even, as in all instructions of 16 bits.
-fn decode_short(bytes: &[u8]) -> Result<(Inst, usize), DecodeErr>
+fn decode_16_bit(bytes: &[u8]) -> Result<(Inst, usize), DecodeErr>
     requires { slice_index bytes.now 0 % 2 ≡ 0 }
     ensures { result ≡ decoded_of bytes.now }
 {
     match bytes {
         [] => Err(DecodeErr::Short),
-        [a] => Err(decode_refusal(*a, 1, u32::from(*a))),
+        [a] => Err(decode_error(*a, 1, u32::from(*a))),
         [a, b, ..] => decode_two_bytes(*a, *b),
     }
 }
 
 /// Returns why these `n` bytes, as the number `part`, are no instruction: too few, or not listed.
-fn decode_refusal(first: u8, n: u8, part: u32) -> DecodeErr
+fn decode_error(first: u8, n: u8, part: u32) -> DecodeErr
     requires low { 1 ≤ n }
     requires high { n < decoded_length first }
     requires first { first ≡ part % 256 }

@@ -242,7 +242,7 @@ static PLAIN: [bool; ROW_COUNT] = [
 
 /// Returns for each row of the index, by its place, whether it has all fields of its form.
 #[tactic(auto, unfolding(tc_isa::specs::Forms::bounds))]
-pub fn plain_rows() -> &'static [bool; ROW_COUNT]
+pub fn full_rows() -> &'static [bool; ROW_COUNT]
     ensures { result.now ≡ map is_plain_row listed }
 {
     &PLAIN
@@ -250,7 +250,7 @@ pub fn plain_rows() -> &'static [bool; ROW_COUNT]
 
 /// Returns the place in the table of the row with these two codes. If no row has them, the answer
 /// means nothing.
-pub(crate) fn place_in_code_index(first: u8, second: u8) -> Option<u8>
+pub(crate) fn row_number_by_codes(first: u8, second: u8) -> Option<u8>
     ensures within { IfSome result (λ p. p < ROW_COUNT) }
     ensures only { (place : ℕ) (r : RowData) → slice_get listed place ≡ Some r → r.op1 ≡ first
         → r.op2 ≡ second → result ≡ Some place }

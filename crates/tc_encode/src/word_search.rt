@@ -8,9 +8,9 @@ ghost use Rattle.tc_isa.specs.Insts.{InstData};
 ghost use Rattle.tc_encode.specs.WordSearch.{IsWordOf, are_unused_bits_zero};
 
 use crate::forms::{fields_of_word, second_code};
-use crate::index::{form_of_first_byte, index_by_codes, place_in_code_index, plain_rows};
+use crate::index::{form_of_first_byte, index_by_codes, row_number_by_codes, full_rows};
 use tc_isa::{
-    Fields, Form, Inst, ROW_COUNT, Row, are_registers_apart, are_unused_fields_zero, rows,
+    Fields, Form, Inst, ROW_COUNT, Row, are_registers_allowed, are_unused_fields_zero, rows,
     uses_by_row,
 };
 
@@ -21,11 +21,11 @@ pub fn find_by_word(w: u32) -> Option<Inst>
     ensures none { IfNone result ((i : InstData) → IsWordOf w i → ⊥) }
 {
     let first = (w % 256) as u8;
-    let second = second_code_by_first(first, w);
-    let Some(place) = place_in_code_index(first, second) else {
+    let second = second_code_by_first_byte(first, w);
+    let Some(place) = row_number_by_codes(first, second) else {
         return None;
     };
-    find_word_at(place, first, second, w)
+    find_word_by_codes(place, first, second, w)
 }
 
 /// Returns the instruction of this row, which has the word's codes, if the rest of the word is its
@@ -46,7 +46,7 @@ pub(crate) fn find_word_in_row(place: u8, row: &Row, w: u32) -> Option<Inst>
     if !are_missing_fields_zero(place, row, &f) {
         return None;
     }
-    if !are_registers_apart(row, &f) {
+    if !are_registers_allowed(row, &f) {
         return None;
     }
     Some(Inst {
@@ -60,7 +60,7 @@ pub(crate) fn find_word_in_row(place: u8, row: &Row, w: u32) -> Option<Inst>
 }
 
 /// Returns the instruction of the row at this place if it has these codes and the word.
-pub(crate) fn find_word_at(place: u8, first: u8, second: u8, w: u32) -> Option<Inst>
+pub(crate) fn find_word_by_codes(place: u8, first: u8, second: u8, w: u32) -> Option<Inst>
     requires place { place < ROW_COUNT }
     requires first { first ≡ w % 256 }
     requires second { (r : RowData) → slice_get listed place ≡ Some r → r.op1 ≡ first
@@ -82,7 +82,7 @@ pub(crate) fn find_word_at(place: u8, first: u8, second: u8, w: u32) -> Option<I
 
 /// Returns the second operation code in a word, by the form of the table's rows that begin with
 /// this byte.
-fn second_code_by_first(first: u8, w: u32) -> u8
+fn second_code_by_first_byte(first: u8, w: u32) -> u8
     ensures { (place : ℕ) (r : RowData) → slice_get listed place ≡ Some r → r.op1 ≡ first
         → result ≡ second_code_by_form r.form w }
 {
@@ -110,5 +110,5 @@ fn are_missing_fields_zero(place: u8, row: &Row, f: &Fields) -> bool
     ensures { result ≡ are_unused_fields_zero (uses_of (row_of row.now)) f.now }
 {
     let at = usize::from(place);
-    plain_rows()[at] || are_unused_fields_zero(&uses_by_row()[at], f)
+    full_rows()[at] || are_unused_fields_zero(&uses_by_row()[at], f)
 }

@@ -25,12 +25,12 @@ pub fn alu(op: Op, x: u32, y: u32) -> u32
         Op::Orn => x | complement(y),
         Op::Eq => word_of_bool(x == y),
         Op::Ne => word_of_bool(x != y),
-        Op::Lt => word_of_bool(signed_order_place(x) < signed_order_place(y)),
+        Op::Lt => word_of_bool(signed_rank(x) < signed_rank(y)),
         Op::LtU => word_of_bool(x < y),
-        Op::Ge => word_of_bool(signed_order_place(x) >= signed_order_place(y)),
+        Op::Ge => word_of_bool(signed_rank(x) >= signed_rank(y)),
         Op::GeU => word_of_bool(x >= y),
-        Op::Sh => shift_logical(x, (y % 64) as u8),
-        Op::Sha => shift_arithmetic(x, (y % 64) as u8),
+        Op::Sh => logical_shift(x, (y % 64) as u8),
+        Op::Sha => arithmetic_shift(x, (y % 64) as u8),
     }
 }
 
@@ -42,9 +42,9 @@ pub fn taken(cond: Cond, x: u32, y: u32) -> bool
     match cond {
         Cond::Eq => x == y,
         Cond::Ne => x != y,
-        Cond::Lt => signed_order_place(x) < signed_order_place(y),
+        Cond::Lt => signed_rank(x) < signed_rank(y),
         Cond::LtU => x < y,
-        Cond::Ge => signed_order_place(x) >= signed_order_place(y),
+        Cond::Ge => signed_rank(x) >= signed_rank(y),
         Cond::GeU => x >= y,
     }
 }
@@ -65,14 +65,14 @@ fn word_of_bool(b: bool) -> u32
 
 /// Returns a word plus 2^31, modulo 2^32, for signed comparisons. As unsigned numbers, these
 /// compare as the signed words do.
-fn signed_order_place(x: u32) -> u32
+fn signed_rank(x: u32) -> u32
     ensures { result ≡ signed_order_place x }
 {
     x.wrapping_add(0x8000_0000)
 }
 
 /// Shifts to the left by `n` if it is below 32, else to the right by 64 - `n`, filled with zeros.
-fn shift_logical(x: u32, n: u8) -> u32
+fn logical_shift(x: u32, n: u8) -> u32
     requires { n < 64 }
     ensures { result ≡ logical_shift x n }
 {
@@ -87,13 +87,13 @@ fn shift_logical(x: u32, n: u8) -> u32
 
 /// Shifts to the left by `n` if it is below 32, else to the right by 64 - `n`, filled with the sign
 /// bit.
-fn shift_arithmetic(x: u32, n: u8) -> u32
+fn arithmetic_shift(x: u32, n: u8) -> u32
     requires { n < 64 }
     ensures { result ≡ arithmetic_shift x n }
 {
     if n < 32 || x < 0x8000_0000 {
-        shift_logical(x, n)
+        logical_shift(x, n)
     } else {
-        complement(shift_logical(complement(x), n))
+        complement(logical_shift(complement(x), n))
     }
 }

@@ -8,7 +8,7 @@ use crate::{Fields, Form};
 /// Returns the bounds of a form's fields, all exclusive. A field that the form doesn't have has the
 /// bound 1.
 #[tactic(auto, unfolding(crate::specs::Forms::bounds))]
-pub fn bounds_of(form: Form) -> Fields
+pub fn field_bounds(form: Form) -> Fields
     ensures { result ≡ bounds form }
 {
     match form {
@@ -114,7 +114,7 @@ pub fn bounds_of(form: Form) -> Fields
 }
 
 /// Returns true if each field of an instruction is below its bound.
-pub fn are_below_bounds(f: &Fields, bounds: &Fields) -> bool
+pub fn are_fields_below(f: &Fields, bounds: &Fields) -> bool
     ensures { IsTrue result ↔ AreFieldsBelow f.now bounds.now }
 {
     f.c < bounds.c && f.s1 < bounds.s1 && f.s2 < bounds.s2 && f.n < bounds.n && f.k < bounds.k

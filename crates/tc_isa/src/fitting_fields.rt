@@ -4,7 +4,7 @@ ghost use Rattle.tc_isa.specs.Rows.{row_of};
 ghost use Rattle.tc_isa.specs.ValidRowFields.{FieldsFitRow, uses_of, are_registers_apart};
 ghost use Rattle.tc_isa.specs.Insts.{IsInst};
 
-use crate::bounds::{are_below_bounds, bounds_of};
+use crate::bounds::{are_fields_below, field_bounds};
 use crate::row_uses::{are_unused_fields_zero, uses_by_row};
 use crate::{Fields, Inst, Row, Uses, rows};
 
@@ -31,7 +31,7 @@ pub fn inst(row: u8, c: u8, s1: u8, s2: u8, n: u8, k: u32) -> Option<Inst>
         return None;
     }
     let fields = Fields { c, s1, s2, n, k };
-    if !are_fitting_fields(&rows[place], &uses_by_row()[place], &fields) {
+    if !fields_fit_row(&rows[place], &uses_by_row()[place], &fields) {
         return None;
     }
     Some(Inst {
@@ -47,18 +47,18 @@ pub fn inst(row: u8, c: u8, s1: u8, s2: u8, n: u8, k: u32) -> Option<Inst>
 /// Returns true if the row allows these registers: an address register that is loaded or stored
 /// with post-increment can't be the base too.
 #[inline(always)]
-pub fn are_registers_apart(row: &Row, f: &Fields) -> bool
+pub fn are_registers_allowed(row: &Row, f: &Fields) -> bool
     ensures { result ≡ are_registers_apart (row_of row.now) f.now }
 {
     !((row.op1 == LOAD_AFTER || row.op1 == STORE_AFTER) && row.op2 == OF_ADDRESS) || f.s1 != f.s2
 }
 
 /// Returns true if the fields fit the row, so that an instruction can be built from them.
-fn are_fitting_fields(row: &Row, uses: &Uses, fields: &Fields) -> bool
+fn fields_fit_row(row: &Row, uses: &Uses, fields: &Fields) -> bool
     requires { uses.now ≡ uses_of (row_of row.now) }
     ensures { IsTrue result ↔ FieldsFitRow (row_of row.now) fields.now }
 {
-    are_below_bounds(fields, &bounds_of(row.form))
+    are_fields_below(fields, &field_bounds(row.form))
         && are_unused_fields_zero(uses, fields)
-        && are_registers_apart(row, fields)
+        && are_registers_allowed(row, fields)
 }

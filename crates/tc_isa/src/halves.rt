@@ -4,7 +4,7 @@ ghost use Rattle.tc_isa.specs.NamedInstructions as named;
 
 /// Returns the constant of `movh` for a word: its upper half, plus one if the lower half, which
 /// `addi` or `lea` adds, is negative.
-pub fn upper_half(x: u32) -> u32
+pub fn adjusted_upper_half(x: u32) -> u32
     ensures is { result ≡ named.upper_half x }
     ensures small { result < 2 ^ 16 }
 {

@@ -12,7 +12,7 @@ pub(crate) fn is_digit(c: u8) -> bool
 
 /// Returns true if a byte of a token is a hex digit: 0 to 9, A to F or a to f.
 #[tactic(auto, unfolding(crate::specs::Bytes::is_hex))]
-pub fn is_hex(c: u8) -> bool
+pub fn is_hex_digit(c: u8) -> bool
     ensures { result ≡ is_hex c }
 {
     is_digit(c) || (b'A' <= c && c <= b'F') || (b'a' <= c && c <= b'f')

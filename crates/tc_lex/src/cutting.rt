@@ -9,7 +9,7 @@ use arrayvec::ArrayVec;
 /// Replaces the contents of `out` by the tokens of a line. The error is the byte offset of the
 /// first byte that begins no token, or that begins a 65th one. Blanks, tabs and a comment, from `#`
 /// on, are skipped.
-pub fn cut_into(line: &[u8], out: &mut ArrayVec<Token, 64>) -> Result<(), usize>
+pub fn tokens_into(line: &[u8], out: &mut ArrayVec<Token, 64>) -> Result<(), usize>
     ensures { GivesTokensInto result out.new.items (tokens_of line.now) }
 {
     out.clear();
@@ -45,7 +45,7 @@ pub fn tokens(line: &[u8]) -> Result<ArrayVec<Token, 64>, usize>
     ensures read { IsCutOrFault line.now result }
 {
     let mut out = ArrayVec::new();
-    match cut_into(line, &mut out) {
+    match tokens_into(line, &mut out) {
         Ok(()) => Ok(out),
         Err(at) => Err(at),
     }

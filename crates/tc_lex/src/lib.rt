@@ -14,8 +14,8 @@ mod same_bytes;
 mod scratch;
 mod split_operands;
 
-pub use bytes::is_hex;
-pub use cutting::{cut_into, tokens};
+pub use bytes::is_hex_digit;
+pub use cutting::{tokens_into, tokens};
 pub use kinds::{Front, Token, TokenKind};
 pub use line_pieces::cut_pieces;
 pub use operand::{Operand, Shape, Value};

@@ -5,10 +5,10 @@ ghost use Rattle.tc_lex.specs.Bytes.{is_digit, is_hex};
 ghost use Rattle.tcd_base.specs.NameBytes.{is_name_byte};
 ghost use Rattle.tc_lex.specs.Cut.{has_hex_front, number_len, token_front_of, token_front_by_byte, IsTokenWithin};
 
-use crate::bytes::{is_digit, is_hex};
+use crate::bytes::{is_digit, is_hex_digit};
 use crate::kinds::{Front, TokenKind};
-use crate::numbers::has_hex_front;
-use tcd_base::{is_name_byte, is_name_first};
+use crate::numbers::has_hex_prefix;
+use tcd_base::{is_name_byte, is_name_start};
 
 /// The longest token at byte `at` of a line, or the blank, end or bad byte there.
 pub(crate) fn longest_token_at(line: &[u8], at: usize) -> Front
@@ -46,7 +46,7 @@ fn token_front_by_byte(c: u8, text: &[u8]) -> Front
         Front::Token(TokenKind::Plus, 1)
     } else if c == b'-' {
         Front::Token(TokenKind::Minus, 1)
-    } else if is_name_first(c) {
+    } else if is_name_start(c) {
         Front::Token(TokenKind::Word, word_len(text))
     } else if is_digit(c) {
         Front::Token(TokenKind::Number, number_len(text))
@@ -70,23 +70,23 @@ fn number_len(rest: &[u8]) -> usize
     ensures within { result ≤ length rest.now }
     ensures some { 0 < length rest.now → is_digit (slice_index rest.now 0) ≡ true → 0 < result }
 {
-    if has_hex_front(rest) {
-        2 + hex_len(&rest[2..])
+    if has_hex_prefix(rest) {
+        2 + hex_digits_len(&rest[2..])
     } else {
-        digits_len(rest)
+        decimal_digits_len(rest)
     }
 }
 
 /// The number of hex digits that the text begins with.
-fn hex_len(rest: &[u8]) -> usize
+fn hex_digits_len(rest: &[u8]) -> usize
     ensures value { result ≡ prefix_len is_hex rest.now }
     ensures within { result ≤ length rest.now }
 {
-    rest.iter().take_while(|c| is_hex(**c)).count()
+    rest.iter().take_while(|c| is_hex_digit(**c)).count()
 }
 
 /// The number of decimal digits that the text begins with.
-fn digits_len(rest: &[u8]) -> usize
+fn decimal_digits_len(rest: &[u8]) -> usize
     ensures value { result ≡ prefix_len is_digit rest.now }
     ensures within { result ≤ length rest.now }
 {

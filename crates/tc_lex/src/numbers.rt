@@ -4,14 +4,14 @@ ghost use Rattle.tc_lex.specs.Numbers.{token_digit_value, add_digit, number_by_d
 ghost use Rattle.tc_lex.specs.Bytes.{is_hex};
 ghost use Rattle.tc_lex.specs.Cut.{has_hex_front};
 
-use crate::bytes::is_hex;
+use crate::bytes::is_hex_digit;
 
 /// The number that a token spells, if it is below 2^128.
 #[tactic(auto, unfolding(crate::specs::Numbers::token_number))]
 pub(crate) fn token_number(text: &[u8]) -> Option<u128>
     ensures { result ≡ token_number text.now }
 {
-    if has_hex_front(text) {
+    if has_hex_prefix(text) {
         number_by_digits(16, &text[2..])
     } else {
         number_by_digits(10, text)
@@ -20,11 +20,11 @@ pub(crate) fn token_number(text: &[u8]) -> Option<u128>
 
 /// Whether the text begins with `0x` and a hex digit.
 #[tactic(auto, unfolding(crate::specs::Cut::has_hex_front))]
-pub(crate) fn has_hex_front(rest: &[u8]) -> bool
+pub(crate) fn has_hex_prefix(rest: &[u8]) -> bool
     ensures value { result ≡ has_hex_front rest.now }
     ensures long { IsTrue result → 2 < length rest.now }
 {
-    rest.len() > 2 && rest[0] == b'0' && rest[1] == b'x' && is_hex(rest[2])
+    rest.len() > 2 && rest[0] == b'0' && rest[1] == b'x' && is_hex_digit(rest[2])
 }
 
 /// The number that these digits of a token spell, if it is below 2^128.

@@ -14,20 +14,20 @@ use crate::split_operands::operands;
 
 /// Adds the operand that these tokens spell to the list. Each arm of one token builds the operand
 /// in the list, so that its 80 bytes aren't copied.
-pub(crate) fn put_operand<'a>(ps: &[Piece<'a>], out: &mut Scratch<Operand<'a>, 65>)
+pub(crate) fn read_operand_into<'a>(ps: &[Piece<'a>], out: &mut Scratch<Operand<'a>, 65>)
     requires { length out.old.items < 65 }
     ensures operands { map operand_of out.new.items
         ≡ map operand_of out.old.items ++ operand (map piece_of ps.now) ∷ [] }
     ensures one_more { length out.new.items ≡ length out.old.items + 1 }
 {
     if ps.len() != 1 {
-        put_longer_operand(ps, out);
+        read_longer_operand_into(ps, out);
     } else if is_token_kind(ps, 0, TokenKind::Word) {
         push_operand(lone_word_operand(ps), out);
     } else if is_token_kind(ps, 0, TokenKind::Number) {
         push_operand(lone_number_operand(ps), out);
     } else {
-        put_longer_operand(ps, out);
+        read_longer_operand_into(ps, out);
     }
 }
 
@@ -45,7 +45,7 @@ pub(crate) fn push_operand<'a>(operand: Operand<'a>, out: &mut Scratch<Operand<'
 /// locals are large, so they have a function of their own.
 #[inline(never)]
 #[tactic(auto, unfolding(crate::specs::Operands::operand))]
-fn put_longer_operand<'a>(ps: &[Piece<'a>], out: &mut Scratch<Operand<'a>, 65>)
+fn read_longer_operand_into<'a>(ps: &[Piece<'a>], out: &mut Scratch<Operand<'a>, 65>)
     requires { length out.old.items < 65 }
     ensures operands { map operand_of out.new.items
         ≡ map operand_of out.old.items ++ operand (map piece_of ps.now) ∷ [] }
@@ -64,7 +64,7 @@ fn lone_word_operand<'a>(ps: &[Piece<'a>]) -> Operand<'a>
     requires word { is_kind_at (map piece_of ps.now) 0 Word ≡ true }
     ensures { operand_of result ≡ operand (map piece_of ps.now) }
 {
-    plain_operand(make_operand_value(Shape::Word, token_text(ps, 0), false, 0))
+    plain_operand(value_with_shape(Shape::Word, token_text(ps, 0), false, 0))
 }
 
 // The operand that is one number.
@@ -73,7 +73,7 @@ fn lone_number_operand<'a>(ps: &[Piece<'a>]) -> Operand<'a>
     requires number { is_kind_at (map piece_of ps.now) 0 Number ≡ true }
     ensures { operand_of result ≡ operand (map piece_of ps.now) }
 {
-    plain_operand(plain_number(false, token_number(token_text(ps, 0))))
+    plain_operand(number_operand_value(false, token_number(token_text(ps, 0))))
 }
 
 // Reads an operand that begins with a `[`.
@@ -89,10 +89,10 @@ fn memory_operand<'a>(ps: &[Piece<'a>]) -> Operand<'a>
         } else if is_token_kind(ps, 2, TokenKind::Plus) && is_token_kind(ps, 3, TokenKind::Close) {
             bracketed_operand(true, token_text(ps, 1), operand_value_at(ps, 4))
         } else {
-            plain_operand(make_operand_value(Shape::Bad, &[], false, 0))
+            plain_operand(value_with_shape(Shape::Bad, &[], false, 0))
         }
     } else {
-        plain_operand(make_operand_value(Shape::Bad, &[], false, 0))
+        plain_operand(value_with_shape(Shape::Bad, &[], false, 0))
     }
 }
 
@@ -115,12 +115,12 @@ fn operand_value_at<'a>(ps: &[Piece<'a>], at: usize) -> Value<'a>
     ensures { value_of result ≡ operand_value_at (map piece_of ps.now) at }
 {
     if ps.len() == at {
-        make_operand_value(Shape::Absent, &[], false, 0)
+        value_with_shape(Shape::Absent, &[], false, 0)
     } else if is_token_kind(ps, at, TokenKind::Word) {
         symbol_value_at(ps, at)
     } else {
         match operand_number_at(ps, at) {
-            Some((minus, n)) => plain_number(minus, n),
+            Some((minus, n)) => number_operand_value(minus, n),
             None => symbol_value_at(ps, at),
         }
     }
@@ -139,7 +139,7 @@ fn bracketed_operand<'a>(plus: bool, base: &'a [u8], value: Value<'a>) -> Operan
 }
 
 /// The value of an operand with this form, name, sign and number.
-fn make_operand_value(shape: Shape, name: &[u8], minus: bool, size: u128) -> Value<'_>
+fn value_with_shape(shape: Shape, name: &[u8], minus: bool, size: u128) -> Value<'_>
     ensures { value_of result ≡ data_of shape name.now minus size }
 {
     Value {
@@ -183,12 +183,12 @@ fn operand_number_at(ps: &[Piece], at: usize) -> Option<(bool, Option<u128>)>
 }
 
 /// Returns the value that is read from a number alone; `None` is a number of 2^128 or more.
-fn plain_number<'a>(minus: bool, n: Option<u128>) -> Value<'a>
+fn number_operand_value<'a>(minus: bool, n: Option<u128>) -> Value<'a>
     ensures { value_of result ≡ number_value minus n }
 {
     match n {
-        Some(size) => make_operand_value(Shape::Number, &[], minus, size),
-        None => make_operand_value(Shape::Huge, &[], minus, 0),
+        Some(size) => value_with_shape(Shape::Number, &[], minus, size),
+        None => value_with_shape(Shape::Huge, &[], minus, 0),
     }
 }
 
@@ -206,7 +206,7 @@ fn symbol_half_at<'a>(ps: &[Piece<'a>], at: usize) -> Value<'a>
     } else if is_same_text(name, "lo") {
         name_or_sum_at(ps, at + 2, Shape::Low, Shape::Low)
     } else {
-        make_operand_value(Shape::Bad, &[], false, 0)
+        value_with_shape(Shape::Bad, &[], false, 0)
     }
 }
 
@@ -218,12 +218,12 @@ fn name_or_sum_at<'a>(ps: &[Piece<'a>], at: usize, plain: Shape, summed: Shape) 
 {
     if is_token_kind(ps, at, TokenKind::Word) {
         if ps.len() - at == 1 {
-            make_operand_value(plain, token_text(ps, at), false, 0)
+            value_with_shape(plain, token_text(ps, at), false, 0)
         } else {
             name_plus_number_at(ps, at, plain, summed)
         }
     } else {
-        make_operand_value(Shape::Bad, &[], false, 0)
+        value_with_shape(Shape::Bad, &[], false, 0)
     }
 }
 
@@ -239,15 +239,15 @@ fn name_plus_number_at<'a>(ps: &[Piece<'a>], at: usize, plain: Shape, summed: Sh
     if is_token_kind(ps, at + 1, TokenKind::Plus) {
         match operand_number_at(ps, at + 2) {
             Some((minus, n)) => sum_operand_value(summed, token_text(ps, at), minus, n),
-            None => make_operand_value(Shape::Bad, &[], false, 0),
+            None => value_with_shape(Shape::Bad, &[], false, 0),
         }
     } else if is_token_kind(ps, at + 1, TokenKind::Minus) {
         match operand_number_at(ps, at + 2) {
             Some((minus, n)) => sum_operand_value(summed, token_text(ps, at), !minus, n),
-            None => make_operand_value(Shape::Bad, &[], false, 0),
+            None => value_with_shape(Shape::Bad, &[], false, 0),
         }
     } else {
-        make_operand_value(Shape::Bad, &[], false, 0)
+        value_with_shape(Shape::Bad, &[], false, 0)
     }
 }
 
@@ -256,10 +256,10 @@ fn sum_operand_value(shape: Shape, name: &[u8], minus: bool, n: Option<u128>) ->
     ensures { value_of result ≡ sum_value shape name.now minus n }
 {
     match n {
-        Some(size) => make_operand_value(shape, name, minus, size),
+        Some(size) => value_with_shape(shape, name, minus, size),
         None => Value {
             wide: true,
-            ..make_operand_value(shape, name, minus, 0)
+            ..value_with_shape(shape, name, minus, 0)
         },
     }
 }

@@ -6,7 +6,7 @@ ghost use Rattle.tc_lex.specs.Operands.{operand_of, operands, is_comma, operand}
 use crate::kinds::kind_index;
 use crate::operand::Operand;
 use crate::pieces::Piece;
-use crate::read_operand::put_operand;
+use crate::read_operand::read_operand_into;
 use crate::scratch::Scratch;
 
 /// Replaces the contents of `out` by the operands that these tokens spell.
@@ -20,10 +20,10 @@ pub fn operands<'a>(ps: &[Piece<'a>], out: &mut Scratch<Operand<'a>, 65>)
     }
     let mut rest = ps;
     'parts: while let Some(i) = find_comma(rest) {
-        put_operand_before(rest, i, out);
-        rest = tokens_after(rest, i);
+        read_operand_before(rest, i, out);
+        rest = tokens_after_comma(rest, i);
     }
-    put_operand(rest, out);
+    read_operand_into(rest, out);
 }
 
 /// The place of the first comma among these tokens.
@@ -35,18 +35,18 @@ fn find_comma(ps: &[Piece]) -> Option<usize>
 }
 
 // Adds the operand that ends before token `i` to the list.
-fn put_operand_before<'a>(ps: &[Piece<'a>], i: usize, out: &mut Scratch<Operand<'a>, 65>)
+fn read_operand_before<'a>(ps: &[Piece<'a>], i: usize, out: &mut Scratch<Operand<'a>, 65>)
     requires place { i ≤ length ps.now }
     requires room { length out.old.items < 65 }
     ensures operands { map operand_of out.new.items
         ≡ map operand_of out.old.items ++ operand (take i (map piece_of ps.now)) ∷ [] }
     ensures one_more { length out.new.items ≡ length out.old.items + 1 }
 {
-    put_operand(&ps[..i], out);
+    read_operand_into(&ps[..i], out);
 }
 
 // The tokens of a line after the comma that is token `i`.
-fn tokens_after<'b, 'a>(ps: &'b [Piece<'a>], i: usize) -> &'b [Piece<'a>]
+fn tokens_after_comma<'b, 'a>(ps: &'b [Piece<'a>], i: usize) -> &'b [Piece<'a>]
     requires { i < length ps.now }
     ensures { result.now ≡ drop (i + 1) ps.now }
 {

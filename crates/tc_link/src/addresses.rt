@@ -25,7 +25,7 @@ pub(crate) fn address_in_section(bases: &[u64], section: u16, offset: u32) -> u3
 }
 
 /// The address of the global symbol with this name, if there is one.
-pub(crate) fn address_named(
+pub(crate) fn global_symbol_address(
     names: &HashMap<&str, Definition>,
     placed: &[Placed<'_, '_>],
     name: &str,
@@ -61,7 +61,7 @@ pub(crate) fn symbol_addresses(
         let address = if symbol.kind != UNDEFINED_SYMBOL {
             address_in_section(&each.bases, symbol.section, symbol.offset)
         } else {
-            address_named(names, placed, symbol.name).unwrap_or(0)
+            global_symbol_address(names, placed, symbol.name).unwrap_or(0)
         };
         addresses.push(address)?;
     }

@@ -2,7 +2,7 @@
 ghost use Rattle.std.specs.Prelude.{◌≡◌};
 ghost use Rattle.tc_link.specs.Layouts.{is_overlapping_place};
 
-use crate::layouts::is_placed;
+use crate::layouts::has_place_for;
 use crate::lines::{Line, layout_line_contents};
 use crate::{Layout, LayoutErr, Place};
 use std::alloc::Global;
@@ -113,7 +113,7 @@ impl Draft {
             (record { section = section.now; at = at; most = most })) }
         ensures few { IfNone result (length self.now.places < 64) }
     {
-        if is_placed(&self.places, section) {
+        if has_place_for(&self.places, section) {
             return Some(LayoutErr::Twice(number));
         }
         if self.places.len() >= MOST_PLACES {

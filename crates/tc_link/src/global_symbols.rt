@@ -27,14 +27,14 @@ pub(crate) fn globals_by_name<'a>(
 }
 
 /// Returns true if no global symbol has the name, by a look-up in the map of global symbols.
-pub(crate) fn is_missing(names: &HashMap<&str, Definition>, name: &str) -> bool
+pub(crate) fn has_no_global(names: &HashMap<&str, Definition>, name: &str) -> bool
     ensures { (n : ℕ) → twice_at names.now name.now ≡ twice_of_count n → result ≡ (n == 0) }
 {
     !names.contains_key(name)
 }
 
 /// Returns true if several global symbols have the name, by a look-up in the map of global symbols.
-pub(crate) fn is_defined_twice(names: &HashMap<&str, Definition>, name: &str) -> bool
+pub(crate) fn has_several_globals(names: &HashMap<&str, Definition>, name: &str) -> bool
     ensures { (n : ℕ) → twice_at names.now name.now ≡ twice_of_count n → result ≡ nat_lt 1 n }
 {
     match names.get(name) {

@@ -89,7 +89,7 @@ pub(crate) fn find_place(places: &[Place], name: &str) -> Option<usize>
 }
 
 /// Returns true if a layout with these places has one for sections of this name.
-pub(crate) fn is_placed(places: &[Place], name: &str) -> bool
+pub(crate) fn has_place_for(places: &[Place], name: &str) -> bool
     ensures { result ≡ is_placed places.now name.now }
 {
     places.iter().any(|place| name == place.section.as_str())

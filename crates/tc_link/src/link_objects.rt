@@ -6,10 +6,10 @@ ghost use Rattle.tc_link.specs.Placing.{placed_of};
 ghost use Rattle.tc_link.specs.Relocated.{relocated_contents};
 ghost use Rattle.tc_link.specs.Errors.{refusal_of};
 
-use crate::addresses::address_named;
+use crate::addresses::global_symbol_address;
 use crate::global_symbols::globals_by_name;
 use crate::placed::place_objects;
-use crate::relocated_sections::relocated_contents;
+use crate::relocated_sections::all_relocated_sections;
 use crate::section_checks::check_places;
 use crate::segments::segments_of;
 use crate::symbol_checks::{check_missing_symbols, check_repeated_symbols};
@@ -34,8 +34,8 @@ pub fn link_borrowed(
     check_missing_symbols(alloc, &names, objects)?;
     check_places(alloc, &layout.places, objects)?;
     let placed = place_objects(alloc, &layout.places, objects)?;
-    let contents = relocated_contents(alloc, &names, &placed)?;
-    let Some(entry) = address_named(&names, &placed, layout.entry.as_str()) else {
+    let contents = all_relocated_sections(alloc, &names, &placed)?;
+    let Some(entry) = global_symbol_address(&names, &placed, layout.entry.as_str()) else {
         return Err(LinkErr::NoEntry);
     };
     let segments = segments_of(alloc, &layout.places, &contents)?;

@@ -12,7 +12,7 @@ use tc_object::SectionRef;
 const MOST_BYTES: u64 = 0x100_0000;
 
 /// The least multiple of 4 that isn't below `size`.
-pub(crate) fn round_up_place_size(size: u64) -> u64
+pub(crate) fn next_multiple_of_4(size: u64) -> u64
     requires { size ≤ 2 ^ 33 }
     ensures { result ≡ round_up_place_size size }
 {
@@ -29,7 +29,7 @@ pub(crate) fn add_section_size(places: &[Place], sizes: &mut [u64], section: &Se
 {
     for (i, place) in places.iter().enumerate() {
         if place.section.as_str() == section.name {
-            sizes[i] = round_up_place_size(sizes[i]) + section.bytes.len() as u64;
+            sizes[i] = next_multiple_of_4(sizes[i]) + section.bytes.len() as u64;
         }
     }
 }

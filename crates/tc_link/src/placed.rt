@@ -7,7 +7,7 @@ ghost use Rattle.tc_link.specs.PlaceSizes.{AreTaken, AreSmallPlaceSizes, round_u
 ghost use Rattle.tc_link.specs.Errors.{IsRefusal};
 
 use crate::layouts::find_place;
-use crate::place_sizes::{add_section_size, are_places_overfull, round_up_place_size};
+use crate::place_sizes::{add_section_size, are_places_overfull, next_multiple_of_4};
 use crate::{LinkErr, Place};
 use std::alloc::Global;
 use std::marker::Model;
@@ -56,7 +56,7 @@ pub(crate) fn place_objects<'a, 'b>(
 
 /// Returns the address at which a section is placed if these numbers of bytes of the places are
 /// used before it, and 0 if it has no place.
-pub(crate) fn base_of(places: &[Place], sizes: &[u64], section: &SectionRef<'_>) -> u64
+pub(crate) fn section_base(places: &[Place], sizes: &[u64], section: &SectionRef<'_>) -> u64
     requires count { length sizes.now ≡ length places.now }
     requires small { AreSmallPlaceSizes sizes.now }
     ensures { (before : List SectionData) → AreTaken places.now before sizes.now
@@ -66,7 +66,7 @@ pub(crate) fn base_of(places: &[Place], sizes: &[u64], section: &SectionRef<'_>)
         None => 0,
         Some(i) => {
             let place = &places[i];
-            u64::from(place.at) + round_up_place_size(sizes[i])
+            u64::from(place.at) + next_multiple_of_4(sizes[i])
         }
     }
 }
@@ -96,7 +96,7 @@ pub(crate) fn place_sections(
 {
     let mut bases = Vec::new(alloc);
     for section in sections {
-        bases.push(base_of(places, sizes, section))?;
+        bases.push(section_base(places, sizes, section))?;
         add_section_size(places, sizes, section);
         if are_places_overfull(places, sizes) {
             return Err(LinkErr::NoRoom(String::from_str(alloc, section.name)?));

@@ -22,7 +22,7 @@ use tc_reloc::{RelocErr, apply};
 /// Returns the sections of all objects, with their relocations written, or the first relocation
 /// that is refused.
 #[tactic(auto, unfolding(crate::specs::Relocated::relocated_contents, crate::specs::Refusals::reloc_refusal_in))]
-pub(crate) fn relocated_contents<'a>(
+pub(crate) fn all_relocated_sections<'a>(
     alloc: Global,
     names: &HashMap<&str, Definition>,
     placed: &[Placed<'_, 'a>],
@@ -149,7 +149,7 @@ fn write_reloc_in_section(
 {
     let at = reloc.offset as usize;
     let field = apply(reloc.kind, reloc_field_at(&section.bytes, at), place, value)?;
-    put_reloc_field(&mut section.bytes, at, field);
+    write_reloc_field(&mut section.bytes, at, field);
     Ok(())
 }
 
@@ -162,7 +162,7 @@ fn reloc_field_at(bytes: &[u8], at: usize) -> [u8; 4]
 }
 
 /// Writes the four bytes of a relocation's field at an offset of the section that is relocated.
-fn put_reloc_field(bytes: &mut [u8], at: usize, field: [u8; 4])
+fn write_reloc_field(bytes: &mut [u8], at: usize, field: [u8; 4])
     requires { at + 4 ≤ length bytes.old }
     ensures { bytes.new ≡ with_relocated_field bytes.old at field }
 {

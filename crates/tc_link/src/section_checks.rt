@@ -7,7 +7,7 @@ ghost use Rattle.tc_link.specs.Refusals.{no_place, no_place_refusal, no_place_re
 ghost use Rattle.tc_link.specs.Errors.{IsRefusal};
 ghost use Rattle.tc_link.specs.declared.errors.LinkErr.TheVariants.{NoMemory};
 
-use crate::layouts::is_placed;
+use crate::layouts::has_place_for;
 use crate::symbol_checks::set_check_mark;
 use crate::{LinkErr, Place};
 use std::alloc::Global;
@@ -23,7 +23,7 @@ pub(crate) fn check_places(
     ensures err { IfErr result (IsRefusal (no_place_refusal_in places.now objects.now)) }
 {
     for object in objects {
-        let held = sections_with_symbols(alloc, object)?;
+        let held = section_symbol_marks(alloc, object)?;
         if let Some(name) = first_unplaced_section(places, &held, &object.sections) {
             return Err(LinkErr::NoPlace(String::from_str(alloc, name)?));
         }
@@ -32,7 +32,7 @@ pub(crate) fn check_places(
 }
 
 // For each section of an object, whether a symbol is defined in it.
-fn sections_with_symbols(alloc: Global, object: &ObjectRef<'_>) -> Result<Vec<bool>, LinkErr>
+fn section_symbol_marks(alloc: Global, object: &ObjectRef<'_>) -> Result<Vec<bool>, LinkErr>
     ensures held { IfOk result (λ held. (k : ℕ) (d : Bool) → k < length object.now.sections
         → slice_index_or held.items k d ≡ has_symbol object.now.symbols k) }
     ensures count { IfOk result (λ held. length held.items ≡ length object.now.sections) }
@@ -74,5 +74,5 @@ fn is_unplaced(places: &[Place], held: bool, section: &SectionRef<'_>) -> bool
         ≡ ((nat_lt 0 (length section.now.bytes) || held)
         && not (is_placed places.now section.now.name)) }
 {
-    (!section.bytes.is_empty() || held) && !is_placed(places, section.name)
+    (!section.bytes.is_empty() || held) && !has_place_for(places, section.name)
 }

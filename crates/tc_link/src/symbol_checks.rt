@@ -10,7 +10,7 @@ ghost use Rattle.tc_link.specs.declared.errors.LinkErr.TheVariants.{NoMemory};
 
 use crate::LinkErr;
 use crate::definitions::Definition;
-use crate::global_symbols::{is_defined_twice, is_missing};
+use crate::global_symbols::{has_several_globals, has_no_global};
 use std::alloc::Global;
 use std::collections::HashMap;
 use tc_object::{GLOBAL_SYMBOL, ObjectRef, SymbolRef, UNDEFINED_SYMBOL};
@@ -57,7 +57,7 @@ pub(crate) fn check_missing_symbols(
     ensures err { IfErr result (IsRefusal (missing_symbol_refusal_in objects.now)) }
 {
     for object in objects {
-        let used = used_symbols(alloc, object)?;
+        let used = used_symbol_marks(alloc, object)?;
         if let Some(name) = first_missing_symbol(names, &used, &object.symbols) {
             return Err(LinkErr::Missing(String::from_str(alloc, name)?));
         }
@@ -87,11 +87,11 @@ fn is_repeated_symbol(names: &HashMap<&str, Definition>, symbol: &SymbolRef<'_>)
     ensures { (objects : List ObjectData) → CountsGlobals names.now objects
         → result ≡ (is_global symbol.now && nat_lt 1 (globals_named objects symbol.now.name)) }
 {
-    symbol.kind == GLOBAL_SYMBOL && is_defined_twice(names, symbol.name)
+    symbol.kind == GLOBAL_SYMBOL && has_several_globals(names, symbol.name)
 }
 
 // For each symbol of an object, whether a relocation uses it.
-fn used_symbols(alloc: Global, object: &ObjectRef<'_>) -> Result<Vec<bool>, LinkErr>
+fn used_symbol_marks(alloc: Global, object: &ObjectRef<'_>) -> Result<Vec<bool>, LinkErr>
     ensures used { IfOk result (λ used. (k : ℕ) (d : Bool) → k < length object.now.symbols
         → slice_index_or used.items k d ≡ is_used_by_relocs object.now.relocs k) }
     ensures count { IfOk result (λ used. length used.items ≡ length object.now.symbols) }
@@ -132,5 +132,5 @@ fn is_missing_symbol(names: &HashMap<&str, Definition>, used: bool, symbol: &Sym
     ensures { (objects : List ObjectData) → CountsGlobals names.now objects
         → result ≡ (symbol.now.kind == 0 && used && globals_named objects symbol.now.name == 0) }
 {
-    symbol.kind == UNDEFINED_SYMBOL && used && is_missing(names, symbol.name)
+    symbol.kind == UNDEFINED_SYMBOL && used && has_no_global(names, symbol.name)
 }

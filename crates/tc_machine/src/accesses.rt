@@ -7,13 +7,13 @@ ghost use Rattle.csa_chain.specs.MemoryBytes.{loaded_number, with_bytes, extend_
 ghost use Rattle.tc_machine.specs.Instructions.{is_trapping_access};
 
 use crate::Event;
-use crate::operand_addresses::machine_address_ahead;
+use crate::operand_addresses::wrapping_sum;
 use tc_mem::Mem;
 use tcd_base::sext;
 
 /// Returns the word that a load of `size` bytes gives: mapped bytes from memory, others from the
 /// event's input, extended by the sign or by zeros.
-pub(crate) fn load(mem: &Mem, input: u32, addr: u32, size: u8, signed: bool) -> u32
+pub(crate) fn extended_loaded_word(mem: &Mem, input: u32, addr: u32, size: u8, signed: bool) -> u32
     requires { IsShapeAccessSize size }
     ensures { result ≡ extend_loaded_bytes signed size (loaded_number mem.now input addr size) }
 {
@@ -34,13 +34,13 @@ pub(crate) fn load(mem: &Mem, input: u32, addr: u32, size: u8, signed: bool) -> 
 
 /// Stores the low `n` bytes of a word in the machine's memory from an address on. Bytes that aren't
 /// mapped are dropped.
-pub(crate) fn store(mem: &mut Mem, addr: u32, word: u32, n: u8)
+pub(crate) fn store_low_bytes(mem: &mut Mem, addr: u32, word: u32, n: u8)
     ensures { mem.new ≡ with_bytes mem.old addr word n }
 {
     if store_in_block(mem, addr, word, n) {
         return;
     }
-    store_bytes(mem, addr, word, n);
+    store_byte_by_byte(mem, addr, word, n);
 }
 
 /// Returns true if an access traps: its address is no multiple of its size, and the event says that
@@ -90,11 +90,11 @@ fn load_word_by_bytes(mem: &Mem, input: u32, addr: u32) -> u32
     ensures { result ≡ loaded_number mem.now input addr 4 }
 {
     let low = load_byte_or_input(mem, input, addr);
-    let second = load_byte_or_input(mem, input / 256, machine_address_ahead(addr, 1));
+    let second = load_byte_or_input(mem, input / 256, wrapping_sum(addr, 1));
     let high = load_half_by_bytes(
         mem,
         input / 256 / 256,
-        machine_address_ahead(machine_address_ahead(addr, 1), 1),
+        wrapping_sum(wrapping_sum(addr, 1), 1),
     );
     u32::from(low) + 256 * (u32::from(second) + 256 * u32::from(high))
 }
@@ -113,7 +113,7 @@ fn load_half_by_bytes(mem: &Mem, input: u32, addr: u32) -> u16
     ensures { result ≡ loaded_number mem.now input addr 2 }
 {
     let low = load_byte_or_input(mem, input, addr);
-    let high = load_byte_or_input(mem, input / 256, machine_address_ahead(addr, 1));
+    let high = load_byte_or_input(mem, input / 256, wrapping_sum(addr, 1));
     u16::from(low) + 256 * u16::from(high)
 }
 
@@ -131,11 +131,11 @@ fn store_in_block(mem: &mut Mem, addr: u32, word: u32, n: u8) -> bool
 
 /// Stores the low `n` bytes of a word from an address on, byte by byte.
 #[tactic(auto, unfolding(csa_chain::specs::MemoryBytes::with_bytes))]
-fn store_bytes(mem: &mut Mem, addr: u32, word: u32, n: u8)
+fn store_byte_by_byte(mem: &mut Mem, addr: u32, word: u32, n: u8)
     ensures { mem.new ≡ with_bytes mem.old addr word n }
 {
     if n > 0 {
         mem.set(addr, (word % 256) as u8);
-        store_bytes(mem, machine_address_ahead(addr, 1), word / 256, n - 1);
+        store_byte_by_byte(mem, wrapping_sum(addr, 1), word / 256, n - 1);
     }
 }

@@ -5,7 +5,7 @@ ghost use Rattle.tc_machine.specs.declared.events.Event.{Event};
 ghost use Rattle.tc_machine.specs.Instructions.{does};
 ghost use Rattle.tc_machine.specs.InstructionKinds.{OnContextInstruction};
 
-use crate::operand_addresses::machine_address_ahead;
+use crate::operand_addresses::wrapping_sum;
 use crate::{End, Event, Machine};
 use csa_chain::pcxi_parts;
 use tc_isa::{Shape, Target};
@@ -16,7 +16,7 @@ const SYSTEM_CALLS: u8 = 6;
 impl Machine {
     /// Executes an instruction that saves or restores a context.
     #[tactic(auto, unfolding(crate::specs::Instructions::does))]
-    pub(crate) fn execute_context(&mut self, event: &Event, shape: Shape, n: u32)
+    pub(crate) fn execute_context_op(&mut self, event: &Event, shape: Shape, n: u32)
         requires { IsShape shape }
         ensures { OnContextInstruction shape (self.new ≡ does self.old event.now shape n) }
     {
@@ -27,10 +27,10 @@ impl Machine {
             Shape::Svlcx => self.save_lower_context(n),
             Shape::Rslcx => self.restore_lower_context(n),
             Shape::Bisr { c } => self.begin_interrupt_routine(c, n),
-            Shape::Syscall { tin } => self.trap(
+            Shape::Syscall { tin } => self.take_trap(
                 SYSTEM_CALLS,
                 tin,
-                machine_address_ahead(self.pc, n),
+                wrapping_sum(self.pc, n),
             ),
             _ => {}
         }
@@ -43,8 +43,8 @@ impl Machine {
         requires { IsShape (Shape.Call to) }
         ensures { (event : Event) → self.new ≡ does self.old event (Shape.Call to) n }
     {
-        let entry = self.target(to);
-        let back = machine_address_ahead(self.pc, n);
+        let entry = self.target_address(to);
+        let back = wrapping_sum(self.pc, n);
         self.save(true);
         match self.end {
             End::Running => {
@@ -94,7 +94,7 @@ impl Machine {
     {
         self.save(false);
         match self.end {
-            End::Running => self.advance(n),
+            End::Running => self.advance_pc(n),
             End::Dead(_) => {}
         }
     }
@@ -106,7 +106,7 @@ impl Machine {
     {
         self.restore(false);
         match self.end {
-            End::Running => self.advance(n),
+            End::Running => self.advance_pc(n),
             End::Dead(_) => {}
         }
     }
@@ -119,7 +119,7 @@ impl Machine {
         self.save(false);
         match self.end {
             End::Running => {
-                self.advance(n);
+                self.advance_pc(n);
                 self.ccpn = c;
                 self.ie = true;
             }

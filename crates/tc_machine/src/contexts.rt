@@ -20,20 +20,20 @@ pub(crate) fn context_link(word: u32) -> u32
 }
 
 /// Writes a word to the four bytes from an address on, in a save area.
-pub(crate) fn put_area_word(mem: &mut Mem, addr: u32, word: u32)
+pub(crate) fn write_area_word(mem: &mut Mem, addr: u32, word: u32)
     requires { addr + 3 < 2 ^ 32 }
     ensures { mem.new ≡ with_word mem.old addr word }
 {
     if mem.set_word(addr, word) {
         return;
     }
-    put_area_word_bytes(mem, addr, word);
+    write_area_word_bytes(mem, addr, word);
 }
 
 /// Writes a word byte by byte to a context save area, as when its link to the next free area is
 /// written.
 #[tactic(auto, unfolding(csa_chain::specs::MemoryBytes::with_word))]
-fn put_area_word_bytes(mem: &mut Mem, addr: u32, word: u32)
+fn write_area_word_bytes(mem: &mut Mem, addr: u32, word: u32)
     requires { addr + 3 < 2 ^ 32 }
     ensures { mem.new ≡ with_word mem.old addr word }
 {
@@ -45,7 +45,7 @@ fn put_area_word_bytes(mem: &mut Mem, addr: u32, word: u32)
 
 impl Machine {
     /// Returns the 16 words that a save of the machine's upper or lower context writes to an area.
-    fn context(&self, upper: bool) -> [u32; 16]
+    fn words_to_save(&self, upper: bool) -> [u32; 16]
         ensures { result ≡ context_of self.now upper }
     {
         if upper {
@@ -100,7 +100,7 @@ impl Machine {
             return;
         };
         let limit = context_link(self.lcx);
-        self.save_to(free, words[0], upper);
+        self.save_to_area(free, words[0], upper);
         if free == limit {
             self.die(Cause::Fcd);
         }
@@ -134,13 +134,13 @@ impl Machine {
     }
 
     /// Saves the context to the first free area. Its word 0 was the link of the next one.
-    fn save_to(&mut self, free: u32, next: u32, upper: bool)
+    fn save_to_area(&mut self, free: u32, next: u32, upper: bool)
         requires free { free ≡ link_in self.old.fcx }
         requires mapped { is_area self.old.mem free ≡ true }
         requires next { next ≡ area_word self.old.mem free 0 }
         ensures { self.new ≡ with_context_saved self.old upper }
     {
-        let words = self.context(upper);
+        let words = self.words_to_save(upper);
         self.mem.set_area(address_of(free), &words);
         self.pcxi = self.pcxi_after_save(upper, free);
         self.fcx = self.fcx / 0x10_0000 * 0x10_0000 + context_link(next);
@@ -154,7 +154,7 @@ impl Machine {
     {
         let (before, psw) = load_upper(words, &mut self.d, &mut self.a);
         self.psw = psw;
-        self.release(used, before);
+        self.release_area(used, before);
     }
 
     /// Restores the lower registers from the words of the area that PCXI names, and frees the area.
@@ -164,18 +164,18 @@ impl Machine {
         ensures { self.new ≡ with_lower_restored self.old }
     {
         let before = load_lower(words, &mut self.d, &mut self.a);
-        self.release(used, before);
+        self.release_area(used, before);
     }
 
     /// Moves the area that PCXI names to the front of the free list. Its old word 0 is the new
     /// PCXI.
     #[tactic(auto, unfolding(csa_chain::specs::MemoryBytes::with_words))]
-    fn release(&mut self, used: u32, before: u32)
+    fn release_area(&mut self, used: u32, before: u32)
         requires used { used ≡ link_in self.old.pcxi }
         requires before { before ≡ area_word self.old.mem used 0 }
         ensures { self.new ≡ with_area_released self.old }
     {
-        put_area_word(&mut self.mem, address_of(used), self.fcx);
+        write_area_word(&mut self.mem, address_of(used), self.fcx);
         self.pcxi = before;
         self.fcx = self.fcx / 0x10_0000 * 0x10_0000 + used;
     }

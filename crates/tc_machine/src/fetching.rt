@@ -5,7 +5,7 @@ ghost use Rattle.tc_isa.specs.InBounds.{IsShape};
 ghost use Rattle.tc_encode.specs.Decoding.{decoded_of};
 ghost use Rattle.tc_machine.specs.Fetching.{mapped_bytes, fetch_failure_cause, fetched_instruction, fetched_shape};
 
-use crate::operand_addresses::machine_address_ahead;
+use crate::operand_addresses::wrapping_sum;
 use crate::{Cause, Machine};
 use tc_encode::{DecodeErr, decode};
 use tc_isa::{Inst, Shape, shape};
@@ -58,15 +58,15 @@ fn fetch_by_bytes(mem: &Mem, addr: u32) -> Result<(Inst, usize), DecodeErr>
     let Some(a) = mem.get(addr) else {
         return decode_fetched_bytes(&[]);
     };
-    let second = machine_address_ahead(addr, 1);
+    let second = wrapping_sum(addr, 1);
     let Some(b) = mem.get(second) else {
         return decode_fetched_bytes(&[a]);
     };
-    let third = machine_address_ahead(second, 1);
+    let third = wrapping_sum(second, 1);
     let Some(c) = mem.get(third) else {
         return decode_fetched_bytes(&[a, b]);
     };
-    let Some(d) = mem.get(machine_address_ahead(third, 1)) else {
+    let Some(d) = mem.get(wrapping_sum(third, 1)) else {
         return decode_fetched_bytes(&[a, b, c]);
     };
     decode_fetched_bytes(&[a, b, c, d])

@@ -15,7 +15,7 @@ fn psw_of_handler(psw: u32) -> u32
 impl Machine {
     /// Takes the interrupt of priority `irq` (manual, volume 1, interrupts): saves the upper
     /// context, and enters its handler with CCPN `irq` and interrupts off.
-    pub(crate) fn interrupt(&mut self, irq: u8)
+    pub(crate) fn take_interrupt(&mut self, irq: u8)
         ensures { self.new ≡ interrupt self.old irq }
     {
         let back = self.pc;
@@ -33,7 +33,7 @@ impl Machine {
     }
 
     /// Takes a trap of a class, with its identification number in D15 (manual, volume 1, traps).
-    pub(crate) fn trap(&mut self, class: u8, tin: u8, back: u32)
+    pub(crate) fn take_trap(&mut self, class: u8, tin: u8, back: u32)
         ensures { self.new ≡ trap self.old class tin back }
     {
         let entry = self.btv | u32::from(class) * 32;

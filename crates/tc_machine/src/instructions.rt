@@ -5,8 +5,8 @@ ghost use Rattle.tc_machine.specs.declared.events.Event.{Event};
 ghost use Rattle.tc_machine.specs.Instructions.{does};
 ghost use Rattle.tc_machine.specs.InstructionKinds.{OnAccessInstruction, OnSystemInstruction};
 
-use crate::accesses::{is_trapping_access, load, store};
-use crate::operand_addresses::machine_address_ahead;
+use crate::accesses::{is_trapping_access, extended_loaded_word, store_low_bytes};
+use crate::operand_addresses::wrapping_sum;
 use crate::{Event, Machine};
 use tc_isa::{Arg, Cond, Op, Shape, alu, taken};
 
@@ -42,13 +42,13 @@ impl Machine {
         ensures { self.new ≡ does self.old event.now shape n }
     {
         match shape {
-            Shape::Compute { op, dst, x, y } => self.compute(op, dst, x, y, n),
+            Shape::Compute { op, dst, x, y } => self.execute_operation(op, dst, x, y, n),
             Shape::Scaled {
                 dst,
                 base,
                 index,
                 n: k,
-            } => self.compute_scaled(dst, base, index, k, n),
+            } => self.execute_scaled_add(dst, base, index, k, n),
             Shape::Load { .. } | Shape::Store { .. } => self.execute_load_or_store(event, shape, n),
             Shape::Branch {
                 cond,
@@ -56,16 +56,16 @@ impl Machine {
                 y,
                 by,
                 lowers,
-            } => self.branch(Comparison { cond, x, y }, by, lowers, n),
-            Shape::Jump { to } => self.pc = self.target(to),
+            } => self.execute_branch(Comparison { cond, x, y }, by, lowers, n),
+            Shape::Jump { to } => self.pc = self.target_address(to),
             Shape::Call { .. } | Shape::Ret | Shape::Rfe | Shape::Svlcx | Shape::Rslcx => {
-                self.execute_context(event, shape, n)
+                self.execute_context_op(event, shape, n)
             }
-            Shape::Bisr { .. } | Shape::Syscall { .. } => self.execute_context(event, shape, n),
+            Shape::Bisr { .. } | Shape::Syscall { .. } => self.execute_context_op(event, shape, n),
             Shape::Enable | Shape::Disable | Shape::Mfcr { .. } | Shape::Mtcr { .. } => {
-                self.execute_system(event, shape, n)
+                self.execute_system_op(event, shape, n)
             }
-            Shape::Nothing => self.advance(n),
+            Shape::Nothing => self.advance_pc(n),
         }
     }
 
@@ -90,7 +90,7 @@ impl Machine {
                     size,
                     after,
                 };
-                self.load(event, dst, at, signed, n)
+                self.execute_load(event, dst, at, signed, n)
             }
             Shape::Store {
                 src,
@@ -105,7 +105,7 @@ impl Machine {
                     size,
                     after,
                 };
-                self.store(event, src, at, n)
+                self.execute_store(event, src, at, n)
             }
             _ => {}
         }
@@ -113,27 +113,27 @@ impl Machine {
 
     /// Executes an instruction of `n` bytes on core registers or the interrupt system.
     #[tactic(auto, unfolding(crate::specs::Instructions::does))]
-    fn execute_system(&mut self, event: &Event, shape: Shape, n: u32)
+    fn execute_system_op(&mut self, event: &Event, shape: Shape, n: u32)
         requires { IsShape shape }
         ensures { OnSystemInstruction shape (self.new ≡ does self.old event.now shape n) }
     {
         match shape {
             Shape::Enable => {
-                self.advance(n);
+                self.advance_pc(n);
                 self.ie = true;
             }
             Shape::Disable => {
-                self.advance(n);
+                self.advance_pc(n);
                 self.ie = false;
             }
             Shape::Mfcr { dst, number } => {
                 let word = self.core_register(event, number);
                 self.set_reg(dst, word);
-                self.advance(n);
+                self.advance_pc(n);
             }
             Shape::Mtcr { src, number } => {
                 self.set_core_register(number, self.reg(src));
-                self.advance(n);
+                self.advance_pc(n);
             }
             _ => {}
         }
@@ -142,69 +142,69 @@ impl Machine {
     /// Executes an arithmetic or logical instruction: writes the result of an operation on two
     /// operands to a register.
     #[tactic(auto, unfolding(crate::specs::Instructions::does))]
-    fn compute(&mut self, op: Op, dst: u8, x: Arg, y: Arg, n: u32)
+    fn execute_operation(&mut self, op: Op, dst: u8, x: Arg, y: Arg, n: u32)
         requires { IsShape (Shape.Compute op dst x y) }
         ensures { (event : Event) → self.new ≡ does self.old event (Shape.Compute op dst x y) n }
     {
         let word = alu(op, self.operand_value(x), self.operand_value(y));
         self.set_reg(dst, word);
-        self.advance(n);
+        self.advance_pc(n);
     }
 
     /// Executes `addsc.a`: writes the sum of a base address and an index that is shifted to the
     /// left by `k` bits.
     #[tactic(auto, unfolding(crate::specs::Instructions::does))]
-    fn compute_scaled(&mut self, dst: u8, base: u8, index: u8, k: u8, n: u32)
+    fn execute_scaled_add(&mut self, dst: u8, base: u8, index: u8, k: u8, n: u32)
         requires { IsShape (Shape.Scaled dst base index k) }
         ensures { (event : Event)
             → self.new ≡ does self.old event (Shape.Scaled dst base index k) n }
     {
-        let word = machine_address_ahead(self.reg(base), self.reg(index) << k);
+        let word = wrapping_sum(self.reg(base), self.reg(index) << k);
         self.set_reg(dst, word);
-        self.advance(n);
+        self.advance_pc(n);
     }
 
     /// Executes one of the load instructions: writes the register, and the base with
     /// post-increment, or takes the trap of a misaligned access.
     #[tactic(auto, unfolding(crate::specs::Instructions::does))]
-    fn load(&mut self, event: &Event, dst: u8, at: Access, signed: bool, n: u32)
+    fn execute_load(&mut self, event: &Event, dst: u8, at: Access, signed: bool, n: u32)
         requires { IsShape (Shape.Load dst at.base at.offset at.size signed at.after) }
         ensures { self.new
             ≡ does self.old event.now (Shape.Load dst at.base at.offset at.size signed at.after) n }
     {
         let addr = self.access_address(at.base, at.offset, at.after);
         if is_trapping_access(event, addr, at.size) {
-            self.trap(INSTRUCTION_ERRORS, ALN, self.pc);
+            self.take_trap(INSTRUCTION_ERRORS, ALN, self.pc);
             return;
         }
-        let word = load(&self.mem, event.input, addr, at.size, signed);
+        let word = extended_loaded_word(&self.mem, event.input, addr, at.size, signed);
         self.post_increment_base(at.base, at.offset, at.after);
         self.set_reg(dst, word);
-        self.advance(n);
+        self.advance_pc(n);
     }
 
     /// Executes one of the store instructions: writes the bytes, and the base with post-increment,
     /// or takes the trap of a misaligned access.
     #[tactic(auto, unfolding(crate::specs::Instructions::does))]
-    fn store(&mut self, event: &Event, src: u8, at: Access, n: u32)
+    fn execute_store(&mut self, event: &Event, src: u8, at: Access, n: u32)
         requires { IsShape (Shape.Store src at.base at.offset at.size at.after) }
         ensures { self.new
             ≡ does self.old event.now (Shape.Store src at.base at.offset at.size at.after) n }
     {
         let addr = self.access_address(at.base, at.offset, at.after);
         if is_trapping_access(event, addr, at.size) {
-            self.trap(INSTRUCTION_ERRORS, ALN, self.pc);
+            self.take_trap(INSTRUCTION_ERRORS, ALN, self.pc);
             return;
         }
         let word = self.reg(src);
         self.post_increment_base(at.base, at.offset, at.after);
-        store(&mut self.mem, addr, word, at.size);
-        self.advance(n);
+        store_low_bytes(&mut self.mem, addr, word, at.size);
+        self.advance_pc(n);
     }
 
     /// Executes a branch, which is taken or not.
     #[tactic(auto, unfolding(crate::specs::Instructions::does))]
-    fn branch(&mut self, test: Comparison, by: u32, lowers: bool, n: u32)
+    fn execute_branch(&mut self, test: Comparison, by: u32, lowers: bool, n: u32)
         requires { IsShape (Shape.Branch test.cond test.x test.y by lowers) }
         ensures { (event : Event)
             → self.new ≡ does self.old event (Shape.Branch test.cond test.x test.y by lowers) n }
@@ -212,6 +212,6 @@ impl Machine {
         let goes = taken(test.cond, self.reg(test.x), self.operand_value(test.y));
         let distance = if goes { by } else { n };
         self.decrement_compared_register(test.x, lowers);
-        self.advance(distance);
+        self.advance_pc(distance);
     }
 }

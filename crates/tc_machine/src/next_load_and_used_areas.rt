@@ -38,7 +38,7 @@ impl Machine {
     {
         match self.end {
             End::Running => match found {
-                Ok((shape, _)) => self.load_of(*shape),
+                Ok((shape, _)) => self.load_by_shape(*shape),
                 Err(_) => None,
             },
             End::Dead(_) => None,
@@ -92,7 +92,7 @@ impl Machine {
 
     /// Returns the address and the size in bytes of the next load if an instruction of this shape
     /// is at pc, or `None` if it is no load.
-    fn load_of(&self, shape: Shape) -> Option<(u32, u8)>
+    fn load_by_shape(&self, shape: Shape) -> Option<(u32, u8)>
         requires { IsShape shape }
         ensures { result ≡ load_of_fetched self.now (Ok (shape, 0)) }
     {
@@ -116,6 +116,6 @@ impl Machine {
             (if is_area self.now.mem (link_in word)
             then Some (area_word self.now.mem (link_in word) 0) else None) }
     {
-        self.mem.first_word(address_of(context_link(word)), near)
+        self.mem.area_first_word(address_of(context_link(word)), near)
     }
 }

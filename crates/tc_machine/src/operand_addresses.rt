@@ -17,7 +17,7 @@ impl Machine {
         if after {
             self.operand_value(base)
         } else {
-            machine_address_ahead(self.operand_value(base), offset)
+            wrapping_sum(self.operand_value(base), offset)
         }
     }
 
@@ -30,7 +30,7 @@ impl Machine {
         match base {
             Arg::Reg(r) => {
                 if after {
-                    let sum = machine_address_ahead(self.reg(r), offset);
+                    let sum = wrapping_sum(self.reg(r), offset);
                     self.set_reg(r, sum);
                 }
             }
@@ -39,12 +39,12 @@ impl Machine {
     }
 
     /// Returns the address that a jump or a call goes to.
-    pub(crate) fn target(&self, to: Target) -> u32
+    pub(crate) fn target_address(&self, to: Target) -> u32
         requires { IsTarget to }
         ensures { result ≡ target_of self.now to }
     {
         match to {
-            Target::Rel(by) => machine_address_ahead(self.pc, by),
+            Target::Rel(by) => wrapping_sum(self.pc, by),
             Target::Abs(x) => x,
             Target::Reg(r) => self.reg(r) / 2 * 2,
         }
@@ -56,14 +56,14 @@ impl Machine {
         ensures { self.new ≡ with_register_decremented self.old x lowers }
     {
         if lowers {
-            let less = machine_address_ahead(self.reg(x), u32::MAX);
+            let less = wrapping_sum(self.reg(x), u32::MAX);
             self.set_reg(x, less);
         }
     }
 }
 
 /// Returns the address `by` bytes after `at`, modulo 2^32.
-pub(crate) fn machine_address_ahead(at: u32, by: u32) -> u32
+pub(crate) fn wrapping_sum(at: u32, by: u32) -> u32
     ensures { result ≡ machine_address_ahead at by }
 {
     at.wrapping_add(by)

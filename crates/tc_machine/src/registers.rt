@@ -4,7 +4,7 @@ ghost use Rattle.tc_isa.specs.InBounds.{IsArg};
 ghost use Rattle.tc_machine.specs.Machine.{reg, with_reg, dead_machine};
 ghost use Rattle.tc_machine.specs.Instructions.{machine_address_ahead, operand_value, with_pc_advanced};
 
-use crate::operand_addresses::machine_address_ahead;
+use crate::operand_addresses::wrapping_sum;
 use crate::{Cause, End, Machine};
 use tc_isa::Arg;
 
@@ -45,10 +45,10 @@ impl Machine {
     }
 
     /// Sets the register pc to the address after the instruction, which has `n` bytes.
-    pub(crate) fn advance(&mut self, n: u32)
+    pub(crate) fn advance_pc(&mut self, n: u32)
         ensures { self.new ≡ with_pc_advanced n self.old }
     {
-        self.pc = machine_address_ahead(self.pc, n);
+        self.pc = wrapping_sum(self.pc, n);
     }
 
     /// Ends the machine with this cause of death; the rest of its state stays.

@@ -6,7 +6,7 @@ ghost use Rattle.csa_chain.specs.MemoryBytes.{HasBytes};
 ghost use Rattle.tc_machine.specs.Starting.{with_image_in_range, with_image_in_ranges, next_start_link, with_area_links, start_memory_ranges, IsFilledStartMemory, IsCopiedToMemory};
 ghost use Rattle.csa_chain.specs.Chain.{link_at};
 
-use crate::contexts::put_area_word;
+use crate::contexts::write_area_word;
 use elf_image::{Image, Segment};
 use std::alloc::Global;
 use tc_mem::Mem;
@@ -79,7 +79,7 @@ fn link_start_areas(mem: &mut Mem, at: u32, first: u32, n: u32)
     ensures { mem.new ≡ with_area_links at first n mem.old n }
 {
     for i in 0..n {
-        put_area_word(mem, at + 64 * i, next_start_link(first, n, i));
+        write_area_word(mem, at + 64 * i, next_start_link(first, n, i));
     }
 }
 

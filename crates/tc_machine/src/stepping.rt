@@ -56,7 +56,7 @@ impl Machine {
         ensures { self.new ≡ machine_after_event self.old event.now }
     {
         if self.ie && self.ccpn < event.irq {
-            self.interrupt(event.irq);
+            self.take_interrupt(event.irq);
             return;
         }
         match self.fetch(found) {

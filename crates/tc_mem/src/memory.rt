@@ -11,8 +11,8 @@ ghost use Rattle.tc_mem.specs.Written.{IsMemoryWritten};
 
 use crate::page::{Page, page_byte_at};
 use crate::page_list::{
-    pages_of, read_area, read_area_first_word, read_half, read_memory_byte, read_word, write_area,
-    write_bytes, write_half, write_memory_byte, write_word,
+    new_pages, read_area, read_area_first_word, read_memory_half, read_memory_byte, read_memory_word, write_area,
+    write_memory_bytes, write_memory_half, write_memory_byte, write_memory_word,
 };
 use std::alloc::Global;
 use std::marker::Model;
@@ -50,7 +50,7 @@ impl Mem {
         ensures bytes { IfOk result (λ m. HasBytes m) }
     {
         Ok(Mem {
-            pages: pages_of(alloc, ranges)?,
+            pages: new_pages(alloc, ranges)?,
             near: 0,
         })
     }
@@ -79,7 +79,7 @@ impl Mem {
         ensures written { IsMemoryWritten self.old addr bytes.now self.new }
         ensures bytes { HasBytes self.new }
     {
-        write_bytes(&mut self.pages, addr, bytes);
+        write_memory_bytes(&mut self.pages, addr, bytes);
     }
 
     /// Returns the 16 words of the 64 bytes from an address on, each with its lowest byte first. If
@@ -110,7 +110,7 @@ impl Mem {
         ensures word { result ≡ mapped_block_word self.now addr }
         ensures bytes { HasBytes self.now }
     {
-        read_word(&self.pages, addr, self.near)
+        read_memory_word(&self.pages, addr, self.near)
     }
 
     /// Returns the halfword of the two bytes from an address on, its lower byte first. If one of
@@ -119,7 +119,7 @@ impl Mem {
         ensures half { result ≡ mapped_block_half self.now addr }
         ensures bytes { HasBytes self.now }
     {
-        read_half(&self.pages, addr, self.near)
+        read_memory_half(&self.pages, addr, self.near)
     }
 
     /// Writes a word to the four bytes from an address on, its lowest byte first. If one of them
@@ -129,7 +129,7 @@ impl Mem {
         ensures written { self.new ≡ with_block_word self.old addr word }
         ensures bytes { HasBytes self.new }
     {
-        write_word(&mut self.pages, addr, word, self.near)
+        write_memory_word(&mut self.pages, addr, word, self.near)
     }
 
     /// Writes a halfword to the two bytes from an address on, its lower byte first. If one of them
@@ -139,13 +139,13 @@ impl Mem {
         ensures written { self.new ≡ with_block_half self.old addr half }
         ensures bytes { HasBytes self.new }
     {
-        write_half(&mut self.pages, addr, half, self.near)
+        write_memory_half(&mut self.pages, addr, half, self.near)
     }
 
     /// Returns the first word of the 64 bytes from an address on, or `None` if one of the 64 isn't
     /// mapped. `near` is a hint: the place at which the last such call found its page; any number
     /// is allowed.
-    pub fn first_word(&self, addr: u32, near: &mut usize) -> Option<u32>
+    pub fn area_first_word(&self, addr: u32, near: &mut usize) -> Option<u32>
         requires { addr % 64 ≡ 0 }
         ensures word { result ≡ area_first_word self.now addr }
         ensures bytes { HasBytes self.now }

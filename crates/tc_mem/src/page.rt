@@ -22,7 +22,7 @@ pub(crate) fn page_byte_at(page: &Page, addr: u32) -> Option<u8>
     ensures { result ≡ page_byte_at addr page.now }
 {
     let offset = (addr % 4096) as usize;
-    if is_mapped(page, offset) {
+    if is_page_byte_mapped(page, offset) {
         Some(page.bytes[offset])
     } else {
         None
@@ -30,7 +30,7 @@ pub(crate) fn page_byte_at(page: &Page, addr: u32) -> Option<u8>
 }
 
 // Writes the byte at an offset if it is mapped, and returns whether it is.
-pub(crate) fn put_byte(page: &mut Page, offset: usize, byte: u8) -> bool
+pub(crate) fn write_page_byte(page: &mut Page, offset: usize, byte: u8) -> bool
     requires { offset < 4096 }
     ensures mapped { result ≡ is_page_bit_set page.old.mapped offset }
     ensures written { page.new
@@ -39,7 +39,7 @@ pub(crate) fn put_byte(page: &mut Page, offset: usize, byte: u8) -> bool
               else page.old.bytes;
         } }
 {
-    let mapped = is_mapped(page, offset);
+    let mapped = is_page_byte_mapped(page, offset);
     if mapped {
         page.bytes[offset] = byte;
     }
@@ -47,7 +47,7 @@ pub(crate) fn put_byte(page: &mut Page, offset: usize, byte: u8) -> bool
 }
 
 // Writes bytes from an offset on, mapped or not: nobody reads an unmapped one.
-pub(crate) fn put_bytes(page: &mut Page, offset: usize, bytes: &[u8])
+pub(crate) fn write_page_bytes(page: &mut Page, offset: usize, bytes: &[u8])
     requires { offset + length bytes.now ≤ 4096 }
     ensures written { page.new
         ≡ record page.old { bytes = page_bytes_with page.old.bytes offset bytes.now } }
@@ -71,7 +71,7 @@ pub(crate) fn page_word(bytes: &[u8; 4096], offset: usize) -> u32
 
 // Writes a word to the four bytes from an offset on, the lowest byte first.
 #[tactic(auto, unfolding(crate::specs::Pages::page_bytes_with_words))]
-pub(crate) fn put_page_word(bytes: &mut [u8; 4096], offset: usize, word: u32)
+pub(crate) fn write_page_word(bytes: &mut [u8; 4096], offset: usize, word: u32)
     requires { offset + 4 ≤ 4096 }
     ensures { bytes.new ≡ page_bytes_with_words bytes.old offset (word ∷ []) }
 {
@@ -102,7 +102,7 @@ pub(crate) fn page_area(page: &Page, offset: usize) -> Option<[u32; 16]>
 
 // Writes 16 words to the 64 bytes from an offset of a page on if all are mapped, and returns
 // whether they are.
-pub(crate) fn put_area(page: &mut Page, offset: usize, words: &[u32; 16]) -> bool
+pub(crate) fn write_page_area(page: &mut Page, offset: usize, words: &[u32; 16]) -> bool
     requires aligned { offset % 64 ≡ 0 }
     requires within { offset < 4096 }
     ensures fits { slice_index page.old.mapped (offset / 64) < 2 ^ 64 }
@@ -115,7 +115,7 @@ pub(crate) fn put_area(page: &mut Page, offset: usize, words: &[u32; 16]) -> boo
 {
     let mapped = page.mapped[offset / 64] == u64::MAX;
     if mapped {
-        put_page_area_words(&mut page.bytes, offset, words);
+        write_page_area_words(&mut page.bytes, offset, words);
     }
     mapped
 }
@@ -138,12 +138,12 @@ pub(crate) fn page_area_first_word(page: &Page, offset: usize) -> Option<u32>
 }
 
 // Returns the word at an offset if it is mapped.
-pub(crate) fn mapped_word(page: &Page, offset: usize) -> Option<u32>
+pub(crate) fn mapped_page_word(page: &Page, offset: usize) -> Option<u32>
     requires { offset + 4 ≤ 4096 }
     ensures mapped { is_some result ≡ are_page_bits_set 4 page.now.mapped offset }
     ensures word { IfSome result (λ w. w ≡ word_in_bytes page.now.bytes offset) }
 {
-    if is_word_mapped(page, offset) {
+    if is_page_word_mapped(page, offset) {
         Some(page_word(&page.bytes, offset))
     } else {
         None
@@ -151,12 +151,12 @@ pub(crate) fn mapped_word(page: &Page, offset: usize) -> Option<u32>
 }
 
 // Returns the halfword at an offset if it is mapped.
-pub(crate) fn mapped_half(page: &Page, offset: usize) -> Option<u16>
+pub(crate) fn mapped_page_half(page: &Page, offset: usize) -> Option<u16>
     requires { offset + 2 ≤ 4096 }
     ensures mapped { is_some result ≡ are_page_bits_set 2 page.now.mapped offset }
     ensures half { IfSome result (λ h. h ≡ half_in_bytes page.now.bytes offset) }
 {
-    if is_half_mapped(page, offset) {
+    if is_page_half_mapped(page, offset) {
         Some(page_half(&page.bytes, offset))
     } else {
         None
@@ -164,7 +164,7 @@ pub(crate) fn mapped_half(page: &Page, offset: usize) -> Option<u16>
 }
 
 // Writes a word at an offset if it is mapped, and returns whether it is.
-pub(crate) fn put_mapped_word(page: &mut Page, offset: usize, word: u32) -> bool
+pub(crate) fn write_mapped_page_word(page: &mut Page, offset: usize, word: u32) -> bool
     requires { offset + 4 ≤ 4096 }
     ensures mapped { result ≡ are_page_bits_set 4 page.old.mapped offset }
     ensures written { page.new
@@ -173,15 +173,15 @@ pub(crate) fn put_mapped_word(page: &mut Page, offset: usize, word: u32) -> bool
               else page.old.bytes;
         } }
 {
-    let mapped = is_word_mapped(page, offset);
+    let mapped = is_page_word_mapped(page, offset);
     if mapped {
-        put_page_word(&mut page.bytes, offset, word);
+        write_page_word(&mut page.bytes, offset, word);
     }
     mapped
 }
 
 // Writes a halfword at an offset if it is mapped, and returns whether it is.
-pub(crate) fn put_mapped_half(page: &mut Page, offset: usize, half: u16) -> bool
+pub(crate) fn write_mapped_page_half(page: &mut Page, offset: usize, half: u16) -> bool
     requires { offset + 2 ≤ 4096 }
     ensures mapped { result ≡ are_page_bits_set 2 page.old.mapped offset }
     ensures written { page.new
@@ -191,15 +191,15 @@ pub(crate) fn put_mapped_half(page: &mut Page, offset: usize, half: u16) -> bool
               (half / 2 ^ 8 % 2 ^ 8) else page.old.bytes;
         } }
 {
-    let mapped = is_half_mapped(page, offset);
+    let mapped = is_page_half_mapped(page, offset);
     if mapped {
-        put_page_half(&mut page.bytes, offset, half);
+        write_page_half(&mut page.bytes, offset, half);
     }
     mapped
 }
 
 // Marks the bytes that a range has in the page with this number as mapped, in the page's bits.
-pub(crate) fn mark_range(mapped: &mut [u64; 64], number: u32, range: &Range)
+pub(crate) fn set_page_bits_of_range(mapped: &mut [u64; 64], number: u32, range: &Range)
     ensures { (k : ℕ) → k < 4096
         → is_page_bit_set mapped.new k
         ≡ (is_page_bit_set mapped.old k
@@ -210,12 +210,12 @@ pub(crate) fn mark_range(mapped: &mut [u64; 64], number: u32, range: &Range)
     let from = u64::from(range.at).max(base);
     let to = (u64::from(range.at) + u64::from(range.len)).min(base + 4096);
     if from < to {
-        mark_page_between(mapped, (from - base) as usize, (to - base) as usize);
+        set_page_bits_between(mapped, (from - base) as usize, (to - base) as usize);
     }
 }
 
 /// Returns the bytes of a new page, all zero.
-pub(crate) fn page_zeros() -> [u8; 4096]
+pub(crate) fn zero_page_bytes() -> [u8; 4096]
     ensures size { length result ≡ 4096 }
     ensures zeros { (k : ℕ) → k < 4096 → slice_index result k ≡ 0 }
     ensures small { (k : ℕ) → slice_index result k < 256 }
@@ -232,7 +232,7 @@ pub(crate) fn unmapped_page_bits() -> [u64; 64]
 }
 
 // Returns the page with this number, all zero, in which the bytes of the ranges are mapped.
-pub(crate) fn page_of(number: u32, ranges: &[Range]) -> Page
+pub(crate) fn new_page(number: u32, ranges: &[Range]) -> Page
     ensures number { result.number ≡ number }
     ensures page { IsPage result }
     ensures small { (k : ℕ) → slice_index result.bytes k < 256 }
@@ -241,17 +241,17 @@ pub(crate) fn page_of(number: u32, ranges: &[Range]) -> Page
 {
     let mut mapped = unmapped_page_bits();
     for range in ranges {
-        mark_range(&mut mapped, number, range);
+        set_page_bits_of_range(&mut mapped, number, range);
     }
     Page {
         number,
         mapped,
-        bytes: page_zeros(),
+        bytes: zero_page_bytes(),
     }
 }
 
 // Returns true if the byte at an offset is mapped.
-fn is_mapped(page: &Page, offset: usize) -> bool
+fn is_page_byte_mapped(page: &Page, offset: usize) -> bool
     requires { offset < 4096 }
     ensures { result ≡ is_page_bit_set page.now.mapped offset }
 {
@@ -273,19 +273,19 @@ fn page_area_words(bytes: &[u8; 4096], offset: usize) -> [u32; 16]
 }
 
 // Writes 16 words from an offset on, each with its lowest byte first.
-fn put_page_area_words(bytes: &mut [u8; 4096], offset: usize, words: &[u32; 16])
+fn write_page_area_words(bytes: &mut [u8; 4096], offset: usize, words: &[u32; 16])
     requires { offset + 64 ≤ 4096 }
     ensures { bytes.new ≡ page_bytes_with_words bytes.old offset words.now }
 {
     let mut i = 16;
     while i > 0 {
         i -= 1;
-        put_page_word(bytes, offset + 4 * i, words[i]);
+        write_page_word(bytes, offset + 4 * i, words[i]);
     }
 }
 
 // Returns true if the four bytes from an offset on are mapped.
-fn is_word_mapped(page: &Page, offset: usize) -> bool
+fn is_page_word_mapped(page: &Page, offset: usize) -> bool
     requires { offset < 4096 }
     ensures { result ≡ are_page_bits_set 4 page.now.mapped offset }
 {
@@ -293,7 +293,7 @@ fn is_word_mapped(page: &Page, offset: usize) -> bool
 }
 
 // Returns true if the two bytes from an offset on are mapped.
-fn is_half_mapped(page: &Page, offset: usize) -> bool
+fn is_page_half_mapped(page: &Page, offset: usize) -> bool
     requires { offset < 4096 }
     ensures { result ≡ are_page_bits_set 2 page.now.mapped offset }
 {
@@ -309,7 +309,7 @@ fn page_half(bytes: &[u8; 4096], offset: usize) -> u16
 }
 
 // Writes a halfword to the two bytes from an offset on, the lower byte first.
-fn put_page_half(bytes: &mut [u8; 4096], offset: usize, half: u16)
+fn write_page_half(bytes: &mut [u8; 4096], offset: usize, half: u16)
     requires { offset + 2 ≤ 4096 }
     ensures { bytes.new
         ≡ slice_set (slice_set bytes.old offset (half % 2 ^ 8)) (offset + 1)
@@ -322,7 +322,7 @@ fn put_page_half(bytes: &mut [u8; 4096], offset: usize, half: u16)
 
 /// Sets the bits of a page from one offset up to before another. Those of a whole page are set at
 /// once.
-fn mark_page_between(mapped: &mut [u64; 64], from: usize, to: usize)
+fn set_page_bits_between(mapped: &mut [u64; 64], from: usize, to: usize)
     requires ordered { from ≤ to }
     requires within { to ≤ 4096 }
     ensures { (k : ℕ) → k < 4096
@@ -336,10 +336,10 @@ fn mark_page_between(mapped: &mut [u64; 64], from: usize, to: usize)
     let mut offset = from;
     while offset < to {
         if offset % 64 == 0 && to - offset >= 64 {
-            mark_page_block(mapped, offset);
+            set_page_bit_block(mapped, offset);
             offset += 64;
         } else {
-            mark_page_byte(mapped, offset);
+            set_page_bit(mapped, offset);
             offset += 1;
         }
     }
@@ -354,7 +354,7 @@ fn mapped_page_bits() -> [u64; 64]
 }
 
 // Sets the 64 bits from an offset on, which are one word of the list.
-fn mark_page_block(mapped: &mut [u64; 64], offset: usize)
+fn set_page_bit_block(mapped: &mut [u64; 64], offset: usize)
     requires aligned { offset % 64 ≡ 0 }
     requires within { offset < 4096 }
     ensures { (k : ℕ) → k < 4096 → is_page_bit_set mapped.new k
@@ -364,7 +364,7 @@ fn mark_page_block(mapped: &mut [u64; 64], offset: usize)
 }
 
 /// Sets the bit of an offset, by which the byte there is mapped.
-fn mark_page_byte(mapped: &mut [u64; 64], offset: usize)
+fn set_page_bit(mapped: &mut [u64; 64], offset: usize)
     requires { offset < 4096 }
     ensures { (k : ℕ) → k < 4096 → is_page_bit_set mapped.new k
         ≡ (is_page_bit_set mapped.old k || (k == offset)) }

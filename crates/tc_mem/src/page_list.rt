@@ -10,8 +10,8 @@ ghost use Rattle.tc_mem.specs.PlanMemory.{IsMemoryOfZeros};
 ghost use Rattle.tc_mem.specs.Written.{IsMemoryWritten};
 
 use crate::page::{
-    Page, mapped_half, mapped_word, page_area, page_area_first_word, page_byte_at, page_of,
-    put_area, put_byte, put_bytes, put_mapped_half, put_mapped_word,
+    Page, mapped_page_half, mapped_page_word, page_area, page_area_first_word, page_byte_at, new_page,
+    write_page_area, write_page_byte, write_page_bytes, write_mapped_page_half, write_mapped_page_word,
 };
 use crate::page_numbers::{find_page, find_page_near, page_numbers};
 use std::alloc::Global;
@@ -32,7 +32,7 @@ pub(crate) fn read_memory_byte(pages: &[Page], addr: u32, near: usize) -> Option
 
 /// Writes bytes to a whole memory from an address on, as a part of `Mem::set_bytes` that is all in
 /// one page. Those that aren't mapped are dropped.
-pub(crate) fn write_in_page(pages: &mut [Page], addr: u32, bytes: &[u8])
+pub(crate) fn write_bytes_in_page(pages: &mut [Page], addr: u32, bytes: &[u8])
     requires pages { AreMemoryPages pages.old }
     requires within { addr % 4096 + length bytes.now ≤ 4096 }
     ensures written { IsMemoryWritten (memory_of pages.old) addr bytes.now (memory_of pages.new) }
@@ -41,12 +41,12 @@ pub(crate) fn write_in_page(pages: &mut [Page], addr: u32, bytes: &[u8])
     let Some(i) = find_page(pages, addr / 4096, 0) else {
         return;
     };
-    put_bytes(&mut pages[i], (addr % 4096) as usize, bytes);
+    write_page_bytes(&mut pages[i], (addr % 4096) as usize, bytes);
 }
 
 /// Returns the word at an address of a whole memory, for `Mem::word`, if its bytes are mapped and
 /// in one block of 64.
-pub(crate) fn read_word(pages: &[Page], addr: u32, near: usize) -> Option<u32>
+pub(crate) fn read_memory_word(pages: &[Page], addr: u32, near: usize) -> Option<u32>
     requires { AreMemoryPages pages.now }
     ensures word { result ≡ mapped_block_word (memory_of pages.now) addr }
     ensures bytes { HasBytes (memory_of pages.now) }
@@ -57,12 +57,12 @@ pub(crate) fn read_word(pages: &[Page], addr: u32, near: usize) -> Option<u32>
     let Some(i) = find_page(pages, addr / 4096, near) else {
         return None;
     };
-    mapped_word(&pages[i], (addr % 4096) as usize)
+    mapped_page_word(&pages[i], (addr % 4096) as usize)
 }
 
 /// Returns the halfword at an address of a whole memory, for `Mem::half`, if its bytes are mapped
 /// and in one block of 64.
-pub(crate) fn read_half(pages: &[Page], addr: u32, near: usize) -> Option<u16>
+pub(crate) fn read_memory_half(pages: &[Page], addr: u32, near: usize) -> Option<u16>
     requires { AreMemoryPages pages.now }
     ensures half { result ≡ mapped_block_half (memory_of pages.now) addr }
     ensures bytes { HasBytes (memory_of pages.now) }
@@ -73,7 +73,7 @@ pub(crate) fn read_half(pages: &[Page], addr: u32, near: usize) -> Option<u16>
     let Some(i) = find_page(pages, addr / 4096, near) else {
         return None;
     };
-    mapped_half(&pages[i], (addr % 4096) as usize)
+    mapped_page_half(&pages[i], (addr % 4096) as usize)
 }
 
 /// Does the work of `Mem::set`: writes a byte if it is mapped, and returns whether it is.
@@ -88,12 +88,12 @@ pub(crate) fn write_memory_byte(pages: &mut [Page], addr: u32, byte: u8, near: u
     let Some(i) = find_page(pages, addr / 4096, near) else {
         return false;
     };
-    put_byte(&mut pages[i], (addr % 4096) as usize, byte)
+    write_page_byte(&mut pages[i], (addr % 4096) as usize, byte)
 }
 
 /// Writes bytes to a whole memory from an address on, for `Mem::set_bytes`, page by page. Those
 /// that aren't mapped are dropped.
-pub(crate) fn write_bytes(pages: &mut [Page], addr: u32, bytes: &[u8])
+pub(crate) fn write_memory_bytes(pages: &mut [Page], addr: u32, bytes: &[u8])
     requires pages { AreMemoryPages pages.old }
     requires fits { addr + length bytes.now ≤ 2 ^ 32 }
     ensures written { IsMemoryWritten (memory_of pages.old) addr bytes.now (memory_of pages.new) }
@@ -104,14 +104,14 @@ pub(crate) fn write_bytes(pages: &mut [Page], addr: u32, bytes: &[u8])
     while done < bytes.len() {
         let at = addr + done as u32;
         let end = bytes.len().min(done + (4096 - at % 4096) as usize);
-        write_in_page(pages, at, &bytes[done..end]);
+        write_bytes_in_page(pages, at, &bytes[done..end]);
         done = end;
     }
 }
 
 /// Writes a word to a whole memory, for `Mem::set_word`, if its bytes are mapped and in one block
 /// of 64, and returns whether they are.
-pub(crate) fn write_word(pages: &mut [Page], addr: u32, word: u32, near: usize) -> bool
+pub(crate) fn write_memory_word(pages: &mut [Page], addr: u32, word: u32, near: usize) -> bool
     requires { AreMemoryPages pages.old }
     ensures mapped { result ≡ are_in_block (memory_of pages.old) addr 4 }
     ensures written { memory_of pages.new ≡ with_block_word (memory_of pages.old) addr word }
@@ -124,12 +124,12 @@ pub(crate) fn write_word(pages: &mut [Page], addr: u32, word: u32, near: usize) 
     let Some(i) = find_page(pages, addr / 4096, near) else {
         return false;
     };
-    put_mapped_word(&mut pages[i], (addr % 4096) as usize, word)
+    write_mapped_page_word(&mut pages[i], (addr % 4096) as usize, word)
 }
 
 /// Writes a halfword to a whole memory, for `Mem::set_half`, if its bytes are mapped and in one
 /// block of 64, and returns whether they are.
-pub(crate) fn write_half(pages: &mut [Page], addr: u32, half: u16, near: usize) -> bool
+pub(crate) fn write_memory_half(pages: &mut [Page], addr: u32, half: u16, near: usize) -> bool
     requires { AreMemoryPages pages.old }
     ensures mapped { result ≡ are_in_block (memory_of pages.old) addr 2 }
     ensures written { memory_of pages.new ≡ with_block_half (memory_of pages.old) addr half }
@@ -142,7 +142,7 @@ pub(crate) fn write_half(pages: &mut [Page], addr: u32, half: u16, near: usize) 
     let Some(i) = find_page(pages, addr / 4096, near) else {
         return false;
     };
-    put_mapped_half(&mut pages[i], (addr % 4096) as usize, half)
+    write_mapped_page_half(&mut pages[i], (addr % 4096) as usize, half)
 }
 
 /// Returns the first word of an area of a whole memory, for `Mem::first_word`, if all 64 bytes are
@@ -188,12 +188,12 @@ pub(crate) fn write_area(pages: &mut [Page], addr: u32, words: &[u32; 16], near:
         return false;
     };
     *near = i;
-    put_area(&mut pages[i], (addr % 4096) as usize, words)
+    write_page_area(&mut pages[i], (addr % 4096) as usize, words)
 }
 
 /// Returns the pages of a whole new memory in which these ranges are mapped, all zero, for
 /// `Mem::of`. Room for all pages is reserved first, so that each is written where it stays.
-pub(crate) fn pages_of(alloc: Global, ranges: &[Range]) -> Result<Vec<Page>, NoMemory>
+pub(crate) fn new_pages(alloc: Global, ranges: &[Range]) -> Result<Vec<Page>, NoMemory>
     ensures pages { IfOk result (λ v. AreMemoryPages v.items) }
     ensures bytes { IfOk result (λ v. HasBytes (memory_of v.items)) }
     ensures zeros { IfOk result (λ v. IsMemoryOfZeros ranges.now (memory_of v.items)) }
@@ -201,7 +201,7 @@ pub(crate) fn pages_of(alloc: Global, ranges: &[Range]) -> Result<Vec<Page>, NoM
     let numbers = page_numbers(alloc, ranges)?;
     let mut pages = Vec::with_capacity(alloc, numbers.len())?;
     for number in &numbers {
-        pages.push_reserved(page_of(*number, ranges));
+        pages.push_reserved(new_page(*number, ranges));
     }
     Ok(pages)
 }

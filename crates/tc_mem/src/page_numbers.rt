@@ -30,7 +30,7 @@ pub(crate) fn find_page(pages: &[Page], number: u32, near: usize) -> Option<usiz
     ensures found { IfSome result (λ i. slice_index (map page_number_of pages.now) i ≡ number) }
     ensures none { IfNone result (All (λ p. page_number_of p ≢ number) pages.now) }
 {
-    find_page_near(pages, number, likely_page_place(pages, number, near))
+    find_page_near(pages, number, likely_page_index(pages, number, near))
 }
 
 // Returns the numbers of the pages in which the ranges have bytes, ascending.
@@ -75,7 +75,7 @@ fn binary_search_page(pages: &[Page], number: u32) -> Option<usize>
 
 // Returns a place at which the page with this number may be: its distance from the first page, or
 // from the last one if it is there, else `near`. A guess that saves the search.
-fn likely_page_place(pages: &[Page], number: u32, near: usize) -> usize {
+fn likely_page_index(pages: &[Page], number: u32, near: usize) -> usize {
     let count = pages.len();
     if count == 0 {
         return 0;

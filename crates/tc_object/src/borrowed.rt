@@ -1,7 +1,7 @@
 // Objects that borrow their names and bytes.
 ghost use Rattle.std.specs.Prelude.{◌≡◌, IfOk};
 
-use crate::reading::read_parts;
+use crate::reading::read_object_file;
 use crate::{ObjErr, Object, Reloc, Section, SectionRef, Symbol, SymbolRef};
 use std::alloc::Global;
 use std::marker::Model;
@@ -44,7 +44,7 @@ impl<'a> ObjectRef<'a> {
         // each object has exactly one spelling
         ensures one { IfOk result (λ o. bytes_of_object o ≡ bytes.now) }
     {
-        let parts = read_parts(alloc, bytes)?;
+        let parts = read_object_file(alloc, bytes)?;
         Ok(ObjectRef {
             sections: parts.sections,
             symbols: parts.symbols,

@@ -6,7 +6,7 @@ ghost use Rattle.tc_object.specs.Names.{is_object_name, object_name_of};
 ghost use Rattle.tc_object.specs.Grammar.{name_length_at, name_bytes_at};
 
 use tcd_base::{
-    BAD_VALUE, FileCursor, FormErr, are_name_bytes, form_err_at, is_name_first, read_bytes, read_u8,
+    BAD_VALUE, FileCursor, FormErr, are_name_bytes, form_err_at, is_name_start, read_bytes, read_u8,
 };
 
 /// The bytes as a name: 1 to 64 letters, digits, `_`, `.` and `$`, of which the first is no digit.
@@ -53,7 +53,7 @@ pub(crate) fn read_name_bytes<'a>(c: &mut FileCursor<'a>, count: u8) -> Result<&
 fn is_object_name(bytes: &[u8]) -> bool
     ensures { result ≡ is_object_name bytes.now }
 {
-    !bytes.is_empty() && is_name_first(bytes[0]) && are_name_bytes(bytes)
+    !bytes.is_empty() && is_name_start(bytes[0]) && are_name_bytes(bytes)
 }
 
 // The bytes of a name are ASCII, so they are a text.

@@ -57,13 +57,13 @@ fn read_symbol<'a>(
         ≡ (bytes_eq s.name q || is_used_name names.old q)) }
 {
     let name = read_new_name(c, names)?;
-    let symbol = read_symbol_named(c, sections, name)?;
+    let symbol = read_symbol_after_name(c, sections, name)?;
     Ok(symbol)
 }
 
 /// Reads the kind, section and offset of the symbol of this name from 7 bytes at once, if the file
 /// holds all of them.
-fn read_symbol_named<'a>(
+fn read_symbol_after_name<'a>(
     c: &mut FileCursor<'_>,
     sections: &[SectionRef<'_>],
     name: &'a str,
@@ -135,10 +135,10 @@ fn check_symbol(
     if !is_kind_between(UNDEFINED_SYMBOL, GLOBAL_SYMBOL, symbol.kind) {
         return Err(form_err_at(BAD_VALUE, start));
     }
-    if !is_symbol_section(sections, symbol.kind, symbol.section) {
+    if !is_valid_symbol_section(sections, symbol.kind, symbol.section) {
         return Err(form_err_at(BAD_VALUE, start + 1));
     }
-    if !is_symbol_offset(sections, symbol.kind, symbol.section, symbol.offset) {
+    if !is_valid_symbol_offset(sections, symbol.kind, symbol.section, symbol.offset) {
         return Err(form_err_at(BAD_VALUE, start + 3));
     }
     Ok(())
@@ -155,7 +155,7 @@ fn read_symbol_section(
 {
     let start = c.place();
     let section = read_u16(c)?;
-    if !is_symbol_section(sections, kind, section) {
+    if !is_valid_symbol_section(sections, kind, section) {
         return Err(form_err_at(BAD_VALUE, start));
     }
     Ok(section)
@@ -173,14 +173,14 @@ fn read_symbol_offset(
 {
     let start = c.place();
     let offset = read_u32(c)?;
-    if !is_symbol_offset(sections, kind, section, offset) {
+    if !is_valid_symbol_offset(sections, kind, section, offset) {
         return Err(form_err_at(BAD_VALUE, start));
     }
     Ok(offset)
 }
 
 // Whether a symbol of this kind may have this section number.
-fn is_symbol_section(sections: &[SectionRef<'_>], kind: u8, section: u16) -> bool
+fn is_valid_symbol_section(sections: &[SectionRef<'_>], kind: u8, section: u16) -> bool
     ensures { result ≡ is_symbol_section sections.now kind section }
 {
     match kind {
@@ -190,7 +190,7 @@ fn is_symbol_section(sections: &[SectionRef<'_>], kind: u8, section: u16) -> boo
 }
 
 // Whether a symbol of this kind may have this offset in the section.
-fn is_symbol_offset(sections: &[SectionRef<'_>], kind: u8, section: u16, offset: u32) -> bool
+fn is_valid_symbol_offset(sections: &[SectionRef<'_>], kind: u8, section: u16, offset: u32) -> bool
     ensures { result ≡ is_symbol_offset sections.now kind section offset }
 {
     match kind {

@@ -70,7 +70,7 @@ pub(crate) fn area_effect_of_event(
         return area_effect_of_save(m, used);
     }
     match found {
-        Ok((shape, _)) => area_effect_of_shape(m, event, *shape, used),
+        Ok((shape, _)) => area_effect_of_instruction(m, event, *shape, used),
         Err(_) => Effect::Unknown,
     }
 }
@@ -122,7 +122,7 @@ fn area_effect_of_save(m: &Machine, used: AreasUsed) -> Effect
 
 /// Returns how an instruction changes the script's count of areas in use, if they are consecutive.
 /// The machine runs after it.
-fn area_effect_of_shape(m: &Machine, event: &Event, shape: Shape, used: AreasUsed) -> Effect
+fn area_effect_of_instruction(m: &Machine, event: &Event, shape: Shape, used: AreasUsed) -> Effect
     requires counted { IsAreaCountOf used m.now }
     requires row { used.in_row ≡ true }
     requires bounded { IsShape shape }
@@ -157,7 +157,7 @@ fn area_effect_of_shape(m: &Machine, event: &Event, shape: Shape, used: AreasUse
         Shape::Enable => Effect::Stays,
         Shape::Disable => Effect::Stays,
         Shape::Nothing => Effect::Stays,
-        _ => area_effect_of_other(m, event, shape, used),
+        _ => area_effect_of_context_op(m, event, shape, used),
     }
 }
 
@@ -205,7 +205,7 @@ fn area_effect_of_store_or_trap(
 
 /// Returns how an instruction that accesses no memory except that of an area changes the script's
 /// count of areas. The machine runs after it.
-fn area_effect_of_other(m: &Machine, event: &Event, shape: Shape, used: AreasUsed) -> Effect
+fn area_effect_of_context_op(m: &Machine, event: &Event, shape: Shape, used: AreasUsed) -> Effect
     requires counted { IsAreaCountOf used m.now }
     requires row { used.in_row ≡ true }
     ensures { IsAreaEffectOf result used m.now event.now shape }

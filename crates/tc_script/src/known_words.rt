@@ -23,7 +23,7 @@ pub(crate) struct KnownWords {
 
 /// Returns the place of a word in the cache of known words that a script's run keeps: the highest
 /// ten of the 32 bits of its product with 2^32 divided by the golden ratio.
-fn known_word_place(word: u32) -> usize
+fn known_word_index(word: u32) -> usize
     ensures { result < 1024 }
 {
     (word.wrapping_mul(0x9E37_79B9) / 0x40_0000) as usize
@@ -63,7 +63,7 @@ impl KnownWords {
             self.decode_into(m, 0, None);
             return 0;
         };
-        let place = known_word_place(word);
+        let place = known_word_index(word);
         if self.words[place].word == Some(word) {
             return place;
         }

@@ -36,7 +36,7 @@ fn initial_script_bounds(devices: &[Device]) -> ArrayVec<AnswerRange, 16>
 }
 
 /// Returns true if a line `irq` of a script can be read: its interrupt is one of the plan's.
-fn is_source(plan: &Plan, irq: u8) -> bool
+fn is_plan_irq(plan: &Plan, irq: u8) -> bool
     ensures { result ≡ is_plan_irq plan.now irq }
 {
     plan.irqs.iter().any(|q| *q == irq)
@@ -97,7 +97,7 @@ impl Draft {
             Statement::Blank => Ok(()),
             Statement::Step(n) => self.add_turns(line, n, 0),
             Statement::Irq(irq) => {
-                if !is_source(plan, irq) {
+                if !is_plan_irq(plan, irq) {
                     return Err(ScriptErr::NoSource(line));
                 }
                 self.add_turns(line, 1, irq)

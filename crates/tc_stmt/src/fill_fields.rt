@@ -11,13 +11,13 @@ ghost use Rattle.tc_stmt.specs.OperandForms.{register_by_name, operand_number_mo
 
 use crate::form_index::{ABS, B, BOL, SBR, form_index};
 use crate::row_fields::{
-    NO_RELOC, RowFields, break_rule, field_of, note_misplaced_symbol, note_symbol, put_field_value,
+    NO_RELOC, RowFields, note_broken_rule, field_of, note_misplaced_symbol, note_symbol, fill_field,
 };
 use crate::row_wants::wants;
 use crate::shape_numbers::{ABSENT, HIGH, HUGE, LOW, NUMBER, SUM, WORD, shape_index};
 use crate::source_rules::{FAR_TARGET, NO_RULE, ODD_DISPLACEMENT, WIDE_NUMBER, WRONG_REGISTER};
 use crate::want::{Field, Want};
-use tc_isa::{ABS24, Form, HI16, LO16, OFFSET16, REL15, REL24, Row, bounds_of};
+use tc_isa::{ABS24, Form, HI16, LO16, OFFSET16, REL15, REL24, Row, field_bounds};
 use tc_lex::{Operand, Shape, Value, is_same_text};
 
 // The number of a name that is no register: above the numbers of all registers.
@@ -91,13 +91,13 @@ fn fill_displacement(row: &Row, minus: bool, size: u128, acc: &mut RowFields<'_>
 {
     let rule = displacement_rule(row, minus, size);
     if rule == NO_RULE {
-        put_field_value(
+        fill_field(
             Field::K,
             operand_number_modulo(target_operand_bound(row.form), minus, (size / 2) as u32),
             acc,
         );
     } else {
-        break_rule(rule, acc);
+        note_broken_rule(rule, acc);
     }
 }
 
@@ -145,7 +145,7 @@ fn target_operand_bound(form: Form) -> u32
     ensures small { result < 2 ^ 31 }
     ensures some { 1 ≤ result }
 {
-    bounds_of(form).k
+    field_bounds(form).k
 }
 
 /// Whether a displacement of `size` bytes doesn't fit the form; SBR only reaches forwards.
@@ -183,10 +183,10 @@ fn fill_memory<'a>(
 {
     if o.is_memory && (if o.plus { plus } else { !plus }) {
         if shape_index(o.value.shape) == ABSENT {
-            put_register(true, Field::S2, o.base, acc);
+            fill_named_register(true, Field::S2, o.base, acc);
             true
         } else if offset {
-            put_register(true, Field::S2, o.base, acc);
+            fill_named_register(true, Field::S2, o.base, acc);
             fill_constant(row, true, Field::K, &o.value, acc)
         } else {
             false
@@ -204,7 +204,7 @@ fn fill_register(bank: bool, field: Field, v: &Value<'_>, acc: &mut RowFields<'_
         (fill_register bank field (value_of v.now) (row_fields_of acc.old)) }
 {
     if shape_index(v.shape) == WORD {
-        put_register(bank, field, v.name, acc);
+        fill_named_register(bank, field, v.name, acc);
         true
     } else {
         false
@@ -219,7 +219,7 @@ fn fill_a10(v: &Value<'_>, acc: &mut RowFields<'_>) -> bool
 {
     if shape_index(v.shape) == WORD {
         if !is_same_text(v.name, "a10") {
-            break_rule(WRONG_REGISTER, acc);
+            note_broken_rule(WRONG_REGISTER, acc);
         }
         true
     } else {
@@ -242,10 +242,10 @@ fn fill_constant<'a>(
 {
     let shape = shape_index(v.shape);
     if shape == NUMBER {
-        put_number(row.form, signed, field, v.minus, v.size, acc);
+        fill_number(row.form, signed, field, v.minus, v.size, acc);
         true
     } else if shape == HUGE {
-        break_rule(WIDE_NUMBER, acc);
+        note_broken_rule(WIDE_NUMBER, acc);
         true
     } else if shape == WORD || shape == SUM {
         note_misplaced_symbol(v, acc);
@@ -273,7 +273,7 @@ fn fill_target<'a>(row: &Row, v: &Value<'a>, acc: &mut RowFields<'a>) -> bool
     let shape = shape_index(v.shape);
     if shape == SUM && is_same_text(v.name, ".") {
         if v.wide {
-            break_rule(WIDE_NUMBER, acc);
+            note_broken_rule(WIDE_NUMBER, acc);
         } else {
             fill_displacement(row, v.minus, v.size, acc);
         }
@@ -298,10 +298,10 @@ fn fill_absolute<'a>(row: &Row, v: &Value<'a>, acc: &mut RowFields<'a>) -> bool
 {
     let shape = shape_index(v.shape);
     if shape == NUMBER {
-        put_absolute(row.form, v.minus, v.size, acc);
+        fill_address(row.form, v.minus, v.size, acc);
         true
     } else if shape == HUGE {
-        break_rule(WIDE_NUMBER, acc);
+        note_broken_rule(WIDE_NUMBER, acc);
         true
     } else if shape == WORD || shape == SUM {
         if form_index(row.form) == ABS {
@@ -320,22 +320,22 @@ fn fill_absolute<'a>(row: &Row, v: &Value<'a>, acc: &mut RowFields<'a>) -> bool
 
 /// Fills a field with the register of this name and bank, or breaks rule 4.
 #[tactic(auto, unfolding(crate::specs::Filling::put_register))]
-fn put_register(bank: bool, field: Field, name: &[u8], acc: &mut RowFields<'_>)
+fn fill_named_register(bank: bool, field: Field, name: &[u8], acc: &mut RowFields<'_>)
     ensures { row_fields_of acc.new
         ≡ put_register bank field name.now (row_fields_of acc.old) }
 {
-    let reg = register_by_name(name);
+    let reg = register_number(name);
     if reg / 16 == (if bank { 1 } else { 0 }) {
-        put_field_value(field, u32::from(reg % 16), acc);
+        fill_field(field, u32::from(reg % 16), acc);
     } else {
-        break_rule(WRONG_REGISTER, acc);
+        note_broken_rule(WRONG_REGISTER, acc);
     }
 }
 
 /// Returns the number of the register of this name, by which a field is filled: 0 to 15 for d0 to
 /// d15, 16 to 31 for a0 to a15, and `NO_REGISTER` or more for other names.
 #[tactic(auto, unfolding(crate::specs::OperandForms::register_by_name, tc_lex::specs::Bytes::is_digit))]
-fn register_by_name(name: &[u8]) -> u8
+fn register_number(name: &[u8]) -> u8
     ensures value { result ≡ register_by_name name.now }
 {
     if name.len() == 2 && b'0' <= name[1] && name[1] <= b'9' {
@@ -365,7 +365,7 @@ fn bank_first_register(c: u8) -> u8
 
 /// Fills a field with an operand's number that fits it, or breaks rule 5.
 #[tactic(auto, unfolding(crate::specs::Filling::put_number))]
-fn put_number(
+fn fill_number(
     form: Form,
     signed: bool,
     field: Field,
@@ -376,11 +376,11 @@ fn put_number(
     ensures { row_fields_of acc.new
         ≡ put_number form signed field minus size (row_fields_of acc.old) }
 {
-    let bound = field_of(field, &bounds_of(form));
+    let bound = field_of(field, &field_bounds(form));
     if is_within_field_bound(signed, bound, minus, size) {
-        put_field_value(field, operand_number_modulo(bound, minus, size as u32), acc);
+        fill_field(field, operand_number_modulo(bound, minus, size as u32), acc);
     } else {
-        break_rule(WIDE_NUMBER, acc);
+        note_broken_rule(WIDE_NUMBER, acc);
     }
 }
 
@@ -454,28 +454,28 @@ fn target_operand_relocation(row: &Row) -> u8
 
 /// Fills the field of an absolute address, or breaks rule 5.
 #[tactic(auto, unfolding(crate::specs::Filling::put_absolute))]
-fn put_absolute(form: Form, minus: bool, size: u128, acc: &mut RowFields<'_>)
+fn fill_address(form: Form, minus: bool, size: u128, acc: &mut RowFields<'_>)
     ensures { row_fields_of acc.new ≡ put_absolute form minus size (row_fields_of acc.old) }
 {
     if (minus && size != 0) || 0x1_0000_0000 <= size {
-        break_rule(WIDE_NUMBER, acc);
+        note_broken_rule(WIDE_NUMBER, acc);
     } else if form_index(form) == ABS {
         if size / 16384 % 16384 == 0 {
-            put_field_value(
+            fill_field(
                 Field::K,
                 (size / 268435456 * 16384 + size % 16384) as u32,
                 acc,
             );
         } else {
-            break_rule(WIDE_NUMBER, acc);
+            note_broken_rule(WIDE_NUMBER, acc);
         }
     } else if size / 2097152 % 128 == 0 && size % 2 == 0 {
-        put_field_value(
+        fill_field(
             Field::K,
             (size / 268435456 * 1048576 + size % 2097152 / 2) as u32,
             acc,
         );
     } else {
-        break_rule(WIDE_NUMBER, acc);
+        note_broken_rule(WIDE_NUMBER, acc);
     }
 }

@@ -94,8 +94,8 @@ fn uncut_line<'a>(
         (label_before front.now (tokens_of front.now))) result items.old.items items.new.items }
 {
     match cut_pieces(front, pieces) {
-        Ok(()) => label_line(pieces.as_slice(), items),
-        Err(_) => add_no_item(BAD_TOKEN, items),
+        Ok(()) => add_label_before_fault(pieces.as_slice(), items),
+        Err(_) => rule_without_items(BAD_TOKEN, items),
     }
 }
 
@@ -136,11 +136,11 @@ fn line_from<'a>(
     ensures { AddsLine (line_from (map piece_of ps.now) at) result items.old.items items.new.items }
 {
     if ps.len() == at {
-        add_no_item(NO_RULE, items)
+        rule_without_items(NO_RULE, items)
     } else if is_token_kind(ps, at, TokenKind::Word) {
         statement_at(ps, at, operands, items)
     } else {
-        add_no_item(BAD_TOKEN, items)
+        rule_without_items(BAD_TOKEN, items)
     }
 }
 
@@ -154,7 +154,7 @@ fn add_label<'a>(name: &'a [u8], items: &mut Vec<Item<'a>>) -> Result<(), AllocE
 }
 
 // Returns the rule of a line that adds no item to its source.
-fn add_no_item(rule: u8, items: &mut Vec<Item<'_>>) -> Result<u8, AllocError>
+fn rule_without_items(rule: u8, items: &mut Vec<Item<'_>>) -> Result<u8, AllocError>
     ensures { AddsLine (line_data rule []) result items.old.items items.new.items }
 {
     Ok(rule)
@@ -228,7 +228,7 @@ fn section_line<'a>(os: &[Operand<'a>], items: &mut Vec<Item<'a>>) -> Result<u8,
         (map operand_of os.now)) result items.old.items items.new.items }
 {
     match only_operand_name(os) {
-        None => add_no_item(WRONG_OPERANDS, items),
+        None => rule_without_items(WRONG_OPERANDS, items),
         Some(name) => add_item(NO_RULE, Item::Section(name), items),
     }
 }
@@ -240,7 +240,7 @@ fn global_line<'a>(os: &[Operand<'a>], items: &mut Vec<Item<'a>>) -> Result<u8, 
         (map operand_of os.now)) result items.old.items items.new.items }
 {
     match only_operand_name(os) {
-        None => add_no_item(WRONG_OPERANDS, items),
+        None => rule_without_items(WRONG_OPERANDS, items),
         Some(name) => add_item(NO_RULE, Item::Global(name), items),
     }
 }
@@ -284,7 +284,7 @@ fn code_line<'a>(
 {
     match statement(name, os) {
         Ok((row, found)) => add_item(NO_RULE, code_item(row, &found), items),
-        Err(rule) => add_item(rule, Item::Zeros(size_of_name(name)), items),
+        Err(rule) => add_item(rule, Item::Zeros(instruction_size(name)), items),
     }
 }
 
@@ -296,7 +296,7 @@ fn only_operand_name<'a>(os: &[Operand<'a>]) -> Option<&'a [u8]>
         return None;
     }
     let operand = &os[0];
-    if is_named_line_operand(operand) {
+    if is_unbracketed_name(operand) {
         Some(operand.value.name)
     } else {
         None
@@ -315,7 +315,7 @@ fn add_item<'a>(rule: u8, item: Item<'a>, items: &mut Vec<Item<'a>>) -> Result<u
 
 /// Whether the operand is a word, as `.section` and `.global` want.
 #[tactic(auto, unfolding(crate::specs::Lines::is_named_line_operand))]
-fn is_named_line_operand(o: &Operand<'_>) -> bool
+fn is_unbracketed_name(o: &Operand<'_>) -> bool
     ensures { result ≡ is_named_line_operand (operand_of o.now) }
 {
     !o.is_memory && shape_index(o.value.shape) == WORD
@@ -346,7 +346,7 @@ fn code_item<'a>(row: u8, found: &RowFields<'a>) -> Item<'a>
 /// The number of zeros for a line whose instruction breaks a rule: the size in bytes of the
 /// instructions with this name, and 0 if there are none.
 #[tactic(auto, unfolding(crate::specs::Lines::size_of_name))]
-fn size_of_name(name: &[u8]) -> u32
+fn instruction_size(name: &[u8]) -> u32
     ensures { result ≡ size_of_name name.now }
 {
     match row_of_name(name) {
@@ -357,7 +357,7 @@ fn size_of_name(name: &[u8]) -> u32
 
 // Adds the label that these tokens begin with, if there is one. Their line breaks rule 1.
 #[tactic(auto, unfolding(crate::specs::Lines::label_of))]
-fn label_line<'a>(ps: &[Piece<'a>], items: &mut Vec<Item<'a>>) -> Result<u8, AllocError>
+fn add_label_before_fault<'a>(ps: &[Piece<'a>], items: &mut Vec<Item<'a>>) -> Result<u8, AllocError>
     ensures { AddsLine (line_data 1
         (label_of (map piece_of ps.now))) result items.old.items items.new.items }
 {
@@ -365,7 +365,7 @@ fn label_line<'a>(ps: &[Piece<'a>], items: &mut Vec<Item<'a>>) -> Result<u8, All
     if has_label(ps) {
         add_label_of_bad_line(name, items)
     } else {
-        add_no_item(BAD_TOKEN, items)
+        rule_without_items(BAD_TOKEN, items)
     }
 }
 

@@ -6,7 +6,7 @@ ghost use Rattle.tc_lex.specs.Operands.{value_of};
 
 use crate::source_rules::{BAD_NAME, NO_RULE, WIDE_NUMBER};
 use tc_lex::{Value, is_same_text};
-use tcd_base::{are_name_bytes, is_name_first};
+use tcd_base::{are_name_bytes, is_name_start};
 
 /// Whether bytes are a name that a source may use: a word of at most 64 bytes, but not a lone `.`.
 #[tactic(auto, unfolding(crate::specs::Names::is_source_name), using(crate::proofs::Named::some_name))]
@@ -15,7 +15,7 @@ pub fn is_source_name(bytes: &[u8]) -> bool
 {
     1 <= bytes.len()
         && bytes.len() <= 64
-        && is_name_first(bytes[0])
+        && is_name_start(bytes[0])
         && are_name_bytes(bytes)
         && !is_same_text(bytes, ".")
 }

@@ -10,7 +10,7 @@ ghost use Rattle.tc_isa.specs.Rows.{row_of};
 use crate::names::symbol_rule;
 use crate::source_rules::{EQUAL_REGISTERS, MISPLACED_SYMBOL, NO_RULE};
 use crate::want::Field;
-use tc_isa::{Fields, Form, Row, are_registers_apart};
+use tc_isa::{Fields, Form, Row, are_registers_allowed};
 use tc_lex::Value;
 
 /// The kind of a reference whose address is used at once, without a relocation.
@@ -56,7 +56,7 @@ pub struct RowFields<'a> {
 }
 
 /// A row's fields before the first operand: zeros, no rule broken, no symbol.
-pub(crate) fn no_fields<'a>() -> RowFields<'a>
+pub(crate) fn zero_fields<'a>() -> RowFields<'a>
     ensures { row_fields_of result ≡ no_fields }
 {
     RowFields {
@@ -73,7 +73,7 @@ pub(crate) fn no_fields<'a>() -> RowFields<'a>
 }
 
 /// Notes among a row's fields that an operand breaks a rule. The least rule counts.
-pub(crate) fn break_rule(rule: u8, acc: &mut RowFields<'_>)
+pub(crate) fn note_broken_rule(rule: u8, acc: &mut RowFields<'_>)
     ensures { row_fields_of acc.new ≡ with_rule rule (row_fields_of acc.old) }
 {
     acc.rule = acc.rule.min(rule);
@@ -108,7 +108,7 @@ pub fn field_of(field: Field, f: &Fields) -> u32
 }
 
 /// Sets a field of a row, as an operand fills it, to a value.
-pub(crate) fn put_field_value(field: Field, v: u32, acc: &mut RowFields<'_>)
+pub(crate) fn fill_field(field: Field, v: u32, acc: &mut RowFields<'_>)
     ensures { row_fields_of acc.new ≡ put_in field v (row_fields_of acc.old) }
 {
     set_field(field, v, &mut acc.fields);
@@ -123,7 +123,7 @@ pub(crate) fn note_symbol<'a>(kind: u8, v: &Value<'a>, acc: &mut RowFields<'a>)
 {
     let rule = symbol_rule(v);
     if rule != NO_RULE {
-        break_rule(rule, acc);
+        note_broken_rule(rule, acc);
         return;
     }
     acc.reference = Some(Reference {
@@ -138,14 +138,14 @@ pub(crate) fn note_symbol<'a>(kind: u8, v: &Value<'a>, acc: &mut RowFields<'a>)
 pub(crate) fn note_misplaced_symbol(v: &Value<'_>, acc: &mut RowFields<'_>)
     ensures { row_fields_of acc.new ≡ with_misplaced (value_of v.now) (row_fields_of acc.old) }
 {
-    break_rule(MISPLACED_SYMBOL.min(symbol_rule(v)), acc);
+    note_broken_rule(MISPLACED_SYMBOL.min(symbol_rule(v)), acc);
 }
 
 /// Notes in `RowFields` that rule 12 is broken, if the row's registers must differ and are equal.
-pub(crate) fn check_registers_apart(row: &Row, f: &mut RowFields<'_>)
+pub(crate) fn note_equal_registers(row: &Row, f: &mut RowFields<'_>)
     ensures { row_fields_of f.new ≡ check_registers_apart (row_of row.now) (row_fields_of f.old) }
 {
-    if !are_registers_apart(row, &f.fields) {
-        break_rule(EQUAL_REGISTERS, f);
+    if !are_registers_allowed(row, &f.fields) {
+        note_broken_rule(EQUAL_REGISTERS, f);
     }
 }

@@ -212,7 +212,7 @@ pub(crate) fn next_row(rows: &[Row], next: &[u8], i: usize, name: &[u8]) -> usiz
     ensures none { are_rows_without_key (result - (i + 1)) (name_key name.now)
         (drop (i + 1) (map row_of rows.now)) ≡ true }
 {
-    if i < next.len() && has_name_key(&rows[i], name) {
+    if i < next.len() && has_same_name_key(&rows[i], name) {
         usize::from(next[i])
     } else {
         i + 1
@@ -255,7 +255,7 @@ fn name_byte_at(text: &[u8], i: usize) -> usize
 }
 
 /// Whether the row's name has the key of this name.
-fn has_name_key(row: &Row, name: &[u8]) -> bool
+fn has_same_name_key(row: &Row, name: &[u8]) -> bool
     ensures { result ≡ (name_key (row_of row.now).name == name_key name.now) }
 {
     name_key(row.name.as_bytes()) == name_key(name)

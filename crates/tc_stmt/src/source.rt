@@ -39,10 +39,10 @@ pub fn read_source<'a>(alloc: Global, source: &'a [u8]) -> Result<Source<'a>, Al
     let mut lines = Vec::new(alloc);
     let mut items = Vec::new(alloc);
     let mut rest = source;
-    'lines: while let Some(i) = source_line_feed(rest) {
-        let line = source_line_before(rest, i);
+    'lines: while let Some(i) = next_line_feed(rest) {
+        let line = line_before_feed(rest, i);
         add_source_line(line, &mut pieces, &mut operands, &mut lines, &mut items)?;
-        rest = source_after_line(rest, i);
+        rest = source_after_feed(rest, i);
     }
     add_source_line(rest, &mut pieces, &mut operands, &mut lines, &mut items)?;
     Ok(Source { lines, items })
@@ -51,7 +51,7 @@ pub fn read_source<'a>(alloc: Global, source: &'a [u8]) -> Result<Source<'a>, Al
 // The place of the next line feed, which ends an empty line if it is the first byte.
 #[inline(always)]
 #[tactic(auto, using(crate::proofs::Feeds::first_byte))]
-fn source_line_feed(rest: &[u8]) -> Option<usize>
+fn next_line_feed(rest: &[u8]) -> Option<usize>
     ensures value { result ≡ position (λ c. c == 10) rest.now }
     ensures within { IfSome result (λ i. i < length rest.now) }
 {
@@ -62,7 +62,7 @@ fn source_line_feed(rest: &[u8]) -> Option<usize>
 }
 
 /// The line of the source before the line feed at `i`.
-fn source_line_before(rest: &[u8], i: usize) -> &[u8]
+fn line_before_feed(rest: &[u8], i: usize) -> &[u8]
     requires { i ≤ length rest.now }
     ensures { result.now ≡ take i rest.now }
 {
@@ -87,7 +87,7 @@ fn add_source_line<'a>(
 }
 
 /// The rest of the source after the line feed at `i`.
-fn source_after_line(rest: &[u8], i: usize) -> &[u8]
+fn source_after_feed(rest: &[u8], i: usize) -> &[u8]
     requires { i < length rest.now }
     ensures { result.now ≡ drop (i + 1) rest.now }
 {

@@ -10,7 +10,7 @@ ghost use Rattle.tc_stmt.specs.StatementRow.{start_tally, after_row, statement_o
 ghost use Rattle.tc_stmt.specs.RowIndex.{are_first_rows, are_next_rows};
 
 use crate::fill_fields::fill_operands;
-use crate::row_fields::{RowFields, check_registers_apart, no_fields};
+use crate::row_fields::{RowFields, note_equal_registers, zero_fields};
 use crate::row_index::{first_row, first_rows, next_row, next_rows};
 use crate::row_wants::wants;
 use crate::source_rules::NO_RULE;
@@ -49,7 +49,7 @@ fn search_statement_row<'a>(
         fits: false,
         least: NO_RULE,
     };
-    let mut found = no_fields();
+    let mut found = zero_fields();
     let mut i = first_row(first, name);
     'rows: while i < rows.len() {
         match try_statement_row(&rows[i], wants[i], name, os, so_far, &mut found) {
@@ -128,10 +128,10 @@ fn fill_statement_row<'a>(
     ensures { GivesFilledFields result found.new
         (fields_of_row (row_of row.now) wants.now (map operand_of os.now)) }
 {
-    *found = no_fields();
+    *found = zero_fields();
     if !fill_operands(row, wants, os, found) {
         return false;
     }
-    check_registers_apart(row, found);
+    note_equal_registers(row, found);
     true
 }

@@ -26,6 +26,6 @@ pub use file_cursor::FileCursor;
 pub use files::{FileErr, Files};
 pub use mem_files::MemFiles;
 pub use mem_sink::MemSink;
-pub use name_bytes::{are_name_bytes, is_name_byte, is_name_first};
-pub use range::{Range, is_in_any_range};
+pub use name_bytes::{are_name_bytes, is_name_byte, is_name_start};
+pub use range::{Range, is_in_one_range};
 pub use sink::{Sink, SinkErr};

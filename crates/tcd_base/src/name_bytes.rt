@@ -5,7 +5,7 @@ ghost use Rattle.tcd_base.specs.NameBytes.{is_name_byte, is_name_first, are_name
 
 /// Returns true if a name can begin with this byte: a letter, `_`, `.` or `$`.
 #[tactic(auto, unfolding(crate::specs::NameBytes::is_name_first))]
-pub fn is_name_first(c: u8) -> bool
+pub fn is_name_start(c: u8) -> bool
     ensures { result ≡ is_name_first c }
 {
     (b'A' <= c && c <= b'Z') || (b'a' <= c && c <= b'z') || c == b'_' || c == b'.' || c == b'$'

@@ -29,7 +29,7 @@ impl Range {
 
 /// Tests ranges of addresses: returns true if the `n` addresses from `addr` on are inside one of
 /// them.
-pub fn is_in_any_range(ranges: &[Range], addr: u32, n: u32) -> bool
+pub fn is_in_one_range(ranges: &[Range], addr: u32, n: u32) -> bool
     ensures { result ≡ list_any (is_within_range addr n) ranges.now }
 {
     ranges.iter().any(|range| range.holds(addr, n))

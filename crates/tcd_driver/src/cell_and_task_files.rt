@@ -3,7 +3,7 @@ use crate::lines::{bad_cells_line, bad_tasks_line};
 use std::alloc::Global;
 use task_chains::Tasks;
 use tcd_base::NoMemory;
-use tcd_forms::{LIMIT, copy_printed_line, too_long_cells_line, too_long_tasks_line};
+use tcd_forms::{LIMIT, copy_printed_line, cells_too_long_line, tasks_too_long_line};
 use tcd_plan::Plan;
 use tcd_reading::{Form, Stop, bad_input_stop};
 use value_cells::Cells;
@@ -30,7 +30,7 @@ impl<'a> Form for CellsFile<'a> {
     }
 
     fn too_long_line(&self, alloc: Global) -> Result<Vec<u8>, NoMemory> {
-        copy_printed_line(alloc, too_long_cells_line())
+        copy_printed_line(alloc, cells_too_long_line())
     }
 
     fn value(&self, alloc: Global, bytes: Vec<u8>) -> Result<Cells, Stop> {
@@ -63,7 +63,7 @@ impl<'a> Form for TasksFile<'a> {
     }
 
     fn too_long_line(&self, alloc: Global) -> Result<Vec<u8>, NoMemory> {
-        copy_printed_line(alloc, too_long_tasks_line())
+        copy_printed_line(alloc, tasks_too_long_line())
     }
 
     fn value(&self, alloc: Global, bytes: Vec<u8>) -> Result<Tasks, Stop> {

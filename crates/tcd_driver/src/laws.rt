@@ -22,6 +22,6 @@ impl AnyEnds for Brand {
 
 /// The status of any command is decided over steady files that hold each file of which it asks
 /// something, with room for each text that it may print.
-pub fn sure_call_law<C: AnyEnds>()
+pub fn decided_status_law<C: AnyEnds>()
     ensures { SureCallsAreDecided C.IfDone C.IfRefused }
 {}

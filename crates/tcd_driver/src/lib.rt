@@ -10,6 +10,6 @@ mod laws;
 mod lines;
 mod tools;
 
-pub use laws::{AnyEnds, sure_call_law};
+pub use laws::{AnyEnds, decided_status_law};
 pub use tcd_reading::Status;
 pub use tools::tool;

@@ -31,7 +31,7 @@ pub fn copy_printed_line(alloc: Global, text: &[u8]) -> Result<Vec<u8>, NoMemory
 
 /// Returns the printed line for an executable with more bytes than its form allows.
 #[tactic(auto, unfolding(crate::specs::Lines::too_long_elf_line))]
-pub fn too_long_elf_line() -> &'static [u8]
+pub fn elf_too_long_line() -> &'static [u8]
     ensures { result.now ≡ too_long_elf_line }
 {
     b"bad elf 0\n"
@@ -39,7 +39,7 @@ pub fn too_long_elf_line() -> &'static [u8]
 
 /// Returns the printed line for a plan with more bytes than its form allows.
 #[tactic(auto, unfolding(crate::specs::Lines::too_long_plan_line))]
-pub fn too_long_plan_line() -> &'static [u8]
+pub fn plan_too_long_line() -> &'static [u8]
     ensures { result.now ≡ too_long_plan_line }
 {
     b"bad plan 0\n"
@@ -47,7 +47,7 @@ pub fn too_long_plan_line() -> &'static [u8]
 
 /// Returns the printed line for a certificate with more bytes than its form allows.
 #[tactic(auto, unfolding(crate::specs::Lines::too_long_cert_line))]
-pub fn too_long_cert_line() -> &'static [u8]
+pub fn cert_too_long_line() -> &'static [u8]
     ensures { result.now ≡ too_long_cert_line }
 {
     b"bad cert 0\n"
@@ -55,7 +55,7 @@ pub fn too_long_cert_line() -> &'static [u8]
 
 /// Returns the printed line for a turn script with more bytes than its form allows.
 #[tactic(auto, unfolding(crate::specs::Lines::too_long_script_line))]
-pub fn too_long_script_line() -> &'static [u8]
+pub fn script_too_long_line() -> &'static [u8]
     ensures { result.now ≡ too_long_script_line }
 {
     b"bad script 0\n"
@@ -63,7 +63,7 @@ pub fn too_long_script_line() -> &'static [u8]
 
 /// Returns the printed line for a layout with more bytes than its form allows.
 #[tactic(auto, unfolding(crate::specs::Lines::too_long_layout_line))]
-pub fn too_long_layout_line() -> &'static [u8]
+pub fn layout_too_long_line() -> &'static [u8]
     ensures { result.now ≡ too_long_layout_line }
 {
     b"bad layout 0\n"
@@ -71,7 +71,7 @@ pub fn too_long_layout_line() -> &'static [u8]
 
 /// Returns the printed line for a file of cells with more bytes than its form allows.
 #[tactic(auto, unfolding(crate::specs::Lines::too_long_cells_line))]
-pub fn too_long_cells_line() -> &'static [u8]
+pub fn cells_too_long_line() -> &'static [u8]
     ensures { result.now ≡ too_long_cells_line }
 {
     b"bad cells 0\n"
@@ -79,7 +79,7 @@ pub fn too_long_cells_line() -> &'static [u8]
 
 /// Returns the printed line for a file of tasks with more bytes than its form allows.
 #[tactic(auto, unfolding(crate::specs::Lines::too_long_tasks_line))]
-pub fn too_long_tasks_line() -> &'static [u8]
+pub fn tasks_too_long_line() -> &'static [u8]
     ensures { result.now ≡ too_long_tasks_line }
 {
     b"bad tasks 0\n"
@@ -176,7 +176,7 @@ pub fn bad_layout_line(alloc: Global, e: LayoutErr) -> Result<Vec<u8>, NoMemory>
 /// Returns the printed line for the source at this place, if it has more bytes than its form
 /// allows.
 #[tactic(auto, unfolding(crate::specs::Lines::too_long_source_line, crate::specs::Lines::line_end_at_one))]
-pub fn too_long_source_line(alloc: Global, place: u32) -> Result<Vec<u8>, NoMemory>
+pub fn source_too_long_line(alloc: Global, place: u32) -> Result<Vec<u8>, NoMemory>
     ensures { IfOk result (λ line. line.items ≡ too_long_source_line place) }
 {
     Ok(format!(in alloc; "bad source 0 at {place}\n")?.into_bytes())
@@ -185,7 +185,7 @@ pub fn too_long_source_line(alloc: Global, place: u32) -> Result<Vec<u8>, NoMemo
 /// Returns the printed line for the object at this place, if it has more bytes than its form
 /// allows.
 #[tactic(auto, unfolding(crate::specs::Lines::too_long_object_line, crate::specs::Lines::line_end_at_one))]
-pub fn too_long_object_line(alloc: Global, place: u32) -> Result<Vec<u8>, NoMemory>
+pub fn object_too_long_line(alloc: Global, place: u32) -> Result<Vec<u8>, NoMemory>
     ensures { IfOk result (λ line. line.items ≡ too_long_object_line place) }
 {
     Ok(format!(in alloc; "bad object 0 at {place}\n")?.into_bytes())

@@ -1,9 +1,9 @@
 // The forms of input files, from executables to objects.
 use crate::error_lines::{
     bad_cert_line, bad_elf_line, bad_layout_line, bad_object_line, bad_plan_line, bad_script_line,
-    bad_source_line, copy_printed_line, too_long_cert_line, too_long_elf_line,
-    too_long_layout_line, too_long_object_line, too_long_plan_line, too_long_script_line,
-    too_long_source_line,
+    bad_source_line, copy_printed_line, cert_too_long_line, elf_too_long_line,
+    layout_too_long_line, object_too_long_line, plan_too_long_line, script_too_long_line,
+    source_too_long_line,
 };
 use bumpalo::Bump;
 use depth_cert::CertErr;
@@ -43,7 +43,7 @@ impl Form for ElfFile {
     }
 
     fn too_long_line(&self, alloc: Global) -> Result<Vec<u8>, NoMemory> {
-        copy_printed_line(alloc, too_long_elf_line())
+        copy_printed_line(alloc, elf_too_long_line())
     }
 
     fn value(&self, alloc: Global, bytes: Vec<u8>) -> Result<Image, Stop> {
@@ -72,7 +72,7 @@ impl Form for PlanFile {
     }
 
     fn too_long_line(&self, alloc: Global) -> Result<Vec<u8>, NoMemory> {
-        copy_printed_line(alloc, too_long_plan_line())
+        copy_printed_line(alloc, plan_too_long_line())
     }
 
     fn value(&self, alloc: Global, bytes: Vec<u8>) -> Result<Plan, Stop> {
@@ -101,7 +101,7 @@ impl Form for CertFile {
     }
 
     fn too_long_line(&self, alloc: Global) -> Result<Vec<u8>, NoMemory> {
-        copy_printed_line(alloc, too_long_cert_line())
+        copy_printed_line(alloc, cert_too_long_line())
     }
 
     fn value(&self, alloc: Global, bytes: Vec<u8>) -> Result<Cert, Stop> {
@@ -135,7 +135,7 @@ impl<'a> Form for ScriptFile<'a> {
     }
 
     fn too_long_line(&self, alloc: Global) -> Result<Vec<u8>, NoMemory> {
-        copy_printed_line(alloc, too_long_script_line())
+        copy_printed_line(alloc, script_too_long_line())
     }
 
     fn value(&self, alloc: Global, bytes: Vec<u8>) -> Result<Script, Stop> {
@@ -164,7 +164,7 @@ impl Form for SourceFile {
     }
 
     fn too_long_line(&self, alloc: Global) -> Result<Vec<u8>, NoMemory> {
-        too_long_source_line(alloc, 0)
+        source_too_long_line(alloc, 0)
     }
 
     fn value(&self, alloc: Global, bytes: Vec<u8>) -> Result<Object, Stop> {
@@ -218,7 +218,7 @@ impl Form for PlacedSourceFile {
     }
 
     fn too_long_line(&self, alloc: Global) -> Result<Vec<u8>, NoMemory> {
-        too_long_source_line(alloc, self.place)
+        source_too_long_line(alloc, self.place)
     }
 
     fn value(&self, alloc: Global, bytes: Vec<u8>) -> Result<Source, Stop> {
@@ -253,7 +253,7 @@ impl Form for LayoutFile {
     }
 
     fn too_long_line(&self, alloc: Global) -> Result<Vec<u8>, NoMemory> {
-        copy_printed_line(alloc, too_long_layout_line())
+        copy_printed_line(alloc, layout_too_long_line())
     }
 
     fn value(&self, alloc: Global, bytes: Vec<u8>) -> Result<Layout, Stop> {
@@ -287,7 +287,7 @@ impl<'a> Form for ObjectFile<'a> {
     }
 
     fn too_long_line(&self, alloc: Global) -> Result<Vec<u8>, NoMemory> {
-        too_long_object_line(alloc, self.place)
+        object_too_long_line(alloc, self.place)
     }
 
     fn value(&self, alloc: Global, bytes: Vec<u8>) -> Result<ObjectRef<'a>, Stop> {

@@ -8,16 +8,16 @@ mod result_lines;
 pub use error_lines::{
     append_to_printed_line, bad_cert_line, bad_elf_line, bad_layout_line, bad_link_line,
     bad_object_line, bad_plan_line, bad_script_line, bad_source_line, copy_printed_line,
-    too_long_cells_line, too_long_cert_line, too_long_elf_line, too_long_layout_line,
-    too_long_object_line, too_long_plan_line, too_long_script_line, too_long_source_line,
-    too_long_tasks_line,
+    cells_too_long_line, cert_too_long_line, elf_too_long_line, layout_too_long_line,
+    object_too_long_line, plan_too_long_line, script_too_long_line, source_too_long_line,
+    tasks_too_long_line,
 };
 pub use file_forms::{
     CertFile, ElfFile, LIMIT, LayoutFile, ObjectFile, PlacedSourceFile, PlanFile, ScriptFile,
     Source, SourceFile,
 };
 pub use result_lines::{
-    assembled_object_line, boots_line, certified_cells_line, certified_line, certified_tasks_line,
-    generated_boot_line, generated_line, linked_image_line, refused_line, refused_sum_line,
+    assembled_object_line, boot_line, certified_cells_line, certified_line, certified_tasks_line,
+    bootgen_line, gen_line, linked_image_line, refused_line, refused_sum_line,
     refused_switch_line, refused_task_line, run_line,
 };

@@ -15,7 +15,7 @@ use tcd_text::hex_word;
 /// Returns the printed line of `boot` on a certified boot sequence: its events, the needed CSAs,
 /// and those of the plan.
 #[tactic(auto, unfolding(crate::specs::Lines::boots_line))]
-pub fn boots_line(alloc: Global, events: u32, need: u32, areas: u32) -> Result<Vec<u8>, NoMemory>
+pub fn boot_line(alloc: Global, events: u32, need: u32, areas: u32) -> Result<Vec<u8>, NoMemory>
     ensures { IfOk result (λ line. line.items ≡ boots_line events need areas) }
 {
     let text = format!(in alloc; "boot {events} events certified {need} of {areas} areas\n")?;
@@ -24,7 +24,7 @@ pub fn boots_line(alloc: Global, events: u32, need: u32, areas: u32) -> Result<V
 
 /// Returns the printed line of `bootgen` on a boot sequence that was written as a source.
 #[tactic(auto, unfolding(crate::specs::Lines::generated_boot_line))]
-pub fn generated_boot_line() -> &'static [u8]
+pub fn bootgen_line() -> &'static [u8]
     ensures { result.now ≡ generated_boot_line }
 {
     b"boot 56 instructions\n"
@@ -64,7 +64,7 @@ pub fn certified_tasks_line(
 /// Returns the printed line of `gen`: the image's functions, its certificate's nodes and points,
 /// and the needed CSAs.
 #[tactic(auto, unfolding(crate::specs::Lines::generated_line))]
-pub fn generated_line(
+pub fn gen_line(
     alloc: Global,
     functions: u32,
     cert: &Cert,

@@ -10,7 +10,7 @@ use Rattle.tcd_plan.specs.PlanReader.{HasShortPlanArrays, plan_device_of, irq_of
 use Rattle.tcd_plan.specs.KeyFaults.{first_bad_key}
 use Rattle.tcd_plan.specs.declared.plans.PlanErr.TheVariants.{BadValue, TooMany, BadCsa, BadVector}
 use Rattle.tcd_base.specs.declared.range.Range.{Range}
-use Rattle.tcd_plan.specs.declared.key_table.Holder.TheVariants.{Rom, Ram, Devices}
+use Rattle.tcd_plan.specs.declared.key_table.KeyParent.TheVariants.{Rom, Ram, Devices}
 use Rattle.tcd_plan.proofs.Small.{first_some_none, key_none, option_map_none, where_none}
 
 -- the limits of the save areas, over numbers

@@ -3,7 +3,7 @@ use Rattle.std.proofs.Common.{◌≡◌, Bool, true, false, List, [], ◌∷◌,
 use Rattle.std.specs.List.{find, list_any}
 use Rattle.tcd_plan.specs.KeyRows.{KeyRow, holder_key, holders, key_rows, row_of}
 use Rattle.tcd_plan.specs.KeyFaults.{refused_key}
-use Rattle.tcd_plan.specs.declared.key_table.Holder.{Holder}
+use Rattle.tcd_plan.specs.declared.key_table.KeyParent.{KeyParent}
 use Rattle.tcd_plan.specs.declared.key_table.Row.{Row}
 
 pub list_any-map : {X Y : Type 0} (test : Y → Bool) (f : X → Y) (xs : List X) → list_any test (map f xs) ≡ list_any (λ x. test (f x)) xs
@@ -28,10 +28,10 @@ pub key_found : (test : KeyRow → Bool) (rows : List Row) (row : Option (Bor Ro
 key_found test rows row same is =
     key_of_row row ∙ ap (λ o. option_map (λ r. refused_key r.key) (option_map row_of o)) is ∙ ap (option_map (λ r. refused_key r.key)) (sym (find-map test row_of rows) ∙ ap (find test) same)
 
-key_of_holder : (holder : Option (Bor Holder)) → option_map (λ h. refused_key (holder_key h.now)) holder ≡ option_map (λ h. refused_key (holder_key h)) (option_map (λ h. h.now) holder)
+key_of_holder : (parent : Option (Bor KeyParent)) → option_map (λ h. refused_key (holder_key h.now)) parent ≡ option_map (λ h. refused_key (holder_key h)) (option_map (λ h. h.now) parent)
 key_of_holder None = refl
 key_of_holder (Some h) = refl
 
-pub holder_found : (test : Holder → Bool) (holder : Option (Bor Holder)) → option_map (λ h. h.now) holder ≡ find test holders
-    → option_map (λ h. refused_key (holder_key h.now)) holder ≡ option_map (λ h. refused_key (holder_key h)) (find test holders)
-holder_found test holder is = key_of_holder holder ∙ ap (option_map (λ h. refused_key (holder_key h))) is
+pub holder_found : (test : KeyParent → Bool) (parent : Option (Bor KeyParent)) → option_map (λ h. h.now) parent ≡ find test holders
+    → option_map (λ h. refused_key (holder_key h.now)) parent ≡ option_map (λ h. refused_key (holder_key h)) (find test holders)
+holder_found test parent is = key_of_holder parent ∙ ap (option_map (λ h. refused_key (holder_key h))) is

@@ -7,18 +7,18 @@ use Rattle.tcd_plan.specs.Objects.{plan_objects_of}
 use Rattle.tcd_plan.specs.KeyFaults.{is_key_value_bad, first_bad_key}
 use Rattle.tcd_plan.specs.ValueForms.{has_value_form}
 use Rattle.tcd_plan.specs.declared.key_table.ValueForm.TheVariants.{Ranges, Object, At, Len, Hi, Word, Byte, Irqs}
-use Rattle.tcd_plan.specs.declared.key_table.Holder.TheVariants.{Root, Rom, Ram, Devices, Start}
+use Rattle.tcd_plan.specs.declared.key_table.KeyParent.TheVariants.{Root, Rom, Ram, Devices, Start}
 use Rattle.tcd_plan.proofs.Small.{none_fails, not_found, option_map_none}
 
 -- the value of a row's key has its form in each object
-form_at : (d : Data) → first_bad_key d ≡ None → (i : ℕ) → i < length key_rows → (r : KeyRow) → get_or key_rows i (key_row 0 Root [] Word) ≡ r → list_all (has_value_form r.form r.name) (plan_objects_of r.holder d) ≡ true
+form_at : (d : Data) → first_bad_key d ≡ None → (i : ℕ) → i < length key_rows → (r : KeyRow) → get_or key_rows i (key_row 0 Root [] Word) ≡ r → list_all (has_value_form r.form r.name) (plan_objects_of r.parent d) ≡ true
 unfolding first_bad_key
 form_at d e i within r is =
-    let fails = not_found (λ s. list_any (is_key_value_bad s) (plan_objects_of s.holder d)) key_rows i (key_row 0 Root [] Word) (option_map_none _ _ e) within in
-    none_fails (has_value_form r.form r.name) (plan_objects_of r.holder d) (subst (λ s. list_any (is_key_value_bad s) (plan_objects_of s.holder d) ≡ false) is fails)
+    let fails = not_found (λ s. list_any (is_key_value_bad s) (plan_objects_of s.parent d)) key_rows i (key_row 0 Root [] Word) (option_map_none _ _ e) within in
+    none_fails (has_value_form r.form r.name) (plan_objects_of r.parent d) (subst (λ s. list_any (is_key_value_bad s) (plan_objects_of s.parent d) ≡ false) is fails)
 
 -- form_at, for one row of the list that is written out
-at_row : (d : Data) → first_bad_key d ≡ None → (i : ℕ) → i < 31 → (r : KeyRow) → get_or key_rows i (key_row 0 Root [] Word) ≡ r → list_all (has_value_form r.form r.name) (plan_objects_of r.holder d) ≡ true
+at_row : (d : Data) → first_bad_key d ≡ None → (i : ℕ) → i < 31 → (r : KeyRow) → get_or key_rows i (key_row 0 Root [] Word) ≡ r → list_all (has_value_form r.form r.name) (plan_objects_of r.parent d) ≡ true
 unfolding key_rows
 at_row d e i within r is = form_at d e i within r is
 

@@ -14,8 +14,8 @@ use Rattle.tcd_plan.specs.JsonValues.{is_object}
 use Rattle.tcd_plan.specs.declared.plans.PlanErr.{PlanErr}
 use Rattle.tcd_plan.specs.declared.plans.PlanErr.TheVariants.{NotJson, Missing, Unknown, BadValue, TooMany, BadCsa, BadVector, Overlap}
 use Rattle.tcd_plan.specs.declared.plans.PlanKey.{PlanKey}
-use Rattle.tcd_plan.specs.declared.key_table.Holder.{Holder}
-use Rattle.tcd_plan.specs.declared.key_table.Holder.TheVariants.{Root}
+use Rattle.tcd_plan.specs.declared.key_table.KeyParent.{KeyParent}
+use Rattle.tcd_plan.specs.declared.key_table.KeyParent.TheVariants.{Root}
 
 abbrev IsKey : PlanKey → Type 0
 IsKey key = key.0 < 32
@@ -39,7 +39,7 @@ unfolding key_rows
 keys_small = refl
 
 first_key-small : (test : KeyRow → Data → Bool) (d : Data) → IfSome (first_key test d) IsKey
-first_key-small test d = keyed _ (found_passes (λ r. list_any (test r) (plan_objects_of r.holder d)) (λ r. nat_lt r.key 32) key_rows keys_small)
+first_key-small test d = keyed _ (found_passes (λ r. list_any (test r) (plan_objects_of r.parent d)) (λ r. nat_lt r.key 32) key_rows keys_small)
 
 missing-small : (d : Data) → IfSome (first_missing_key d) IsKey
 unfolding first_missing_key
@@ -49,11 +49,11 @@ bad_value-small : (d : Data) → IfSome (first_bad_key d) IsKey
 unfolding first_bad_key
 bad_value-small d = first_key-small is_key_value_bad d
 
-holder_small : (h : Holder) → holder_key h < 32
+holder_small : (h : KeyParent) → holder_key h < 32
 holder_small Root = lit< tt
 holder_small _ = lit< tt
 
-held : (o : Option Holder) → IfSome (option_map (λ h. refused_key (holder_key h)) o) IsKey
+held : (o : Option KeyParent) → IfSome (option_map (λ h. refused_key (holder_key h)) o) IsKey
 held None = tt
 held (Some h) = holder_small h
 

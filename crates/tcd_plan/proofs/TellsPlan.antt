@@ -15,7 +15,7 @@ use Rattle.tcd_plan.specs.PlanReader.{plan_range_of, plan_refusal, plan_in}
 use Rattle.tcd_plan.specs.KeyFaults.{first_bad_key}
 use Rattle.tcd_plan.specs.declared.plans.PlanErr.TheVariants.{Overlap}
 use Rattle.tcd_plan.specs.declared.key_table.ValueForm.TheVariants.{Irqs, Object, Ranges}
-use Rattle.tcd_plan.specs.declared.key_table.Holder.TheVariants.{Devices, Ram, Rom}
+use Rattle.tcd_plan.specs.declared.key_table.KeyParent.TheVariants.{Devices, Ram, Rom}
 use Rattle.tcd_plan.proofs.Accepted.{IsAccepted, accepted, are_areas_parts, few_ranges}
 use Rattle.tcd_plan.proofs.Forms.{devices_at, devices_hi, devices_len, irqs_form, ram_at, ram_len, rom_at, rom_form, rom_len, start_ccpn, start_form}
 use Rattle.tcd_plan.proofs.Pieces.{devices_are, inner_word, irqs_each, irqs_rise, ranges_are, some_objects}

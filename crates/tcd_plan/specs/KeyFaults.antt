@@ -5,7 +5,7 @@ use Rattle.serde_json.specs.Data.{Data}
 use Rattle.serde_json.specs.Find.{get}
 use Rattle.tcd_plan.specs.KeyRows.{KeyRow, key_rows, holder_key, holders, is_row_of_key}
 use Rattle.tcd_plan.specs.JsonValues.{json_names_in}
-use Rattle.tcd_plan.specs.declared.key_table.Holder.{Holder}
+use Rattle.tcd_plan.specs.declared.key_table.KeyParent.{KeyParent}
 use Rattle.tcd_plan.specs.ValueForms.{has_value_form}
 use Rattle.tcd_plan.specs.Objects.{plan_objects_of}
 use Rattle.tcd_plan.specs.declared.plans.PlanKey.{PlanKey}
@@ -25,13 +25,13 @@ lacks_key r o = not (may_key_be_absent r.form) && is_none (get r.name o)
 abbrev pub is_key_value_bad : KeyRow → Data → Bool
 is_key_value_bad r o = not (has_value_form r.form r.name o)
 
--- in the objects that a holder names, a key of this name isn't refused as unknown: a row of the
+-- in the objects that a parent names, a key of this name isn't refused as unknown: a row of the
 -- table of keys has it
-abbrev pub is_known_key : Holder → List ℕ → Bool
+abbrev pub is_known_key : KeyParent → List ℕ → Bool
 is_known_key h name = list_any (is_row_of_key h name) key_rows
 
 -- an object has a key that isn't one of its own
-abbrev pub has_unknown_key : Holder → Data → Bool
+abbrev pub has_unknown_key : KeyParent → Data → Bool
 has_unknown_key h o = not (list_all (is_known_key h) (json_names_in o))
 
 -- the key with this number, as a fault of a document names it
@@ -40,7 +40,7 @@ refused_key key = record { 0 = key }
 
 -- the first key of the list for which an object that it is in meets the test
 abbrev pub first_key : (KeyRow → Data → Bool) → Data → Option PlanKey
-first_key test d = option_map (λ r. refused_key r.key) (find (λ r. list_any (test r) (plan_objects_of r.holder d)) key_rows)
+first_key test d = option_map (λ r. refused_key r.key) (find (λ r. list_any (test r) (plan_objects_of r.parent d)) key_rows)
 
 -- the first key that an object lacks
 unfoldable pub first_missing_key : Data → Option PlanKey

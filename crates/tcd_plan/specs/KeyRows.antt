@@ -5,24 +5,24 @@ use Rattle.tcd_plan.specs.Keys.{key_text_of}
 use Rattle.tcd_plan.specs.declared.key_table.Row.{Row}
 use Rattle.tcd_plan.specs.declared.key_table.ValueForm.{ValueForm}
 use Rattle.tcd_plan.specs.declared.key_table.ValueForm.TheVariants.{Ranges, Objects, Object, At, Len, Hi, Word, Byte, Truth, Irqs, Traps, CoreText}
-use Rattle.tcd_plan.specs.declared.key_table.Holder.{Holder}
-use Rattle.tcd_plan.specs.declared.key_table.Holder.TheVariants.{Root, Rom, Ram, Devices, Csa, Start, Globals}
+use Rattle.tcd_plan.specs.declared.key_table.KeyParent.{KeyParent}
+use Rattle.tcd_plan.specs.declared.key_table.KeyParent.TheVariants.{Root, Rom, Ram, Devices, Csa, Start, Globals}
 
 -- the number of a printed key, the object or objects that it is in, its name there, and the form of
 -- its value
 pub record KeyRow : Type 0 where
   pub key : ℕ
-  pub holder : Holder
+  pub parent : KeyParent
   pub name : List ℕ
   pub form : ValueForm
 
 -- a row of the code, with its name as bytes
 abbrev pub row_of : Row → KeyRow
-row_of r = record { key = r.key; holder = r.holder; name = r.name.now; form = r.form }
+row_of r = record { key = r.key; parent = r.parent; name = r.name.now; form = r.form }
 
 -- builds a row from the key's number, its object, its name there, and the form of its value
-abbrev pub key_row : ℕ → Holder → List ℕ → ValueForm → KeyRow
-key_row key holder name form = record { key = key; holder = holder; name = name; form = form }
+abbrev pub key_row : ℕ → KeyParent → List ℕ → ValueForm → KeyRow
+key_row key parent name form = record { key = key; parent = parent; name = name; form = form }
 
 -- the keys in the order in which they are printed; `root` is in no object
 unfoldable pub key_rows : List KeyRow
@@ -62,11 +62,11 @@ key_rows =
 
 -- the objects that the rows of the table of keys are in, in the order in which their keys are
 -- printed
-abbrev pub holders : List Holder
+abbrev pub holders : List KeyParent
 holders = Root ∷ Rom ∷ Ram ∷ Devices ∷ Csa ∷ Start ∷ Globals ∷ []
 
 -- for the rows of the table of keys: the number of the key that an object has in the document
-abbrev pub holder_key : Holder → ℕ
+abbrev pub holder_key : KeyParent → ℕ
 holder_key Root = 0
 holder_key Rom = 1
 holder_key Ram = 4
@@ -78,8 +78,8 @@ holder_key Globals = 26
 -- a row of the table of keys has the printed key of its number: its name, with the key of its
 -- objects and a dot before it unless it is in the root object
 abbrev pub has_matching_key_text : KeyRow → Bool
-has_matching_key_text r = bytes_eq (key_text_of r.key) (if holder_key r.holder == 0 then r.name else key_text_of (holder_key r.holder) ++ codes "." ++ r.name)
+has_matching_key_text r = bytes_eq (key_text_of r.key) (if holder_key r.parent == 0 then r.name else key_text_of (holder_key r.parent) ++ codes "." ++ r.name)
 
 -- a row is of this key of the object
-abbrev pub is_row_of_key : Holder → List ℕ → KeyRow → Bool
-is_row_of_key h name r = (holder_key r.holder == holder_key h) && bytes_eq r.name name
+abbrev pub is_row_of_key : KeyParent → List ℕ → KeyRow → Bool
+is_row_of_key h name r = (holder_key r.parent == holder_key h) && bytes_eq r.name name

@@ -4,8 +4,8 @@ use Rattle.std.specs.List.{list_all}
 use Rattle.serde_json.specs.Data.{Data}
 use Rattle.serde_json.specs.Find.{get}
 use Rattle.tcd_plan.specs.JsonValues.{is_object, json_elements_at}
-use Rattle.tcd_plan.specs.declared.key_table.Holder.{Holder}
-use Rattle.tcd_plan.specs.declared.key_table.Holder.TheVariants.{Root, Rom, Ram, Devices, Csa, Start, Globals}
+use Rattle.tcd_plan.specs.declared.key_table.KeyParent.{KeyParent}
+use Rattle.tcd_plan.specs.declared.key_table.KeyParent.TheVariants.{Root, Rom, Ram, Devices, Csa, Start, Globals}
 use Rattle.tcd_plan.specs.ValueForms.{is_present_and_passing}
 
 -- the elements of an array of objects; if an element is no object, none
@@ -17,8 +17,8 @@ plan_objects_at name d = if is_present_and_passing (list_all is_object) (json_el
 abbrev pub plan_object_at : List ℕ → Data → List Data
 plan_object_at name d = if is_present_and_passing is_object (get name d) then option_to_list (get name d) else []
 
--- the objects that a holder names
-abbrev pub plan_objects_of : Holder → Data → List Data
+-- the objects that a parent names
+abbrev pub plan_objects_of : KeyParent → Data → List Data
 plan_objects_of Root d = d ∷ []
 plan_objects_of Rom d = plan_objects_at (codes "rom") d
 plan_objects_of Ram d = plan_objects_at (codes "ram") d

@@ -17,7 +17,7 @@ use Rattle.tcd_plan.specs.PlanData.{PlanData, first_given_refusal, has_valid_are
 use Rattle.tcd_plan.specs.declared.plans.Device.{Device}
 use Rattle.tcd_plan.specs.declared.plans.PlanErr.{PlanErr}
 use Rattle.tcd_plan.specs.declared.plans.PlanErr.TheVariants.{NotJson, Missing, Unknown, BadValue, TooMany, BadCsa, BadVector, Overlap, NoMemory}
-use Rattle.tcd_plan.specs.declared.key_table.Holder.TheVariants.{Rom, Ram, Devices}
+use Rattle.tcd_plan.specs.declared.key_table.KeyParent.TheVariants.{Rom, Ram, Devices}
 
 -- what the reader of plans makes of an object of the document with `at` and `len`: a range
 abbrev pub plan_range_of : Data → Range

@@ -31,12 +31,12 @@ fn push_cut_range(ranges: &mut ArrayVec<Range, 32>, r: &Range, x: u32, n: u32)
     let start = u64::from(r.at);
     let end = start + u64::from(r.len);
     let block = u64::from(x);
-    push_cut_part(ranges, start, block.min(end));
-    push_cut_part(ranges, (block + u64::from(n)).max(start), end);
+    push_range_between(ranges, start, block.min(end));
+    push_range_between(ranges, (block + u64::from(n)).max(start), end);
 }
 
 // Appends the range from one address up to another, if it has a byte.
-fn push_cut_part(ranges: &mut ArrayVec<Range, 32>, from: u64, upto: u64)
+fn push_range_between(ranges: &mut ArrayVec<Range, 32>, from: u64, upto: u64)
     requires room { length ranges.old.items < 32 }
     requires end { upto ≤ 2 ^ 32 }
     requires small { upto < from + 2 ^ 32 }

@@ -34,7 +34,7 @@ pub fn json_word_at(value: &Value, name: &str) -> u32
 }
 
 /// Returns the number at a key of the object at another key, or 0 if there is none.
-pub fn json_word_in(value: &Value, outer: &str, name: &str) -> u32
+pub fn json_nested_number(value: &Value, outer: &str, name: &str) -> u32
     ensures { result ≡ json_word_in outer.now name.now (view value.now) }
 {
     match value.get(outer) {
@@ -57,13 +57,13 @@ pub fn json_number_of(value: &Value) -> Option<u32>
 {
     match value {
         Value::Number(n) => n.as_u64().and_then(|n| u32::try_from(n).ok()),
-        Value::String(text) => json_text_word(text.as_bytes()),
+        Value::String(text) => json_text_number(text.as_bytes()),
         _ => None,
     }
 }
 
 /// Returns the elements of the array with this key in the document.
-pub fn json_elements_of<'a>(value: &'a Value, name: &str) -> &'a [Value]
+pub fn json_elements_or_empty<'a>(value: &'a Value, name: &str) -> &'a [Value]
     ensures { map view result.now ≡ json_elements_of name.now (view value.now) }
 {
     json_elements_at(value, name).unwrap_or(&[])
@@ -77,19 +77,19 @@ pub fn has_json_text(places: &[Value], text: &str) -> bool
 }
 
 /// Reads a number below 256 at a key of an object in the document.
-pub fn json_byte_in(value: &Value, outer: &str, name: &str) -> u8
+pub fn json_nested_byte(value: &Value, outer: &str, name: &str) -> u8
     requires { json_word_in outer.now name.now (view value.now) < 2 ^ 8 }
     ensures { result ≡ json_word_in outer.now name.now (view value.now) }
 {
-    json_word_in(value, outer, name) as u8
+    json_nested_number(value, outer, name) as u8
 }
 
 /// Returns the number that a JSON text spells: `0x` with 1 to 8 hex digits.
-fn json_text_word(text: &[u8]) -> Option<u32>
+fn json_text_number(text: &[u8]) -> Option<u32>
     ensures { result ≡ json_text_word text.now }
 {
     match text {
-        [b'0', b'x', digits @ ..] if !digits.is_empty() && digits.len() <= 8 => json_hex_digits(
+        [b'0', b'x', digits @ ..] if !digits.is_empty() && digits.len() <= 8 => json_hex_value(
             digits,
         ),
         _ => None,
@@ -98,7 +98,7 @@ fn json_text_word(text: &[u8]) -> Option<u32>
 
 /// Returns the number that a JSON text has after its `0x`, in up to 8 hex digits of either case;
 /// `None` if another character is there.
-fn json_hex_digits(digits: &[u8]) -> Option<u32>
+fn json_hex_value(digits: &[u8]) -> Option<u32>
     requires { length digits.now ≤ 8 }
     ensures { result ≡
         (if list_all is_json_hex digits.now then Some (digits_value 16 digits.now) else None) }

@@ -10,7 +10,7 @@ ghost use Rattle.tcd_plan.specs.ValueForms.{has_value_form};
 
 use crate::PlanKey;
 use crate::key_table::{
-    Holder, Row, ValueForm, holder_key, holders, is_row_of_key, key_table_rows,
+    KeyParent, Row, ValueForm, parent_key, key_parents, is_row_of_key, key_table_rows,
 };
 use crate::object_forms::{has_value_form, plan_objects_of};
 use serde_json::{Map, Value};
@@ -22,7 +22,7 @@ pub fn first_missing_key(value: &Value) -> Option<PlanKey>
     key_of_refused_row(
         key_table_rows()
             .iter()
-            .find(|row| is_key_missing(row, value)),
+            .find(|row| has_object_without_key(row, value)),
     )
 }
 
@@ -33,18 +33,18 @@ pub fn first_bad_key(value: &Value) -> Option<PlanKey>
     key_of_refused_row(
         key_table_rows()
             .iter()
-            .find(|row| has_bad_key_value(row, value)),
+            .find(|row| has_object_with_bad_value(row, value)),
     )
 }
 
 /// Returns the first object, or array of objects, with a key that isn't one of its own.
-pub fn first_unknown_key(value: &Value) -> Option<PlanKey>
+pub fn first_object_with_unknown_key(value: &Value) -> Option<PlanKey>
     ensures { result ≡ first_unknown_key (view value.now) }
 {
-    key_of_holder(
-        holders()
+    key_of_parent(
+        key_parents()
             .iter()
-            .find(|holder| have_unknown_key(**holder, value)),
+            .find(|parent| has_object_with_unknown_key(**parent, value)),
     )
 }
 
@@ -71,66 +71,66 @@ fn key_of_refused_row(row: Option<&Row>) -> Option<PlanKey>
 }
 
 /// Returns true if an object of the plan that should have the row's key lacks it.
-fn is_key_missing(row: &Row, value: &Value) -> bool
+fn has_object_without_key(row: &Row, value: &Value) -> bool
     ensures { result ≡ list_any (lacks_key (row_of row.now))
-        (plan_objects_of row.now.holder (view value.now)) }
+        (plan_objects_of row.now.parent (view value.now)) }
 {
-    plan_objects_of(row.holder, value)
+    plan_objects_of(row.parent, value)
         .iter()
         .any(|object| lacks_key(row, object))
 }
 
-/// Returns true if the value of the row's key in one of the holder's objects doesn't have its form.
-fn has_bad_key_value(row: &Row, value: &Value) -> bool
+/// Returns true if the value of the row's key in one of the parent's objects doesn't have its form.
+fn has_object_with_bad_value(row: &Row, value: &Value) -> bool
     ensures { result ≡ list_any (is_key_value_bad (row_of row.now))
-        (plan_objects_of row.now.holder (view value.now)) }
+        (plan_objects_of row.now.parent (view value.now)) }
 {
-    plan_objects_of(row.holder, value)
+    plan_objects_of(row.parent, value)
         .iter()
         .any(|object| !has_value_form(row.form, row.name, object))
 }
 
-/// Returns the key of a holder, if there is one.
-fn key_of_holder(holder: Option<&Holder>) -> Option<PlanKey>
-    ensures { result ≡ option_map (λ h. refused_key (holder_key h.now)) holder.entry }
+/// Returns the key of a parent, if there is one.
+fn key_of_parent(parent: Option<&KeyParent>) -> Option<PlanKey>
+    ensures { result ≡ option_map (λ h. refused_key (holder_key h.now)) parent.entry }
 {
-    holder.map(|holder| PlanKey(holder_key(*holder)))
+    parent.map(|parent| PlanKey(parent_key(*parent)))
 }
 
-/// Returns true if one of a holder's objects has a key that isn't one of its own.
-fn have_unknown_key(holder: Holder, value: &Value) -> bool
-    ensures { result ≡ list_any (has_unknown_key holder) (plan_objects_of holder (view value.now)) }
+/// Returns true if one of a parent's objects has a key that isn't one of its own.
+fn has_object_with_unknown_key(parent: KeyParent, value: &Value) -> bool
+    ensures { result ≡ list_any (has_unknown_key parent) (plan_objects_of parent (view value.now)) }
 {
-    plan_objects_of(holder, value)
+    plan_objects_of(parent, value)
         .iter()
-        .any(|object| has_unknown_key(holder, object))
+        .any(|object| has_unknown_key(parent, object))
 }
 
-/// Returns true if an object has a key that isn't one of its holder's.
-fn has_unknown_key(holder: Holder, object: &Value) -> bool
-    ensures { result ≡ has_unknown_key holder (view object.now) }
+/// Returns true if an object has a key that isn't one of its parent's.
+fn has_unknown_key(parent: KeyParent, object: &Value) -> bool
+    ensures { result ≡ has_unknown_key parent (view object.now) }
 {
     match object.as_object() {
-        Some(members) => !are_known_keys(holder, members),
+        Some(members) => !are_known_keys(parent, members),
         None => false,
     }
 }
 
-/// Returns true if all members of an object are keys of its holder.
-fn are_known_keys(holder: Holder, members: &Map<String, Value>) -> bool
-    ensures { result ≡ list_all (λ name. is_known_key holder (string_bytes name))
+/// Returns true if all members of an object are keys of its parent.
+fn are_known_keys(parent: KeyParent, members: &Map<String, Value>) -> bool
+    ensures { result ≡ list_all (λ name. is_known_key parent (string_bytes name))
         (keys members.now) }
 {
     members
         .keys()
-        .all(|name| is_known_key(holder, name.as_str()))
+        .all(|name| is_known_key(parent, name.as_str()))
 }
 
-/// Returns true if a holder's objects can have the key with this name.
-fn is_known_key(holder: Holder, name: &str) -> bool
-    ensures { result ≡ is_known_key holder name.now }
+/// Returns true if a parent's objects can have the key with this name.
+fn is_known_key(parent: KeyParent, name: &str) -> bool
+    ensures { result ≡ is_known_key parent name.now }
 {
     key_table_rows()
         .iter()
-        .any(|row| is_row_of_key(row, holder, name))
+        .any(|row| is_row_of_key(row, parent, name))
 }

@@ -29,7 +29,7 @@ const GLOBALS: u8 = 26;
 
 /// The object, or array of objects, that keys are in.
 #[derive(Clone, Copy, Debug, PartialEq, Eq)]
-pub enum Holder {
+pub enum KeyParent {
     Root,
     Rom,
     Ram,
@@ -72,7 +72,7 @@ pub enum ValueForm {
 #[derive(Clone, Copy)]
 pub struct Row {
     pub key: u8,
-    pub holder: Holder,
+    pub parent: KeyParent,
     pub name: &'static str,
     pub form: ValueForm,
 }
@@ -80,200 +80,200 @@ pub struct Row {
 static ROWS: [Row; 31] = [
     Row {
         key: 1,
-        holder: Holder::Root,
+        parent: KeyParent::Root,
         name: "rom",
         form: ValueForm::Ranges,
     },
     Row {
         key: 2,
-        holder: Holder::Rom,
+        parent: KeyParent::Rom,
         name: "at",
         form: ValueForm::At,
     },
     Row {
         key: 3,
-        holder: Holder::Rom,
+        parent: KeyParent::Rom,
         name: "len",
         form: ValueForm::Len,
     },
     Row {
         key: 4,
-        holder: Holder::Root,
+        parent: KeyParent::Root,
         name: "ram",
         form: ValueForm::Objects,
     },
     Row {
         key: 5,
-        holder: Holder::Ram,
+        parent: KeyParent::Ram,
         name: "at",
         form: ValueForm::At,
     },
     Row {
         key: 6,
-        holder: Holder::Ram,
+        parent: KeyParent::Ram,
         name: "len",
         form: ValueForm::Len,
     },
     Row {
         key: 7,
-        holder: Holder::Root,
+        parent: KeyParent::Root,
         name: "devices",
         form: ValueForm::Objects,
     },
     Row {
         key: 8,
-        holder: Holder::Devices,
+        parent: KeyParent::Devices,
         name: "at",
         form: ValueForm::At,
     },
     Row {
         key: 9,
-        holder: Holder::Devices,
+        parent: KeyParent::Devices,
         name: "len",
         form: ValueForm::Len,
     },
     Row {
         key: 10,
-        holder: Holder::Devices,
+        parent: KeyParent::Devices,
         name: "lo",
         form: ValueForm::Word,
     },
     Row {
         key: 11,
-        holder: Holder::Devices,
+        parent: KeyParent::Devices,
         name: "hi",
         form: ValueForm::Hi,
     },
     Row {
         key: 12,
-        holder: Holder::Root,
+        parent: KeyParent::Root,
         name: "csa",
         form: ValueForm::Object,
     },
     Row {
         key: 13,
-        holder: Holder::Csa,
+        parent: KeyParent::Csa,
         name: "at",
         form: ValueForm::Word,
     },
     Row {
         key: 14,
-        holder: Holder::Csa,
+        parent: KeyParent::Csa,
         name: "areas",
         form: ValueForm::Word,
     },
     Row {
         key: 15,
-        holder: Holder::Csa,
+        parent: KeyParent::Csa,
         name: "reserve",
         form: ValueForm::Word,
     },
     Row {
         key: 16,
-        holder: Holder::Root,
+        parent: KeyParent::Root,
         name: "sp",
         form: ValueForm::Word,
     },
     Row {
         key: 17,
-        holder: Holder::Root,
+        parent: KeyParent::Root,
         name: "isp",
         form: ValueForm::Word,
     },
     Row {
         key: 18,
-        holder: Holder::Root,
+        parent: KeyParent::Root,
         name: "biv",
         form: ValueForm::Word,
     },
     Row {
         key: 19,
-        holder: Holder::Root,
+        parent: KeyParent::Root,
         name: "btv",
         form: ValueForm::Word,
     },
     Row {
         key: 20,
-        holder: Holder::Root,
+        parent: KeyParent::Root,
         name: "irqs",
         form: ValueForm::Irqs,
     },
     Row {
         key: 21,
-        holder: Holder::Root,
+        parent: KeyParent::Root,
         name: "traps",
         form: ValueForm::Traps,
     },
     Row {
         key: 22,
-        holder: Holder::Root,
+        parent: KeyParent::Root,
         name: "start",
         form: ValueForm::Object,
     },
     Row {
         key: 23,
-        holder: Holder::Start,
+        parent: KeyParent::Start,
         name: "ie",
         form: ValueForm::Truth,
     },
     Row {
         key: 24,
-        holder: Holder::Start,
+        parent: KeyParent::Start,
         name: "ccpn",
         form: ValueForm::Byte,
     },
     Row {
         key: 25,
-        holder: Holder::Start,
+        parent: KeyParent::Start,
         name: "is",
         form: ValueForm::Truth,
     },
     Row {
         key: 26,
-        holder: Holder::Root,
+        parent: KeyParent::Root,
         name: "globals",
         form: ValueForm::Object,
     },
     Row {
         key: 27,
-        holder: Holder::Globals,
+        parent: KeyParent::Globals,
         name: "a0",
         form: ValueForm::Word,
     },
     Row {
         key: 28,
-        holder: Holder::Globals,
+        parent: KeyParent::Globals,
         name: "a1",
         form: ValueForm::Word,
     },
     Row {
         key: 29,
-        holder: Holder::Globals,
+        parent: KeyParent::Globals,
         name: "a8",
         form: ValueForm::Word,
     },
     Row {
         key: 30,
-        holder: Holder::Globals,
+        parent: KeyParent::Globals,
         name: "a9",
         form: ValueForm::Word,
     },
     Row {
         key: 31,
-        holder: Holder::Root,
+        parent: KeyParent::Root,
         name: "core",
         form: ValueForm::CoreText,
     },
 ];
 
-static HOLDERS: [Holder; 7] = [
-    Holder::Root,
-    Holder::Rom,
-    Holder::Ram,
-    Holder::Devices,
-    Holder::Csa,
-    Holder::Start,
-    Holder::Globals,
+static KEY_PARENTS: [KeyParent; 7] = [
+    KeyParent::Root,
+    KeyParent::Rom,
+    KeyParent::Ram,
+    KeyParent::Devices,
+    KeyParent::Csa,
+    KeyParent::Start,
+    KeyParent::Globals,
 ];
 
 /// Returns the rows of the table of a plan's keys, in the order of the keys' numbers.
@@ -287,30 +287,30 @@ pub fn key_table_rows() -> &'static [Row]
 }
 
 /// Returns the objects of a document, in the order in which their keys are printed.
-pub fn holders() -> &'static [Holder]
+pub fn key_parents() -> &'static [KeyParent]
     ensures { result.now ≡ holders }
 {
-    &HOLDERS
+    &KEY_PARENTS
 }
 
 /// Returns the number of the key that an object has in the document.
-pub fn holder_key(holder: Holder) -> u8
-    ensures { result ≡ holder_key holder }
+pub fn parent_key(parent: KeyParent) -> u8
+    ensures { result ≡ holder_key parent }
 {
-    match holder {
-        Holder::Root => ROOT,
-        Holder::Rom => ROM,
-        Holder::Ram => RAM,
-        Holder::Devices => DEVICES,
-        Holder::Csa => CSA,
-        Holder::Start => START,
-        Holder::Globals => GLOBALS,
+    match parent {
+        KeyParent::Root => ROOT,
+        KeyParent::Rom => ROM,
+        KeyParent::Ram => RAM,
+        KeyParent::Devices => DEVICES,
+        KeyParent::Csa => CSA,
+        KeyParent::Start => START,
+        KeyParent::Globals => GLOBALS,
     }
 }
 
-/// Returns true if a row of the table is of the key with this name in the holder's objects.
-pub(crate) fn is_row_of_key(row: &Row, holder: Holder, name: &str) -> bool
-    ensures { result ≡ is_row_of_key holder name.now (row_of row.now) }
+/// Returns true if a row of the table is of the key with this name in the parent's objects.
+pub(crate) fn is_row_of_key(row: &Row, parent: KeyParent, name: &str) -> bool
+    ensures { result ≡ is_row_of_key parent name.now (row_of row.now) }
 {
-    holder_key(row.holder) == holder_key(holder) && row.name == name
+    parent_key(row.parent) == parent_key(parent) && row.name == name
 }

@@ -4,8 +4,8 @@ ghost use Rattle.serde_json.specs.View.{view};
 ghost use Rattle.tcd_plan.specs.PlanData.{areas_range, are_ranges_apart, are_valid_areas, are_ranges_few, has_valid_areas, has_even_vectors, first_oversized_array, overlap_from, plan_range_overlap};
 ghost use Rattle.tcd_plan.specs.PlanReader.{HasShortPlanArrays, plan_range_of, plan_in};
 
-use crate::json_values::{json_elements_of, json_word_at, json_word_in};
-use crate::key_table::{DEVICES, Holder, IRQS, RAM, ROM};
+use crate::json_values::{json_elements_or_empty, json_word_at, json_nested_number};
+use crate::key_table::{DEVICES, KeyParent, IRQS, RAM, ROM};
 use crate::object_forms::plan_objects_of;
 use crate::plan_parts::{areas_range, push_ranges};
 use crate::{PlanErr, PlanKey};
@@ -19,16 +19,16 @@ use tcd_base::Range;
 pub fn first_oversized_array(value: &Value) -> Option<PlanKey>
     ensures { result ≡ first_oversized_array (plan_in (view value.now)) }
 {
-    if !are_ranges_few(plan_objects_of(Holder::Rom, value)) {
+    if !are_ranges_within_limits(plan_objects_of(KeyParent::Rom, value)) {
         return Some(PlanKey(ROM));
     }
-    if !are_ranges_few(plan_objects_of(Holder::Ram, value)) {
+    if !are_ranges_within_limits(plan_objects_of(KeyParent::Ram, value)) {
         return Some(PlanKey(RAM));
     }
-    if plan_objects_of(Holder::Devices, value).len() > 16 {
+    if plan_objects_of(KeyParent::Devices, value).len() > 16 {
         return Some(PlanKey(DEVICES));
     }
-    if json_elements_of(value, "irqs").len() > 32 {
+    if json_elements_or_empty(value, "irqs").len() > 32 {
         return Some(PlanKey(IRQS));
     }
     None
@@ -40,9 +40,9 @@ pub fn has_valid_areas(value: &Value) -> bool
     ensures { result ≡ has_valid_areas (plan_in (view value.now)) }
 {
     are_valid_areas(
-        json_word_in(value, "csa", "at"),
-        json_word_in(value, "csa", "areas"),
-        json_word_in(value, "csa", "reserve"),
+        json_nested_number(value, "csa", "at"),
+        json_nested_number(value, "csa", "areas"),
+        json_nested_number(value, "csa", "reserve"),
     )
 }
 
@@ -61,16 +61,16 @@ pub fn plan_range_overlap(value: &Value) -> Option<PlanErr>
     ensures { result ≡ plan_range_overlap (plan_in (view value.now)) }
 {
     let mut ranges: ArrayVec<Range, 49> = ArrayVec::new();
-    push_ranges(&mut ranges, plan_objects_of(Holder::Rom, value));
-    push_ranges(&mut ranges, plan_objects_of(Holder::Ram, value));
-    push_ranges(&mut ranges, plan_objects_of(Holder::Devices, value));
+    push_ranges(&mut ranges, plan_objects_of(KeyParent::Rom, value));
+    push_ranges(&mut ranges, plan_objects_of(KeyParent::Ram, value));
+    push_ranges(&mut ranges, plan_objects_of(KeyParent::Devices, value));
     ranges.push(areas_range(value));
     first_overlap(ranges.as_slice())
 }
 
 /// Returns true if a plan's rom or ram is within its limits: there are at most 16 ranges, with at
 /// most 2^22 bytes together.
-fn are_ranges_few(objects: &[Value]) -> bool
+fn are_ranges_within_limits(objects: &[Value]) -> bool
     ensures { result ≡ are_ranges_few (map plan_range_of (map view objects.now)) }
 {
     objects.len() <= 16 && total_len(objects) <= 1 << 22
@@ -125,11 +125,11 @@ fn first_overlapping_range(range: Range, others: &[Range]) -> Option<usize>
 {
     others
         .iter()
-        .position(|other| !are_ranges_apart(&range, other))
+        .position(|other| !are_ranges_disjoint(&range, other))
 }
 
 /// Returns true if two ranges of a plan share no byte.
-fn are_ranges_apart(range: &Range, other: &Range) -> bool
+fn are_ranges_disjoint(range: &Range, other: &Range) -> bool
     ensures { result ≡ are_ranges_apart range.now other.now }
 {
     range.end() <= u64::from(other.at) || other.end() <= u64::from(range.at)

@@ -9,23 +9,23 @@ ghost use Rattle.tcd_plan.specs.JsonValues.{is_object, is_json_text, json_number
 use crate::json_values::{
     is_json_text, json_elements_at, json_number_at, json_number_of, json_word_at,
 };
-use crate::key_table::{Holder, ValueForm};
+use crate::key_table::{KeyParent, ValueForm};
 use serde_json::Value;
 use std::slice;
 
-/// Returns the objects of a document that a holder names, whose values are then tested for their
+/// Returns the objects of a document that a parent names, whose values are then tested for their
 /// forms. An array with an element that is no object has none.
-pub fn plan_objects_of(holder: Holder, value: &Value) -> &[Value]
-    ensures { map view result.now ≡ plan_objects_of holder (view value.now) }
+pub fn plan_objects_of(parent: KeyParent, value: &Value) -> &[Value]
+    ensures { map view result.now ≡ plan_objects_of parent (view value.now) }
 {
-    match holder {
-        Holder::Root => slice::from_ref(value),
-        Holder::Rom => plan_objects_at(value, "rom"),
-        Holder::Ram => plan_objects_at(value, "ram"),
-        Holder::Devices => plan_objects_at(value, "devices"),
-        Holder::Csa => plan_object_at(value, "csa"),
-        Holder::Start => plan_object_at(value, "start"),
-        Holder::Globals => plan_object_at(value, "globals"),
+    match parent {
+        KeyParent::Root => slice::from_ref(value),
+        KeyParent::Rom => array_objects_at(value, "rom"),
+        KeyParent::Ram => array_objects_at(value, "ram"),
+        KeyParent::Devices => array_objects_at(value, "devices"),
+        KeyParent::Csa => single_object_at(value, "csa"),
+        KeyParent::Start => single_object_at(value, "start"),
+        KeyParent::Globals => single_object_at(value, "globals"),
     }
 }
 
@@ -56,7 +56,7 @@ pub fn has_value_form(form: ValueForm, name: &str, object: &Value) -> bool
 
 /// Returns the objects of a document in the array at a key, so that their values can be tested;
 /// none unless the value is an array of objects alone.
-fn plan_objects_at<'a>(value: &'a Value, name: &str) -> &'a [Value]
+fn array_objects_at<'a>(value: &'a Value, name: &str) -> &'a [Value]
     ensures { map view result.now ≡ plan_objects_at name.now (view value.now) }
 {
     match json_elements_at(value, name) {
@@ -67,7 +67,7 @@ fn plan_objects_at<'a>(value: &'a Value, name: &str) -> &'a [Value]
 
 /// Returns the object of a document at one key, as a list of one, so that its values can be tested;
 /// the list is empty if no object is there.
-fn plan_object_at<'a>(value: &'a Value, name: &str) -> &'a [Value]
+fn single_object_at<'a>(value: &'a Value, name: &str) -> &'a [Value]
     ensures { map view result.now ≡ plan_object_at name.now (view value.now) }
 {
     match value.get(name) {

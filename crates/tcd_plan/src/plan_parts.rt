@@ -6,7 +6,7 @@ ghost use Rattle.tcd_plan.specs.JsonValues.{is_json_text, json_word_in};
 ghost use Rattle.tcd_plan.specs.PlanData.{areas_range};
 
 use crate::Device;
-use crate::json_values::{is_json_text, json_number_of, json_word_at, json_word_in};
+use crate::json_values::{is_json_text, json_number_of, json_word_at, json_nested_number};
 use arrayvec::ArrayVec;
 use serde_json::Value;
 use tcd_base::{Core, Range};
@@ -81,10 +81,10 @@ pub fn plan_globals_of(value: &Value) -> [u32; 4]
     ensures { result ≡ plan_globals_of (view value.now) }
 {
     [
-        json_word_in(value, "globals", "a0"),
-        json_word_in(value, "globals", "a1"),
-        json_word_in(value, "globals", "a8"),
-        json_word_in(value, "globals", "a9"),
+        json_nested_number(value, "globals", "a0"),
+        json_nested_number(value, "globals", "a1"),
+        json_nested_number(value, "globals", "a8"),
+        json_nested_number(value, "globals", "a9"),
     ]
 }
 
@@ -95,8 +95,8 @@ pub(crate) fn areas_range(value: &Value) -> Range
     ensures { result ≡ areas_range (plan_in (view value.now)) }
 {
     Range {
-        at: json_word_in(value, "csa", "at"),
-        len: 64 * json_word_in(value, "csa", "areas"),
+        at: json_nested_number(value, "csa", "at"),
+        len: 64 * json_nested_number(value, "csa", "areas"),
     }
 }
 

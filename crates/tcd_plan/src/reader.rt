@@ -5,10 +5,10 @@ ghost use Rattle.serde_json.specs.View.{view};
 ghost use Rattle.tcd_plan.specs.PlanReader.{AnswersPlan, HasPrintedKey, plan_of, plan_refusal, plan_in};
 
 use crate::json_values::{
-    has_json_text, json_byte_in, json_elements_of, json_word_at, json_word_in,
+    has_json_text, json_nested_byte, json_elements_or_empty, json_word_at, json_nested_number,
 };
-use crate::key_refusals::{first_bad_key, first_missing_key, first_unknown_key};
-use crate::key_table::Holder;
+use crate::key_refusals::{first_bad_key, first_missing_key, first_object_with_unknown_key};
+use crate::key_table::KeyParent;
 use crate::limits::{first_oversized_array, has_even_vectors, has_valid_areas, plan_range_overlap};
 use crate::object_forms::plan_objects_of;
 use crate::plan_parts::{core_of, devices_of, irqs_of, plan_globals_of, ranges_of};
@@ -48,7 +48,7 @@ fn plan_of(value: &Value) -> Result<Plan, PlanErr>
 {
     match plan_refusal(value) {
         Some(err) => Err(err),
-        None => Ok(plan_in(value)),
+        None => Ok(unchecked_plan_of(value)),
     }
 }
 
@@ -64,7 +64,7 @@ fn plan_refusal(value: &Value) -> Option<PlanErr>
     if let Some(key) = first_missing_key(value) {
         return Some(PlanErr::Missing(key));
     }
-    if let Some(key) = first_unknown_key(value) {
+    if let Some(key) = first_object_with_unknown_key(value) {
         return Some(PlanErr::Unknown(key));
     }
     if let Some(key) = first_bad_key(value) {
@@ -84,27 +84,27 @@ fn plan_refusal(value: &Value) -> Option<PlanErr>
 
 /// Reads the whole plan from a document that isn't refused.
 #[tactic(auto, unfolding(crate::specs::PlanReader::plan_in))]
-fn plan_in(value: &Value) -> Plan
+fn unchecked_plan_of(value: &Value) -> Plan
     requires { plan_refusal (view value.now) ≡ None }
     ensures { result ≡ plan_in (view value.now) }
 {
     Plan {
-        rom: ranges_of(plan_objects_of(Holder::Rom, value)),
-        ram: ranges_of(plan_objects_of(Holder::Ram, value)),
-        devices: devices_of(plan_objects_of(Holder::Devices, value)),
-        csa_at: json_word_in(value, "csa", "at"),
-        areas: json_word_in(value, "csa", "areas"),
-        reserve: json_word_in(value, "csa", "reserve"),
+        rom: ranges_of(plan_objects_of(KeyParent::Rom, value)),
+        ram: ranges_of(plan_objects_of(KeyParent::Ram, value)),
+        devices: devices_of(plan_objects_of(KeyParent::Devices, value)),
+        csa_at: json_nested_number(value, "csa", "at"),
+        areas: json_nested_number(value, "csa", "areas"),
+        reserve: json_nested_number(value, "csa", "reserve"),
         sp: json_word_at(value, "sp"),
         isp: json_word_at(value, "isp"),
         biv: json_word_at(value, "biv"),
         btv: json_word_at(value, "btv"),
-        irqs: irqs_of(json_elements_of(value, "irqs")),
-        sys: has_json_text(json_elements_of(value, "traps"), "sys"),
-        aln: has_json_text(json_elements_of(value, "traps"), "aln"),
-        start_ie: json_word_in(value, "start", "ie") == 1,
-        start_ccpn: json_byte_in(value, "start", "ccpn"),
-        start_is: json_word_in(value, "start", "is") == 1,
+        irqs: irqs_of(json_elements_or_empty(value, "irqs")),
+        sys: has_json_text(json_elements_or_empty(value, "traps"), "sys"),
+        aln: has_json_text(json_elements_or_empty(value, "traps"), "aln"),
+        start_ie: json_nested_number(value, "start", "ie") == 1,
+        start_ccpn: json_nested_byte(value, "start", "ccpn"),
+        start_is: json_nested_number(value, "start", "is") == 1,
         globals: plan_globals_of(value),
         core: core_of(value),
     }

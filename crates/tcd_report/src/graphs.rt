@@ -38,7 +38,7 @@ pub fn graph(alloc: Global, image: &Image, plan: &Plan, cert: &Cert) -> Result<S
     };
     let mut graph = empty_graph_text(alloc);
     let mut codes = KnownCodes::new();
-    let mut walk = PointWalk::none();
+    let mut walk = PointWalk::empty();
     for i in 0..cert.len() {
         let Some(node) = cert.get(i) else {
             unreachable!()

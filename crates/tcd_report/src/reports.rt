@@ -5,8 +5,8 @@ ghost use Rattle.tcd_report.specs.Reports.{IsReport};
 
 use crate::judged::Judged;
 use crate::reports::heights::heights;
-use crate::reports::longest_by_priority::{longest_by_priority, longest_calls_below};
-use crate::reports::report_text::{longest_calls_value, need_of_start, nodes_value, report_value};
+use crate::reports::longest_by_priority::{longest_calls_by_priority, longest_calls_below};
+use crate::reports::report_text::{longest_calls_value, certified_need, nodes_value, report_value};
 use elf_image::Image;
 use packed_cert::Cert;
 use std::alloc::Global;
@@ -34,9 +34,9 @@ pub fn report(alloc: Global, image: &Image, plan: &Plan, cert: &Cert) -> Result<
         cert,
     };
     let heights = heights(alloc, &judged)?;
-    let known = longest_by_priority(alloc, cert, &heights)?;
+    let known = longest_calls_by_priority(alloc, cert, &heights)?;
     let rows = longest_calls_below(alloc, &known, 256)?;
-    let need = need_of_start(image, plan, cert);
+    let need = certified_need(image, plan, cert);
     let calls = longest_calls_value(alloc, &rows)?;
     let nodes = nodes_value(alloc, cert)?;
     let value = report_value(alloc, plan, need, calls, nodes)?;

@@ -9,7 +9,7 @@ use tcd_text::{append_hex_word, append_str};
 /// Appends the text of a frame's key to a growing text: at the front of the graph's lines, or in
 /// the report.
 #[tactic(auto, unfolding(crate::specs::Texts::key_text))]
-pub(crate) fn append_key_text(text: &mut String, key: &Key) -> Result<(), NoMemory>
+pub(crate) fn append_frame_name(text: &mut String, key: &Key) -> Result<(), NoMemory>
     ensures { OnOk result (string_bytes text.new ≡ string_bytes text.old ++ key_text key.now) }
 {
     append_str(text, key_kind_text(key.kind))?;

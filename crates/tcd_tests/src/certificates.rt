@@ -77,10 +77,10 @@ fn finds_nodes_and_points(rt: HostRuntime) -> Result<(), Fail> {
     same(&rt, &call.need, &0);
     let exit = call.exit().ok_or("no exit")?;
     is_so(&rt, !exit.ie() && exit.ccpn() == 0);
-    is_so(&rt, exit.read().lower[13].words().is_none());
-    let mut walk = PointWalk::none();
-    call.walk(&mut walk);
-    same(&rt, &walk.step(), &Some(0x8000_0008));
+    is_so(&rt, exit.to_exit().lower[13].words().is_none());
+    let mut walk = PointWalk::empty();
+    call.start_walk(&mut walk);
+    same(&rt, &walk.advance(), &Some(0x8000_0008));
     same(
         &rt,
         &walk.state().regs[22].words().ok_or("any")?,

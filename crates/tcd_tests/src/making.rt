@@ -56,10 +56,10 @@ fn a_table_of_functions_has_its_targets(rt: HostRuntime) -> Result<(), Fail> {
     let image = image(&rt, &DISPATCH)?;
     let cert = make(rt.alloc(), &image, &plan, 1).map_err(|_| "refused")?;
     let start = cert.get(0).ok_or("no start")?;
-    let mut walk = PointWalk::none();
-    start.walk(&mut walk);
+    let mut walk = PointWalk::empty();
+    start.start_walk(&mut walk);
     for _i in 0..start.len() {
-        if walk.step() == Some(0x8000_0010) {
+        if walk.advance() == Some(0x8000_0010) {
             break;
         }
     }

@@ -73,7 +73,7 @@ fn whole_accesses(rt: HostRuntime) -> Result<(), Fail> {
     same(&rt, &mem.set_word(0x1040, 1), &false);
     same(&rt, &mem.half(0x1041), &None);
     let mut near = 7;
-    same(&rt, &mem.first_word(0x1000, &mut near), &Some(0));
-    same(&rt, &mem.first_word(0x1040, &mut near), &None);
+    same(&rt, &mem.area_first_word(0x1000, &mut near), &Some(0));
+    same(&rt, &mem.area_first_word(0x1040, &mut near), &None);
     Ok(())
 }

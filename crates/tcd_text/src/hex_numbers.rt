@@ -81,7 +81,7 @@ fn upper_hex_digits_value(digits: &[u8]) -> Option<u32>
 {
     let mut value = 0u32;
     for c in digits {
-        let Some(digit) = upper_hex_value(*c) else {
+        let Some(digit) = upper_hex_digit_value(*c) else {
             return None;
         };
         value = value * 16 + digit;
@@ -90,7 +90,7 @@ fn upper_hex_digits_value(digits: &[u8]) -> Option<u32>
 }
 
 /// Returns the value of an upper-case hex digit, or `None` for any other byte.
-fn upper_hex_value(c: u8) -> Option<u32>
+fn upper_hex_digit_value(c: u8) -> Option<u32>
     ensures { result ≡ then_some (is_upper_hex c) (digit_value c) }
 {
     match char::from(c).to_digit(16) {

@@ -1,6 +1,6 @@
 // Cells, and their reading from a text.
 use crate::CellsErr;
-use crate::lines::cell_in;
+use crate::lines::parse_cell_line;
 use crate::plans::{is_cell_in_ram, ram_without_cells};
 use arrayvec::ArrayVec;
 use std::marker::Model;
@@ -86,7 +86,7 @@ impl Cells {
         if line.is_empty() {
             return Ok(());
         }
-        let Some(cell) = cell_in(line) else {
+        let Some(cell) = parse_cell_line(line) else {
             return Err(CellsErr::BadLine(number));
         };
         if !is_cell_in_ram(plan, cell.at) {
@@ -95,7 +95,7 @@ impl Cells {
         if self.has_cell_at(cell.at) {
             return Err(CellsErr::Twice(number));
         }
-        if !self.has_room(plan, &cell) {
+        if !self.has_room_for_cell(plan, &cell) {
             return Err(CellsErr::TooMany(number));
         }
         self.list.push(cell);
@@ -110,7 +110,7 @@ impl Cells {
     }
 
     // Returns whether one more cell leaves at most 16 ranges of ram and at most 16 peripherals.
-    fn has_room(&self, plan: &Plan, cell: &Cell) -> bool
+    fn has_room_for_cell(&self, plan: &Plan, cell: &Cell) -> bool
         requires cells { AreCells plan.now self.now }
         requires cell { IsCell plan.now cell.now }
         ensures { IsTrue result ↔ HasRoomForCell plan.now self.now cell.now }

@@ -38,12 +38,12 @@ pub fn cells_fault(image: &Image, plan: &Plan, cells: &Cells, cert: &Cert) -> Op
         cells: cells.list(),
     };
     let mut codes = KnownCodes::new();
-    let mut walk = PointWalk::none();
+    let mut walk = PointWalk::empty();
     for i in 0..cert.len() {
         let Some(node) = cert.get(i) else {
             unreachable!()
         };
-        if let Some(addr) = node_cells_fault(&rule, &mut codes, &node, &mut walk) {
+        if let Some(addr) = first_cell_fault_in_node(&rule, &mut codes, &node, &mut walk) {
             return Some((node.key, addr));
         }
     }
@@ -52,7 +52,7 @@ pub fn cells_fault(image: &Image, plan: &Plan, cells: &Cells, cert: &Cert) -> Op
 
 /// Returns the first address of a node's points at which K16, the rule on cells, fails, or None if
 /// the rule holds at all of them.
-fn node_cells_fault<'a>(
+fn first_cell_fault_in_node<'a>(
     rule: &CellsRule,
     codes: &mut KnownCodes,
     node: &Node<'a>,
@@ -67,8 +67,8 @@ fn node_cells_fault<'a>(
         IfSome result
         (IsRule16NodeFault r.bounds.now r.image.now r.plan.now r.cells.now node.now) }
 {
-    node.walk(walk);
-    while let Some(addr) = walk.step() {
+    node.start_walk(walk);
+    while let Some(addr) = walk.advance() {
         if !keeps_rule_16(rule, codes, addr, walk.state()) {
             return Some(addr);
         }

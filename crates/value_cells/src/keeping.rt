@@ -37,12 +37,12 @@ fn keeps_cell(at: &Val, size: u8, stored: &Val, cell: &Cell) -> bool
     let fits = fits_cell(size, stored, cell);
     let mut x = cell.at.saturating_sub(u32::from(size) - 1);
     while x < cell.at + 3 {
-        if !is_cell_kept(x, at, fits, cell.at) {
+        if !is_cell_kept_at(x, at, fits, cell.at) {
             return false;
         }
         x += 1;
     }
-    is_cell_kept(x, at, fits, cell.at)
+    is_cell_kept_at(x, at, fits, cell.at)
 }
 
 /// Returns whether a store to exactly the cell's word keeps its bounds: it is of a whole word, and
@@ -56,7 +56,7 @@ fn fits_cell(size: u8, stored: &Val, cell: &Cell) -> bool
 
 /// Returns whether a store keeps a cell if begun at `x`: `x` is none of its possible addresses, or
 /// is the cell's, and the store fits.
-fn is_cell_kept(x: u32, at: &Val, fits: bool, cell: u32) -> bool
+fn is_cell_kept_at(x: u32, at: &Val, fits: bool, cell: u32) -> bool
     requires { IsWellFormed at.now }
     ensures { IsTrue result ↔ IsCellKept at.now fits cell x }
 {

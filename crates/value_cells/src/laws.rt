@@ -16,7 +16,7 @@ pub fn cells_keep_their_bounds()
 
 /// In plain words: the ram that is left without cells, and what safe with cells means. A text has
 /// one list of cells, or one error.
-pub fn cells_in_words()
+pub fn cell_guard_laws()
     ensures ram { RamIsWithoutCells }
     ensures stays { EachCellStaysInBounds }
     ensures one { CellTextHasOneResult }

@@ -8,7 +8,7 @@ use tcd_text::{Words, hex_number, words_in};
 /// Returns the cell of a line, or nothing if the line has another form: four words, an address
 /// that is a multiple of 4, and bounds in order.
 #[tactic(auto, using(crate::proofs::LineForms::more), unfolding(crate::specs::CellListText::cell_of_words, crate::specs::CellListText::cell_of_numbers))]
-pub(crate) fn cell_in(line: &[u8]) -> Option<Cell>
+pub(crate) fn parse_cell_line(line: &[u8]) -> Option<Cell>
     ensures cell { result ≡ cell_of line.now }
     ensures said { IfSome result IsCellOfLine }
 {

@@ -7,14 +7,14 @@ ghost use Rattle.value_cells.specs.Cells.{AreCells, cell_device};
 
 use crate::cells::{Cell, Cells};
 use arrayvec::ArrayVec;
-use tcd_base::{Range, is_in_any_range};
+use tcd_base::{Range, is_in_one_range};
 use tcd_plan::{Device, Plan, cut_plan_ranges};
 
 /// Returns whether the word of a cell, at this address, is inside one of the plan's ranges of ram.
 pub(crate) fn is_cell_in_ram(plan: &Plan, at: u32) -> bool
     ensures { IsTrue result ↔ IsInOneRange at 4 plan.now.ram }
 {
-    is_in_any_range(plan.ram.as_slice(), at, 4)
+    is_in_one_range(plan.ram.as_slice(), at, 4)
 }
 
 /// Returns the ranges of ram without the words of all cells.

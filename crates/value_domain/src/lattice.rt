@@ -10,7 +10,7 @@ ghost use Rattle.value_domain.specs.declared.values.Val.TheVariants.{Set, Span};
 
 use crate::merged_lists::merge;
 use crate::values::{
-    alignment_log2, has_set_word, is_all_words, is_set, member, set_span, set_word, set_words,
+    alignment_log2, has_set_word, is_span_of_all_words, is_set, member, set_span, set_word, set_words,
     span_len,
 };
 use crate::{Bounds, Val, Words};
@@ -28,7 +28,7 @@ pub struct Extent {
 
 /// Returns the extent of a Set's words: the least, the greatest, and the step. The lattice compares
 /// and joins abstract values by extents.
-pub(crate) fn set_extent(words: &[u32]) -> Extent
+pub(crate) fn extent_of_set(words: &[u32]) -> Extent
     requires { AreWords words.now }
     ensures { IsExtent words.now result.least result.greatest result.step }
 {
@@ -41,7 +41,7 @@ pub(crate) fn set_extent(words: &[u32]) -> Extent
 
 /// Returns the extent of a Span: its least and its greatest member, and its step. The lattice
 /// compares and joins abstract values by extents.
-pub(crate) fn span_extent(lo: u32, last: u32, step: u8) -> Extent
+pub(crate) fn extent_of_span(lo: u32, last: u32, step: u8) -> Extent
     requires { IsWellFormed (Span lo last step) }
     ensures { IsExtent (range lo last step) result.least result.greatest result.step }
 {
@@ -60,7 +60,7 @@ pub fn write_span(b: &Bounds, least: u32, greatest: u32, step: u8, out: &mut Val
         ≡ Span (floor b.now.thresholds least) (above b.now.thresholds greatest - 1) step }
 {
     let lo = b.floor(least);
-    let last = (b.above(greatest) - 1) as u32;
+    let last = (b.threshold_above(greatest) - 1) as u32;
     set_span(out, lo, last, step);
 }
 
@@ -229,8 +229,8 @@ pub fn extent_of(v: &Val) -> Extent
     ensures { IsExtent (members v.now) result.least result.greatest result.step }
 {
     match v {
-        Val::Set(words) => set_extent(words.as_slice()),
-        Val::Span { lo, last, step } => span_extent(*lo, *last, *step),
+        Val::Set(words) => extent_of_set(words.as_slice()),
+        Val::Span { lo, last, step } => extent_of_span(*lo, *last, *step),
     }
 }
 
@@ -282,7 +282,7 @@ fn insert_or_widen(b: &Bounds, v: &mut Val, x: u32)
     }
     if let Val::Set(words) = v {
         if words.as_slice().len() < most_words {
-            words.put(x);
+            words.insert(x);
             return;
         }
     }
@@ -339,7 +339,7 @@ fn join_span(b: &Bounds, v: &mut Val, lo: u32, last: u32, step: u8)
     ensures { v.new ≡ cover b.now (members v.old ++ range lo last step) }
 {
     let e = extent_of(v);
-    let f = span_extent(lo, last, step);
+    let f = extent_of_span(lo, last, step);
     write_span(
         b,
         e.least.min(f.least),
@@ -383,7 +383,7 @@ fn is_below_span(v: &Val, lo: u32, last: u32, step: u8) -> bool
     requires step { step ≤ 2 }
     ensures { IsTrue result ↔ IsBelow v.now (Span lo last step) }
 {
-    if is_all_words(lo, last, step) {
+    if is_span_of_all_words(lo, last, step) {
         return true;
     }
     let e = extent_of(v);
@@ -430,7 +430,7 @@ fn is_span_value(b: &Bounds, lo: u32, last: u32, step: u8) -> bool
     ensures { IsTrue result ↔ IsValue b.now (Span lo last step) }
 {
     let most_words = b.most_words();
-    if is_all_words(lo, last, step) {
+    if is_span_of_all_words(lo, last, step) {
         return true;
     }
     if step > 2 {
@@ -439,8 +439,8 @@ fn is_span_value(b: &Bounds, lo: u32, last: u32, step: u8) -> bool
     if span_len(lo, last, step) <= most_words as u64 {
         return false;
     }
-    let e = span_extent(lo, last, step);
-    lo == b.floor(e.least) && u64::from(last) + 1 == b.above(e.greatest)
+    let e = extent_of_span(lo, last, step);
+    lo == b.floor(e.least) && u64::from(last) + 1 == b.threshold_above(e.greatest)
 }
 
 /// Overwrites a value with the cover of a range of more words than a Set can have: the lattice's
@@ -451,7 +451,7 @@ fn write_cover_as_span(b: &Bounds, first: u32, last: u32, step: u8, out: &mut Va
     requires limits { AreLimits b.now }
     ensures { out.new ≡ cover b.now (range first last step) }
 {
-    let e = span_extent(first, last, step);
+    let e = extent_of_span(first, last, step);
     write_span(b, e.least, e.greatest, e.step, out);
 }
 

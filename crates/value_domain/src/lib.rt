@@ -15,9 +15,9 @@ pub use lattice::{
 };
 pub use laws::{state_laws, value_laws};
 pub use limits::Bounds;
-pub use meets::{write_meet, write_meet_with_words};
+pub use meets::{write_span_meet, write_meet_with_set};
 pub use states::{
-    A10_SLOT, State, are_flags_implied, copy_locals, covers, covers_context, join_locals,
+    A10_SLOT, State, flags_imply, copy_locals, covers, covers_context, join_locals,
     join_states,
 };
 pub use values::{

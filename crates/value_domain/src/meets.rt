@@ -9,7 +9,7 @@ use crate::{Bounds, Val};
 
 /// Overwrites `out` with the meet of an abstract value and a Span: the cover of their common
 /// members. Returns false if there are none; then `out` may be any value.
-pub fn write_meet(b: &Bounds, v: &Val, lo: u32, last: u32, step: u8, out: &mut Val) -> bool
+pub fn write_span_meet(b: &Bounds, v: &Val, lo: u32, last: u32, step: u8, out: &mut Val) -> bool
     requires value { IsValue b.now v.now }
     requires step { step ≤ 2 }
     ensures meet { value_if_found result out.new
@@ -22,13 +22,13 @@ pub fn write_meet(b: &Bounds, v: &Val, lo: u32, last: u32, step: u8, out: &mut V
             lo: first,
             last: end,
             step: own,
-        } => write_meet_of_span(b, lo.max(*first), last.min(*end), step.max(*own), out),
+        } => write_meet_of_spans(b, lo.max(*first), last.min(*end), step.max(*own), out),
     }
 }
 
 /// Overwrites `out` with the meet of an abstract value and a Set: the cover of the words that are
 /// members of `v`. Returns false if there are none; then `out` may be any value.
-pub fn write_meet_with_words(b: &Bounds, words: &[u32], v: &Val, out: &mut Val) -> bool
+pub fn write_meet_with_set(b: &Bounds, words: &[u32], v: &Val, out: &mut Val) -> bool
     requires { IsWellFormed v.now }
     ensures kept { value_if_found result out.new
         ≡ cover_if_any b.now (filter (λ x. is_member x v.now) words.now) }
@@ -63,7 +63,7 @@ fn write_meet_of_set(b: &Bounds, words: &[u32], lo: u32, last: u32, step: u8, ou
 
 /// Overwrites `out` with the meet of two Spans, whose common members are the multiples of `2 ^
 /// step` in `lo..=last`. Returns false if there are none.
-fn write_meet_of_span(b: &Bounds, lo: u32, last: u32, step: u8, out: &mut Val) -> bool
+fn write_meet_of_spans(b: &Bounds, lo: u32, last: u32, step: u8, out: &mut Val) -> bool
     requires { step ≤ 2 }
     ensures meet { value_if_found result out.new ≡ cover_if_any b.now (range lo last step) }
     ensures value { IfSome (value_if_found result out.new) (IsValue b.now) }

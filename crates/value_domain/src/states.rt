@@ -61,7 +61,7 @@ pub fn covers(upper: &State, s: &State) -> bool
     if !covers_context(upper, s.ie, s.ccpn, s.lower) {
         return false;
     }
-    if !are_flags_implied(upper.locals.as_slice(), s.locals.as_slice()) {
+    if !flags_imply(upper.locals.as_slice(), s.locals.as_slice()) {
         return false;
     }
     are_regs_below(&s.regs, &upper.regs)
@@ -78,7 +78,7 @@ pub fn covers_context(upper: &State, ie: bool, ccpn: u8, lower: bool) -> bool
 
 /// Returns true if two states have equally many saved lower contexts, and each flag of `flags`
 /// implies the one at its place in `others`.
-pub fn are_flags_implied(flags: &[bool], others: &[bool]) -> bool
+pub fn flags_imply(flags: &[bool], others: &[bool]) -> bool
     ensures { IsTrue result ↔ FlagsImpliedBy flags.now others.now }
 {
     if flags.len() != others.len() {

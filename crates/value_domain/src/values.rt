@@ -103,7 +103,7 @@ impl Words {
     }
 
     /// Inserts a word at its place among a Set's ascending words, which have room for one more.
-    pub fn put(&mut self, x: u32)
+    pub fn insert(&mut self, x: u32)
         requires room { length self.old < 128 }
         requires absent { ¬ Among x self.old }
         ensures { self.new ≡ sorted_insert x self.old }
@@ -354,7 +354,7 @@ pub(crate) fn are_values_equal(v: &Val, w: &Val) -> bool
 }
 
 /// Returns true if a Span holds all words of 32 bits.
-pub(crate) fn is_all_words(lo: u32, last: u32, step: u8) -> bool
+pub(crate) fn is_span_of_all_words(lo: u32, last: u32, step: u8) -> bool
     ensures { IsTrue result ↔ ((lo ≡ 0) × (last ≡ 4294967295) × (step ≡ 0)) }
 {
     lo == 0 && last == u32::MAX && step == 0

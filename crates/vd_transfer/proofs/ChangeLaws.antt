@@ -12,7 +12,7 @@ use Rattle.value_domain.specs.Values.{any_val, IsValue}
 use Rattle.value_domain.specs.State.{AreValues, is_lower_slot}
 use Rattle.vd_transfer.specs.declared.change.Base.{Base}
 use Rattle.vd_transfer.specs.declared.change.Base.TheVariants.{Same, Forgotten, Any}
-use Rattle.vd_transfer.specs.declared.change.Put.{Put}
+use Rattle.vd_transfer.specs.declared.change.RegisterWrite.{RegisterWrite}
 use Rattle.vd_transfer.specs.declared.change.Change.{Change}
 use Rattle.vd_transfer.specs.Registers.{slot, set_slot, set_reg, write_reg, is_lower_register, set_arg, arg_slot}
 use Rattle.vd_transfer.specs.EffectsOnStates.{with_lower_unknown_from}
@@ -111,7 +111,7 @@ length-value_put : (vs : List Val) (v : Val) (o : Option ℕ) → length (values
 length-value_put vs v None = refl
 length-value_put vs v (Some i) = length-set vs i v
 
-length-put : (vs : List Val) (p : Put) → length (with_put vs p) ≡ length vs
+length-put : (vs : List Val) (p : RegisterWrite) → length (with_put vs p) ≡ length vs
 length-put vs p = length-value_put vs p.value p.at
 
 length-base : (base : Base) (vs : List Val) → length vs ≡ 27 → length (base_of base vs) ≡ 27
@@ -124,7 +124,7 @@ length-changed s c e =
     let base = base_of c.base s.regs in
     length-put (with_put (with_put base c.first) c.second) c.third ∙ length-put (with_put base c.first) c.second ∙ length-put base c.first ∙ length-base c.base s.regs e
 
-put-here : (vs : List Val) (p : Put) (i : ℕ) → i < length vs → p.at ≡ Some i → get_or (with_put vs p) i any_val ≡ p.value
+put-here : (vs : List Val) (p : RegisterWrite) (i : ℕ) → i < length vs → p.at ≡ Some i → get_or (with_put vs p) i any_val ≡ p.value
 put-here vs p i h e = ap (λ (o : Option ℕ). get_or (values_changed_at vs p.value o) i any_val) e ∙ get_or-set_same vs i p.value any_val h
 
 put-there : (vs : List Val) (v : Val) (o : Option ℕ) (i : ℕ) → (o ≡ Some i → ⊥) → get_or (values_changed_at vs v o) i any_val ≡ get_or vs i any_val

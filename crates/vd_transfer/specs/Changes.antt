@@ -5,7 +5,7 @@ use Rattle.value_domain.specs.declared.states.State.{State}
 use Rattle.value_domain.specs.Values.{any_val}
 use Rattle.vd_transfer.specs.declared.change.Base.{Base}
 use Rattle.vd_transfer.specs.declared.change.Base.TheVariants.{Same, Forgotten, Any}
-use Rattle.vd_transfer.specs.declared.change.Put.{Put}
+use Rattle.vd_transfer.specs.declared.change.RegisterWrite.{RegisterWrite}
 use Rattle.vd_transfer.specs.declared.change.Change.{Change}
 use Rattle.vd_transfer.specs.Registers.{slot}
 use Rattle.vd_transfer.specs.EffectsOnStates.{with_lower_unknown_from}
@@ -23,8 +23,8 @@ values_changed_at vs v None = vs
 values_changed_at vs v (Some i) = slice_set vs i v
 
 -- the values with what is put at its place
-abbrev pub with_put : List Val → Put → List Val
-with_put vs put = values_changed_at vs put.value put.at
+abbrev pub with_put : List Val → RegisterWrite → List Val
+with_put vs write = values_changed_at vs write.value write.at
 
 -- the state after a change
 abbrev pub state_after : State → Change → State
@@ -37,11 +37,11 @@ state_after s c = record {
 }
 
 -- nothing is put
-abbrev pub no_put : Put
+abbrev pub no_put : RegisterWrite
 no_put = record { at = None; value = any_val }
 
 -- the put of a register's value, if a state has one for it
-abbrev pub put_of_register : ℕ → Val → Put
+abbrev pub put_of_register : ℕ → Val → RegisterWrite
 put_of_register r v = record { at = slot r; value = v }
 
 -- the identity change of a state, which keeps the whole state

@@ -6,7 +6,7 @@ ghost use Rattle.tc_isa.specs.InBounds.{IsShape, IsArg};
 ghost use Rattle.vd_transfer.specs.EffectsOnStates.{address_of, access_of};
 
 use crate::operands::{Operation, write_arg};
-use crate::operations::operate;
+use crate::operations::evaluate_operation;
 use tc_isa::{Arg, Op, Shape};
 use tcd_plan::Plan;
 use value_domain::{Bounds, State, Val, write_any};
@@ -37,7 +37,7 @@ impl Addressing {
 /// Overwrites an abstract value with the addresses that a load or store of this shape may access in
 /// a state.
 #[tactic(auto, unfolding(crate::specs::EffectsOnStates::address_of))]
-pub fn write_address(b: &Bounds, plan: &Plan, shape: Shape, s: &State, out: &mut Val)
+pub fn write_address_by_shape(b: &Bounds, plan: &Plan, shape: Shape, s: &State, out: &mut Val)
     requires shape { IsShape shape }
     requires values { AreValues b.now s.now.regs }
     ensures address { out.new ≡ address_of b.now plan.now shape s.now }
@@ -50,13 +50,13 @@ pub fn write_address(b: &Bounds, plan: &Plan, shape: Shape, s: &State, out: &mut
             offset,
             after,
             ..
-        } => write_access_addresses(b, plan, s, Addressing::new(base, offset, after), out),
+        } => write_address_by_mode(b, plan, s, Addressing::new(base, offset, after), out),
         Shape::Store {
             base,
             offset,
             after,
             ..
-        } => write_access_addresses(b, plan, s, Addressing::new(base, offset, after), out),
+        } => write_address_by_mode(b, plan, s, Addressing::new(base, offset, after), out),
         _ => write_any(out),
     }
 }
@@ -71,12 +71,12 @@ pub fn address_by_shape(b: &Bounds, plan: &Plan, shape: Shape, s: &State) -> Val
     ensures value { IsValue b.now result }
 {
     let mut out = Val::any();
-    write_address(b, plan, shape, s, &mut out);
+    write_address_by_shape(b, plan, shape, s, &mut out);
     out
 }
 
 /// Overwrites an abstract value with the addresses of a load or store by its base and offset.
-fn write_access_addresses(b: &Bounds, plan: &Plan, s: &State, at: Addressing, out: &mut Val)
+fn write_address_by_mode(b: &Bounds, plan: &Plan, s: &State, at: Addressing, out: &mut Val)
     requires base { IsArg at.base }
     requires values { AreValues b.now s.now.regs }
     ensures access { out.new ≡ access_of b.now plan.now s.now at.base at.offset at.after }
@@ -91,5 +91,5 @@ fn write_access_addresses(b: &Bounds, plan: &Plan, s: &State, at: Addressing, ou
         x: at.base,
         y: Arg::Word(at.offset),
     };
-    operate(b, plan, s, of, out);
+    evaluate_operation(b, plan, s, of, out);
 }

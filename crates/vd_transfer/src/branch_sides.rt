@@ -13,12 +13,12 @@ ghost use Rattle.vd_transfer.specs.Registers.{reg_of, arg_of, write_reg};
 ghost use Rattle.vd_transfer.specs.Operations.{value_of};
 ghost use Rattle.vd_transfer.specs.Changes.{state_after};
 
-use crate::change::{Change, set_last_put_destination};
+use crate::change::{Change, set_third_write_slot};
 use crate::changed_states::changed_reg;
-use crate::operands::{arg_word, build_arg, constant_operand, is_register_operand, write_constant};
-use crate::operations::write_operation;
+use crate::operands::{arg_word, build_arg, constant_value, is_same_register, write_constant};
+use crate::operations::write_operation_value;
 use crate::refinement::{Relation, refine_both_operands, refine_left_operand};
-use crate::registers::{reg_in_state, reg_value, slot_of};
+use crate::registers::{reg_in_state, reg_in_lattice, register_slot};
 use tc_isa::{Arg, Cond, Op, Shape, taken};
 use tcd_plan::Plan;
 use value_domain::{Bounds, State, Val};
@@ -95,7 +95,7 @@ fn is_side_taken(cond: Cond, side: bool, x: u32, y: u32) -> bool
 
 /// Writes the change on a side of a branch: the left register keeps the members that are possible
 /// there. Returns false if there are none.
-pub(crate) fn narrow_side_register(
+pub(crate) fn narrow_left_register(
     b: &Bounds,
     test: Comparison,
     s: &State,
@@ -112,18 +112,18 @@ pub(crate) fn narrow_side_register(
     ensures values { AreValues b.now (state_after s.now c.new).regs }
     ensures free { (c.new.second.at ≡ None) × (c.new.third.at ≡ None) }
 {
-    c.keep(s);
+    c.set_to_identity(s);
     if !refine_left_operand(b, test, v, w, &mut c.first.value) {
         return false;
     }
-    c.first.at = slot_of(test.x);
+    c.first.at = register_slot(test.x);
     true
 }
 
 /// Writes into `c` how a branch changes a state on one of its sides, whatever `c` held. Returns
 /// false if the side isn't possible.
 #[tactic(auto, unfolding(crate::specs::Branches::refine_of))]
-pub fn change_on(
+pub fn write_branch_change(
     b: &Bounds,
     plan: &Plan,
     shape: Shape,
@@ -144,9 +144,9 @@ pub fn change_on(
             y,
             lowers,
             ..
-        } => change_by_comparison(b, plan, Comparison { cond, side, x, y }, lowers, s, c),
+        } => write_comparison_change(b, plan, Comparison { cond, side, x, y }, lowers, s, c),
         _ => {
-            c.keep(s);
+            c.set_to_identity(s);
             false
         }
     }
@@ -154,7 +154,7 @@ pub fn change_on(
 
 /// Writes into `c` how a branch with this comparison changes a state on a side; a loop also
 /// decrements its counter. Returns false if the side isn't possible.
-fn change_by_comparison(
+fn write_comparison_change(
     b: &Bounds,
     plan: &Plan,
     test: Comparison,
@@ -169,16 +169,16 @@ fn change_by_comparison(
         (state_on_side b.now plan.now test.cond test.x test.y s.now test.side) }
     ensures values { AreValues b.now (state_after s.now c.new).regs }
 {
-    if !narrow_on_side(b, plan, test, s, c) {
+    if !narrow_operands(b, plan, test, s, c) {
         return false;
     }
-    decrement_loop_counter(b, plan, test.x, lowers, s, c);
+    decrement_if_loop(b, plan, test.x, lowers, s, c);
     true
 }
 
 /// Writes into `c` how a branch's comparison narrows its operands on a side. Returns false if the
 /// side isn't possible. Two constants stay as they are.
-fn narrow_on_side(b: &Bounds, plan: &Plan, test: Comparison, s: &State, c: &mut Change) -> bool
+fn narrow_operands(b: &Bounds, plan: &Plan, test: Comparison, s: &State, c: &mut Change) -> bool
     requires operands { (test.x < 32) × IsArg test.y }
     requires values { AreValues b.now s.now.regs }
     ensures refined { state_if_possible result (state_after s.now c.new)
@@ -188,25 +188,25 @@ fn narrow_on_side(b: &Bounds, plan: &Plan, test: Comparison, s: &State, c: &mut 
 {
     let _most_words = b.most_words();
     let _globals = &plan.globals;
-    if is_register_operand(test.x, test.y) {
-        c.keep(s);
+    if is_same_register(test.x, test.y) {
+        c.set_to_identity(s);
         return is_side_taken_by_equal_words(test.cond, test.side);
     }
     match arg_word(b, plan, s, Arg::Reg(test.x)) {
         Some(x) => match arg_word(b, plan, s, test.y) {
             Some(y) => {
-                c.keep(s);
+                c.set_to_identity(s);
                 is_side_taken(test.cond, test.side, x, y)
             }
-            None => narrow_side_by_values(b, plan, test, s, c),
+            None => narrow_by_values(b, plan, test, s, c),
         },
-        None => narrow_side_by_values(b, plan, test, s, c),
+        None => narrow_by_values(b, plan, test, s, c),
     }
 }
 
 /// Decrements the counter register of a loop instruction by 1 in a changed state, if the branch is
 /// one.
-fn decrement_loop_counter(b: &Bounds, plan: &Plan, x: u8, lowers: bool, s: &State, c: &mut Change)
+fn decrement_if_loop(b: &Bounds, plan: &Plan, x: u8, lowers: bool, s: &State, c: &mut Change)
     requires register { x < 32 }
     requires values { AreValues b.now (state_after s.now c.old).regs }
     requires free { c.old.third.at ≡ None }
@@ -221,7 +221,7 @@ fn decrement_loop_counter(b: &Bounds, plan: &Plan, x: u8, lowers: bool, s: &Stat
 
 /// Narrows the operands of a branch on a side, by the state's own values if there are any. Returns
 /// false if the side isn't possible.
-fn narrow_side_by_values(
+fn narrow_by_values(
     b: &Bounds,
     plan: &Plan,
     test: Comparison,
@@ -242,19 +242,19 @@ fn narrow_side_by_values(
 {
     match reg_in_state(b, plan, s, test.x) {
         Some(v) => match test.y {
-            Arg::Word(z) => narrow_side_by_constant(b, test, s, v, z, c),
+            Arg::Word(z) => narrow_against_constant(b, test, s, v, z, c),
             Arg::Reg(r) => match reg_in_state(b, plan, s, r) {
                 Some(w) => refine_both_operands(b, test, s, v, w, c),
-                None => narrow_side_of_built(b, plan, test, s, c),
+                None => narrow_built_operands(b, plan, test, s, c),
             },
         },
-        None => narrow_side_of_built(b, plan, test, s, c),
+        None => narrow_built_operands(b, plan, test, s, c),
     }
 }
 
 /// Narrows the register that a branch compares with a constant to the members possible on a side.
 /// Returns false if there are none.
-fn narrow_side_by_constant(
+fn narrow_against_constant(
     b: &Bounds,
     test: Comparison,
     s: &State,
@@ -271,19 +271,19 @@ fn narrow_side_by_constant(
     ensures values { AreValues b.now (state_after s.now c.new).regs }
     ensures free { c.new.third.at ≡ None }
 {
-    c.keep(s);
+    c.set_to_identity(s);
     write_constant(b, z, &mut c.second.value);
     if !refine_left_operand(b, test, v, &c.second.value, &mut c.first.value) {
         return false;
     }
-    c.first.at = slot_of(test.x);
+    c.first.at = register_slot(test.x);
     true
 }
 
 /// Narrows operands whose values have to be built. Returns false if the side isn't possible. It is
 /// a function of its own, so that its callers need no stack for the values.
 #[inline(never)]
-fn narrow_side_of_built(
+fn narrow_built_operands(
     b: &Bounds,
     plan: &Plan,
     test: Comparison,
@@ -302,7 +302,7 @@ fn narrow_side_of_built(
     ensures values { AreValues b.now (state_after s.now c.new).regs }
     ensures free { c.new.third.at ≡ None }
 {
-    let v = reg_value(b, plan, s, test.x);
+    let v = reg_in_lattice(b, plan, s, test.x);
     refine_both_operands(b, test, s, &v, &build_arg(b, plan, s, test.y), c)
 }
 
@@ -318,6 +318,6 @@ fn decrement_register(b: &Bounds, plan: &Plan, x: u8, s: &State, c: &mut Change)
     ensures values { AreValues b.now (state_after s.now c.new).regs }
 {
     let v = changed_reg(b, plan, s, c, x);
-    write_operation(b, Op::Sub, &v, &constant_operand(b, 1), &mut c.third.value);
-    set_last_put_destination(b, s, c, x);
+    write_operation_value(b, Op::Sub, &v, &constant_value(b, 1), &mut c.third.value);
+    set_third_write_slot(b, s, c, x);
 }

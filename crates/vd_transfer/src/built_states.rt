@@ -8,10 +8,10 @@ ghost use Rattle.vd_transfer.specs.Branches.{refine_of};
 ghost use Rattle.vd_transfer.specs.Changes.{state_after};
 
 use crate::access::address_by_shape;
-use crate::branch_sides::change_on;
+use crate::branch_sides::write_branch_change;
 use crate::change::{Change, identity_change};
 use crate::changed_states::changed_value;
-use crate::effect::change_of;
+use crate::effect::write_instruction_change;
 use tc_isa::{Inst, shape};
 use tcd_plan::Plan;
 use value_domain::{Bounds, State, Val, copy_locals};
@@ -33,7 +33,7 @@ pub fn refine(b: &Bounds, plan: &Plan, inst: &Inst, s: &State, side: bool) -> Op
     ensures values { IfSome result (λ t. AreValues b.now t.regs) }
 {
     let mut c = identity_change(s);
-    if change_on(b, plan, shape(inst), s, side, &mut c) {
+    if write_branch_change(b, plan, shape(inst), s, side, &mut c) {
         Some(state_after_change(s, &c))
     } else {
         None
@@ -51,7 +51,7 @@ pub fn transfer(b: &Bounds, plan: &Plan, inst: &Inst, s: &State, loaded: &Val) -
 {
     let mut c = identity_change(s);
     c.third.value = loaded.copy();
-    change_of(b, plan, shape(inst), s, &mut c);
+    write_instruction_change(b, plan, shape(inst), s, &mut c);
     state_after_change(s, &c)
 }
 

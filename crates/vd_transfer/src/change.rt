@@ -5,7 +5,7 @@ ghost use Rattle.value_domain.specs.State.{AreValues};
 ghost use Rattle.vd_transfer.specs.Registers.{slot, is_lower_register, write_reg};
 ghost use Rattle.vd_transfer.specs.Changes.{state_after, no_put, put_of_register, identity_change_of};
 
-use crate::registers::slot_of;
+use crate::registers::register_slot;
 use arrayvec::ArrayVec;
 use value_domain::{Bounds, State, Val, copy_locals};
 
@@ -20,21 +20,21 @@ pub enum Base {
     Any,
 }
 
-/// A value for a place of a state. Without a place it changes nothing.
+/// A value to write to a slot of a state. Without a slot nothing changes.
 #[derive(Drop)]
-pub struct Put {
+pub struct RegisterWrite {
     pub at: Option<usize>,
     pub value: Val,
 }
 
-/// A change of a state: the values that it starts from, up to three values that are put one after
-/// another, and the context afterwards.
+/// A change of a state: the values that it starts from, up to three writes one after another, and
+/// the context afterwards.
 #[derive(Drop)]
 pub struct Change {
     pub base: Base,
-    pub first: Put,
-    pub second: Put,
-    pub third: Put,
+    pub first: RegisterWrite,
+    pub second: RegisterWrite,
+    pub third: RegisterWrite,
     pub ie: bool,
     pub ccpn: u8,
     pub lower: bool,
@@ -43,10 +43,10 @@ pub struct Change {
 
 /// Returns a put of a change that changes nothing: a value for no place of a state.
 #[inline(always)]
-pub(crate) fn empty_put() -> Put
+pub(crate) fn no_write() -> RegisterWrite
     ensures { result ≡ no_put }
 {
-    Put {
+    RegisterWrite {
         at: None,
         value: Val::any(),
     }
@@ -55,11 +55,11 @@ pub(crate) fn empty_put() -> Put
 /// Returns the put that a change needs to write a register's abstract value. If a state has no
 /// place for the register, nothing changes.
 #[inline(always)]
-pub fn put_register(r: u8, v: Val) -> Put
+pub fn register_write(r: u8, v: Val) -> RegisterWrite
     ensures { result ≡ put_of_register r v }
 {
-    Put {
-        at: slot_of(r),
+    RegisterWrite {
+        at: register_slot(r),
         value: v,
     }
 }
@@ -72,9 +72,9 @@ pub fn identity_change(s: &State) -> Change
 {
     Change {
         base: Base::Same,
-        first: empty_put(),
-        second: empty_put(),
-        third: empty_put(),
+        first: no_write(),
+        second: no_write(),
+        third: no_write(),
         ie: s.ie,
         ccpn: s.ccpn,
         lower: s.lower,
@@ -87,7 +87,7 @@ impl Change {
     ghost use Rattle.vd_transfer.specs.Changes.{identity_change_over, state_after};
 
     /// Overwrites a change with the identity, which keeps a whole abstract state.
-    pub fn keep(&mut self, s: &State)
+    pub fn set_to_identity(&mut self, s: &State)
         ensures kept { self.new ≡ identity_change_over self.old s.now }
         ensures same { state_after s.now self.new ≡ s.now }
     {
@@ -105,19 +105,19 @@ impl Change {
 /// Sets the destination of a change's put: a register's place in a state. For a lower register,
 /// clears the mark that those are the entry's.
 #[inline(always)]
-pub(crate) fn set_put_destination(put: &mut Put, mark: &mut bool, r: u8)
-    ensures put { put.new ≡ record put.old { at = slot r } }
+pub(crate) fn set_write_slot(write: &mut RegisterWrite, mark: &mut bool, r: u8)
+    ensures slot { write.new ≡ record write.old { at = slot r } }
     ensures mark { mark.new ≡ (mark.old && not (is_lower_register r)) }
 {
     let lower = r < 8 || 18 <= r && r <= 23;
-    put.at = slot_of(r);
+    write.at = register_slot(r);
     *mark = *mark && !lower;
 }
 
 /// Sets the destination of a change's third and last put: a register, whose value the put has
 /// already.
 #[inline(always)]
-pub(crate) fn set_last_put_destination(b: &Bounds, s: &State, c: &mut Change, r: u8)
+pub(crate) fn set_third_write_slot(b: &Bounds, s: &State, c: &mut Change, r: u8)
     requires values { AreValues b.now (state_after s.now c.old).regs }
     requires free { c.old.third.at ≡ None }
     requires value { IsValue b.now c.old.third.value }
@@ -125,5 +125,5 @@ pub(crate) fn set_last_put_destination(b: &Bounds, s: &State, c: &mut Change, r:
         ≡ write_reg (state_after s.now c.old) r c.old.third.value }
     ensures values { AreValues b.now (state_after s.now c.new).regs }
 {
-    set_put_destination(&mut c.third, &mut c.lower, r);
+    set_write_slot(&mut c.third, &mut c.lower, r);
 }

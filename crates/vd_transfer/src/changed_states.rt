@@ -5,8 +5,8 @@ ghost use Rattle.value_domain.specs.State.{AreValues};
 ghost use Rattle.vd_transfer.specs.Registers.{reg_of};
 ghost use Rattle.vd_transfer.specs.Changes.{base_of, state_after};
 
-use crate::change::{Base, Change, Put};
-use crate::registers::{fixed_register_value, is_lower_slot, slot_of};
+use crate::change::{Base, Change, RegisterWrite};
+use crate::registers::{fixed_register_value, is_lower_slot, register_slot};
 use tcd_plan::Plan;
 use value_domain::{Bounds, State, Val};
 
@@ -19,16 +19,16 @@ pub fn changed_value<'a>(s: &'a State, c: &'a Change, any: &'a Val, i: usize) ->
     ensures { result.now ≡ slice_index_or (state_after s.now c.now).regs i any_val }
 {
     let _regs = &s.regs[..];
-    if is_put_at(&c.third, i) {
+    if is_write_to_slot(&c.third, i) {
         return &c.third.value;
     }
-    if is_put_at(&c.second, i) {
+    if is_write_to_slot(&c.second, i) {
         return &c.second.value;
     }
-    if is_put_at(&c.first, i) {
+    if is_write_to_slot(&c.first, i) {
         return &c.first.value;
     }
-    base_value_at(s, c.base, any, i)
+    base_value_in_slot(s, c.base, any, i)
 }
 
 /// Returns the value of a register after a change of a state, which isn't built.
@@ -40,7 +40,7 @@ pub(crate) fn changed_reg(b: &Bounds, plan: &Plan, s: &State, c: &Change, r: u8)
 {
     let _most_words = b.most_words();
     let _globals = &plan.globals;
-    match slot_of(r) {
+    match register_slot(r) {
         Some(i) => changed_value(s, c, &Val::any(), i).copy(),
         None => fixed_register_value(plan, r),
     }
@@ -48,10 +48,10 @@ pub(crate) fn changed_reg(b: &Bounds, plan: &Plan, s: &State, c: &Change, r: u8)
 
 /// Returns true if this put of a change writes the value at this place of a state.
 #[inline(always)]
-fn is_put_at(put: &Put, i: usize) -> bool
-    ensures { IsTrue result ↔ (put.now.at ≡ Some i) }
+fn is_write_to_slot(write: &RegisterWrite, i: usize) -> bool
+    ensures { IsTrue result ↔ (write.now.at ≡ Some i) }
 {
-    match put.at {
+    match write.at {
         Some(at) => at == i,
         None => false,
     }
@@ -60,7 +60,7 @@ fn is_put_at(put: &Put, i: usize) -> bool
 /// Returns the value at a place of a state before the puts of a change: the state's own, or `any`
 /// if forgotten.
 #[inline(always)]
-fn base_value_at<'a>(s: &'a State, base: Base, any: &'a Val, i: usize) -> &'a Val
+fn base_value_in_slot<'a>(s: &'a State, base: Base, any: &'a Val, i: usize) -> &'a Val
     requires place { i < 27 }
     requires any { any.now ≡ any_val }
     ensures { result.now ≡ slice_index_or (base_of base s.now.regs) i any_val }

@@ -10,10 +10,10 @@ ghost use Rattle.vd_transfer.specs.EffectsOnStates.{state_with_increased_base, s
 ghost use Rattle.vd_transfer.specs.Changes.{state_after};
 
 use crate::access::Addressing;
-use crate::change::{Base, Change, set_last_put_destination, set_put_destination};
+use crate::change::{Base, Change, set_third_write_slot, set_write_slot};
 use crate::operands::Operation;
-use crate::operations::{operate, write_operation};
-use crate::registers::reg_value;
+use crate::operations::{evaluate_operation, write_operation_value};
+use crate::registers::reg_in_lattice;
 use tc_isa::{Arg, Op, Shape};
 use tcd_plan::Plan;
 use value_domain::{Bounds, State, write_any};
@@ -30,7 +30,7 @@ pub(crate) struct ScaledAddress {
 
 /// Writes the change of a state by an instruction that computes an operation of two operands into a
 /// register.
-pub(crate) fn effect_of_operation(
+pub(crate) fn write_operation_change(
     b: &Bounds,
     plan: &Plan,
     s: &State,
@@ -46,15 +46,15 @@ pub(crate) fn effect_of_operation(
     ensures values { AreValues b.now (state_after s.now c.new).regs }
     ensures third { c.new.third ≡ record c.old.third { at = None } }
 {
-    c.keep(s);
-    set_put_destination(&mut c.second, &mut c.lower, dst);
-    operate(b, plan, s, of, &mut c.second.value);
+    c.set_to_identity(s);
+    set_write_slot(&mut c.second, &mut c.lower, dst);
+    evaluate_operation(b, plan, s, of, &mut c.second.value);
 }
 
 /// Writes the change of a state by an instruction that computes a scaled address: the base plus a
 /// shifted index goes to a register.
 #[inline(never)]
-pub(crate) fn effect_of_scaled_address(
+pub(crate) fn write_scaled_address_change(
     b: &Bounds,
     plan: &Plan,
     s: &State,
@@ -75,13 +75,13 @@ pub(crate) fn effect_of_scaled_address(
         x: Arg::Reg(at.index),
         y: Arg::Word(u32::from(at.n)),
     };
-    c.keep(s);
-    set_put_destination(&mut c.second, &mut c.lower, dst);
-    operate(b, plan, s, by, &mut c.third.value);
-    write_operation(
+    c.set_to_identity(s);
+    set_write_slot(&mut c.second, &mut c.lower, dst);
+    evaluate_operation(b, plan, s, by, &mut c.third.value);
+    write_operation_value(
         b,
         Op::Add,
-        &reg_value(b, plan, s, at.base),
+        &reg_in_lattice(b, plan, s, at.base),
         &c.third.value,
         &mut c.second.value,
     );
@@ -89,7 +89,7 @@ pub(crate) fn effect_of_scaled_address(
 
 /// Writes the effect of a store, or of a load before its result, on a state: the base register is
 /// increased by the offset, if the access does that.
-pub(crate) fn effect_on_base(b: &Bounds, plan: &Plan, s: &State, at: Addressing, c: &mut Change)
+pub(crate) fn write_base_change(b: &Bounds, plan: &Plan, s: &State, at: Addressing, c: &mut Change)
     requires base { IsArg at.base }
     requires values { AreValues b.now s.now.regs }
     ensures base { state_after s.now c.new
@@ -98,7 +98,7 @@ pub(crate) fn effect_on_base(b: &Bounds, plan: &Plan, s: &State, at: Addressing,
     ensures third { c.new.third ≡ record c.old.third { at = None } }
 {
     if !at.after {
-        c.keep(s);
+        c.set_to_identity(s);
         return;
     }
     let of = Operation {
@@ -107,14 +107,14 @@ pub(crate) fn effect_on_base(b: &Bounds, plan: &Plan, s: &State, at: Addressing,
         y: Arg::Word(at.offset),
     };
     match at.base {
-        Arg::Reg(r) => effect_of_operation(b, plan, s, r, of, c),
-        Arg::Word(_) => c.keep(s),
+        Arg::Reg(r) => write_operation_change(b, plan, s, r, of, c),
+        Arg::Word(_) => c.set_to_identity(s),
     }
 }
 
 /// Writes the change of a state by a load: the loaded value, the third put of `c`, goes to a
 /// register. The base may be increased.
-pub(crate) fn effect_of_load(
+pub(crate) fn write_load_change(
     b: &Bounds,
     plan: &Plan,
     s: &State,
@@ -130,54 +130,54 @@ pub(crate) fn effect_of_load(
         c.old.third.value }
     ensures values { AreValues b.now (state_after s.now c.new).regs }
 {
-    effect_on_base(b, plan, s, at, c);
-    set_last_put_destination(b, s, c, dst);
+    write_base_change(b, plan, s, at, c);
+    set_third_write_slot(b, s, c, dst);
 }
 
 /// Writes the change of a state by an instruction whose result is unknown, as MFCR's: the register
 /// may have any word.
-pub(crate) fn effect_of_any_value(b: &Bounds, s: &State, dst: u8, c: &mut Change)
+pub(crate) fn write_unknown_result_change(b: &Bounds, s: &State, dst: u8, c: &mut Change)
     requires { AreValues b.now s.now.regs }
     ensures write { state_after s.now c.new ≡ write_reg s.now dst any_val }
     ensures values { AreValues b.now (state_after s.now c.new).regs }
 {
     let _most_words = b.most_words();
-    c.keep(s);
-    set_put_destination(&mut c.second, &mut c.lower, dst);
+    c.set_to_identity(s);
+    set_write_slot(&mut c.second, &mut c.lower, dst);
     write_any(&mut c.second.value);
 }
 
 /// Writes the change of a state by saving a lower context (SVLCX): the mark that its registers are
 /// those of the entry becomes a local.
-pub(crate) fn effect_of_lower_save(s: &State, c: &mut Change)
+pub(crate) fn write_lower_save_change(s: &State, c: &mut Change)
     requires { length s.now.locals.items < 8 }
     ensures { state_after s.now c.new ≡ state_after_lower_save s.now }
 {
-    c.keep(s);
+    c.set_to_identity(s);
     c.locals.push(s.lower);
 }
 
 /// Writes the change by BISR: it saves a lower context, enables interrupts and sets CCPN.
-pub(crate) fn effect_of_bisr(s: &State, number: u8, c: &mut Change)
+pub(crate) fn write_bisr_change(s: &State, number: u8, c: &mut Change)
     requires { length s.now.locals.items < 8 }
     ensures { state_after s.now c.new
         ≡ record (state_after_lower_save s.now) { ie = true; ccpn = number } }
 {
-    effect_of_lower_save(s, c);
+    write_lower_save_change(s, c);
     c.ie = true;
     c.ccpn = number;
 }
 
 /// Writes the change of a state by RSLCX, which restores the last saved lower context: the lower
 /// registers become unknown.
-pub(crate) fn effect_of_lower_restore(b: &Bounds, s: &State, c: &mut Change)
+pub(crate) fn write_lower_restore_change(b: &Bounds, s: &State, c: &mut Change)
     requires some { 1 ≤ length s.now.locals.items }
     requires values { AreValues b.now s.now.regs }
     ensures restored { state_after s.now c.new ≡ state_after_lower_restore s.now }
     ensures values { AreValues b.now (state_after s.now c.new).regs }
 {
     let _most_words = b.most_words();
-    c.keep(s);
+    c.set_to_identity(s);
     let last = c.locals.len() - 1;
     c.lower = c.locals.as_slice()[last];
     c.locals.truncate(last);
@@ -185,10 +185,10 @@ pub(crate) fn effect_of_lower_restore(b: &Bounds, s: &State, c: &mut Change)
 }
 
 /// Writes the change of a state by ENABLE or DISABLE: only IE is set.
-pub(crate) fn effect_on_ie(s: &State, ie: bool, c: &mut Change)
+pub(crate) fn write_ie_change(s: &State, ie: bool, c: &mut Change)
     ensures { state_after s.now c.new ≡ record s.now { ie = ie } }
 {
-    c.keep(s);
+    c.set_to_identity(s);
     c.ie = ie;
 }
 
@@ -198,7 +198,7 @@ pub(crate) fn effect_on_ie(s: &State, ie: bool, c: &mut Change)
 /// An instruction that saves a lower context needs room for a local, one that restores one needs a
 /// local.
 #[tactic(auto, unfolding(crate::specs::EffectsOnStates::transfer_of))]
-pub fn change_of(b: &Bounds, plan: &Plan, shape: Shape, s: &State, c: &mut Change)
+pub fn write_instruction_change(b: &Bounds, plan: &Plan, shape: Shape, s: &State, c: &mut Change)
     requires shape { IsShape shape }
     requires values { AreValues b.now s.now.regs }
     requires loaded { EffectLoadsValue b.now shape c.old.third.value }
@@ -209,7 +209,7 @@ pub fn change_of(b: &Bounds, plan: &Plan, shape: Shape, s: &State, c: &mut Chang
 {
     let _most_locals = b.most_locals();
     match shape {
-        Shape::Compute { op, dst, x, y } => effect_of_operation(
+        Shape::Compute { op, dst, x, y } => write_operation_change(
             b,
             plan,
             s,
@@ -222,33 +222,33 @@ pub fn change_of(b: &Bounds, plan: &Plan, shape: Shape, s: &State, c: &mut Chang
             base,
             index,
             n,
-        } => effect_of_scaled_address(b, plan, s, dst, ScaledAddress { base, index, n }, c),
+        } => write_scaled_address_change(b, plan, s, dst, ScaledAddress { base, index, n }, c),
         Shape::Load {
             dst,
             base,
             offset,
             after,
             ..
-        } => effect_of_load(b, plan, s, Addressing::new(base, offset, after), dst, c),
+        } => write_load_change(b, plan, s, Addressing::new(base, offset, after), dst, c),
         Shape::Store {
             base,
             offset,
             after,
             ..
-        } => effect_on_base(b, plan, s, Addressing::new(base, offset, after), c),
-        Shape::Svlcx => effect_of_lower_save(s, c),
-        Shape::Rslcx => effect_of_lower_restore(b, s, c),
-        Shape::Bisr { c: number } => effect_of_bisr(s, number, c),
-        Shape::Enable => effect_on_ie(s, true, c),
-        Shape::Disable => effect_on_ie(s, false, c),
-        Shape::Mfcr { dst, .. } => effect_of_any_value(b, s, dst, c),
-        Shape::Branch { .. } => c.keep(s),
-        Shape::Jump { .. } => c.keep(s),
-        Shape::Call { .. } => c.keep(s),
-        Shape::Ret => c.keep(s),
-        Shape::Rfe => c.keep(s),
-        Shape::Syscall { .. } => c.keep(s),
-        Shape::Mtcr { .. } => c.keep(s),
-        Shape::Nothing => c.keep(s),
+        } => write_base_change(b, plan, s, Addressing::new(base, offset, after), c),
+        Shape::Svlcx => write_lower_save_change(s, c),
+        Shape::Rslcx => write_lower_restore_change(b, s, c),
+        Shape::Bisr { c: number } => write_bisr_change(s, number, c),
+        Shape::Enable => write_ie_change(s, true, c),
+        Shape::Disable => write_ie_change(s, false, c),
+        Shape::Mfcr { dst, .. } => write_unknown_result_change(b, s, dst, c),
+        Shape::Branch { .. } => c.set_to_identity(s),
+        Shape::Jump { .. } => c.set_to_identity(s),
+        Shape::Call { .. } => c.set_to_identity(s),
+        Shape::Ret => c.set_to_identity(s),
+        Shape::Rfe => c.set_to_identity(s),
+        Shape::Syscall { .. } => c.set_to_identity(s),
+        Shape::Mtcr { .. } => c.set_to_identity(s),
+        Shape::Nothing => c.set_to_identity(s),
     }
 }

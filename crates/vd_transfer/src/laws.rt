@@ -18,7 +18,7 @@ pub fn refinement_laws()
 
 /// The laws of effects: they are sound. If a state holds the machine's registers, the changed state
 /// holds them after the instruction; a side that a branch takes is possible.
-pub fn effect_laws()
+pub fn soundness_laws()
     ensures transfer { TransferIsSound }
     ensures restore { RestoreIsSound }
     ensures branch { BranchIsSound }

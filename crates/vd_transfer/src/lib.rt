@@ -15,12 +15,12 @@ mod registers;
 mod signed_refinement;
 mod strided_interval;
 
-pub use access::{address_by_shape, write_address};
-pub use branch_sides::change_on;
+pub use access::{address_by_shape, write_address_by_shape};
+pub use branch_sides::write_branch_change;
 pub use built_states::{address, refine, state_after_change, transfer};
-pub use change::{Base, Change, Put, identity_change, put_register};
+pub use change::{Base, Change, RegisterWrite, identity_change, register_write};
 pub use changed_states::changed_value;
-pub use effect::change_of;
-pub use laws::{effect_laws, operation_laws, refinement_laws};
+pub use effect::write_instruction_change;
+pub use laws::{soundness_laws, operation_laws, refinement_laws};
 pub use operands::arg_word;
 pub use registers::{A10, is_lower_slot, reg, singleton_word};

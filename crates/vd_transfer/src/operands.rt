@@ -6,8 +6,8 @@ ghost use Rattle.tc_isa.specs.InBounds.{IsArg};
 ghost use Rattle.vd_transfer.specs.Registers.{arg_of, arg_slot, is_operand_register};
 ghost use Rattle.tc_isa.specs.declared.shapes.Arg.TheVariants.{Word};
 
-use crate::operations::write_operation;
-use crate::registers::{reg_in_state, reg_value, singleton_word, slot_of};
+use crate::operations::write_operation_value;
+use crate::registers::{reg_in_state, reg_in_lattice, singleton_word, register_slot};
 use tc_isa::{Arg, Op};
 use tcd_plan::Plan;
 use value_domain::{Bounds, State, Val, copy_to, set_word};
@@ -26,7 +26,7 @@ pub(crate) fn operand_slot(a: Arg) -> Option<usize>
     ensures { result ≡ arg_slot a }
 {
     match a {
-        Arg::Reg(r) => slot_of(r),
+        Arg::Reg(r) => register_slot(r),
         Arg::Word(_) => None,
     }
 }
@@ -67,7 +67,7 @@ pub fn arg_word(b: &Bounds, plan: &Plan, s: &State, a: Arg) -> Option<u32>
 
 /// Returns the abstract value of an operand that is a constant: the Set of one word.
 #[inline(always)]
-pub(crate) fn constant_operand(b: &Bounds, w: u32) -> Val
+pub(crate) fn constant_value(b: &Bounds, w: u32) -> Val
     ensures word { result ≡ word_val w }
     ensures value { IsValue b.now result }
 {
@@ -85,8 +85,8 @@ pub(crate) fn build_arg(b: &Bounds, plan: &Plan, s: &State, a: Arg) -> Val
     ensures value { IsValue b.now result }
 {
     match a {
-        Arg::Reg(r) => reg_value(b, plan, s, r),
-        Arg::Word(w) => constant_operand(b, w),
+        Arg::Reg(r) => reg_in_lattice(b, plan, s, r),
+        Arg::Word(w) => constant_value(b, w),
     }
 }
 
@@ -104,7 +104,7 @@ pub(crate) fn write_arg(b: &Bounds, plan: &Plan, s: &State, a: Arg, out: &mut Va
 }
 
 /// Returns true if the right operand of a comparison is the left register itself.
-pub(crate) fn is_register_operand(x: u8, y: Arg) -> bool
+pub(crate) fn is_same_register(x: u8, y: Arg) -> bool
     ensures { result ≡ is_operand_register x y }
 {
     match y {

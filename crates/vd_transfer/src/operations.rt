@@ -18,7 +18,7 @@ use value_domain::{
 
 /// Overwrites `out` with the abstract value of an operation: the least one that holds the results
 /// on the members of `v` and `w`.
-pub fn write_operation(b: &Bounds, op: Op, v: &Val, w: &Val, out: &mut Val)
+pub fn write_operation_value(b: &Bounds, op: Op, v: &Val, w: &Val, out: &mut Val)
     requires left { IsValue b.now v.now }
     requires right { IsValue b.now w.now }
     ensures cover { out.new ≡ cover b.now (results op v.now w.now) }
@@ -35,7 +35,7 @@ pub fn write_operation(b: &Bounds, op: Op, v: &Val, w: &Val, out: &mut Val)
 
 /// Overwrites `out` with the abstract value of an operation on an instruction's operands. Single
 /// words are computed directly; a value that the state has isn't copied.
-pub(crate) fn operate(b: &Bounds, plan: &Plan, s: &State, of: Operation, out: &mut Val)
+pub(crate) fn evaluate_operation(b: &Bounds, plan: &Plan, s: &State, of: Operation, out: &mut Val)
     requires operands { IsArg of.x × IsArg of.y }
     requires values { AreValues b.now s.now.regs }
     ensures of { out.new
@@ -46,9 +46,9 @@ pub(crate) fn operate(b: &Bounds, plan: &Plan, s: &State, of: Operation, out: &m
     match arg_word(b, plan, s, of.x) {
         Some(x) => match arg_word(b, plan, s, of.y) {
             Some(y) => write_constant(b, alu(of.op, x, y), out),
-            None => operate_on_own_values(b, plan, s, of, out),
+            None => evaluate_on_state_values(b, plan, s, of, out),
         },
-        None => operate_on_own_values(b, plan, s, of, out),
+        None => evaluate_on_state_values(b, plan, s, of, out),
     }
 }
 
@@ -167,25 +167,25 @@ fn fill_result_row(op: Op, x: u32, ys: &[u32], row: &mut [u32])
     ensures { row.new ≡ map (alu_of op x) ys.now }
 {
     match op {
-        Op::Second => fill_result_row_by(Op::Second, x, ys, row),
-        Op::Add => fill_result_row_by(Op::Add, x, ys, row),
-        Op::Sub => fill_result_row_by(Op::Sub, x, ys, row),
-        Op::And => fill_result_row_by(Op::And, x, ys, row),
-        Op::Nand => fill_result_row_by(Op::Nand, x, ys, row),
-        Op::Or => fill_result_row_by(Op::Or, x, ys, row),
-        Op::Nor => fill_result_row_by(Op::Nor, x, ys, row),
-        Op::Xor => fill_result_row_by(Op::Xor, x, ys, row),
-        Op::Xnor => fill_result_row_by(Op::Xnor, x, ys, row),
-        Op::Andn => fill_result_row_by(Op::Andn, x, ys, row),
-        Op::Orn => fill_result_row_by(Op::Orn, x, ys, row),
-        Op::Eq => fill_result_row_by(Op::Eq, x, ys, row),
-        Op::Ne => fill_result_row_by(Op::Ne, x, ys, row),
-        Op::Lt => fill_result_row_by(Op::Lt, x, ys, row),
-        Op::LtU => fill_result_row_by(Op::LtU, x, ys, row),
-        Op::Ge => fill_result_row_by(Op::Ge, x, ys, row),
-        Op::GeU => fill_result_row_by(Op::GeU, x, ys, row),
-        Op::Sh => fill_result_row_by(Op::Sh, x, ys, row),
-        Op::Sha => fill_result_row_by(Op::Sha, x, ys, row),
+        Op::Second => fill_result_row_inlined(Op::Second, x, ys, row),
+        Op::Add => fill_result_row_inlined(Op::Add, x, ys, row),
+        Op::Sub => fill_result_row_inlined(Op::Sub, x, ys, row),
+        Op::And => fill_result_row_inlined(Op::And, x, ys, row),
+        Op::Nand => fill_result_row_inlined(Op::Nand, x, ys, row),
+        Op::Or => fill_result_row_inlined(Op::Or, x, ys, row),
+        Op::Nor => fill_result_row_inlined(Op::Nor, x, ys, row),
+        Op::Xor => fill_result_row_inlined(Op::Xor, x, ys, row),
+        Op::Xnor => fill_result_row_inlined(Op::Xnor, x, ys, row),
+        Op::Andn => fill_result_row_inlined(Op::Andn, x, ys, row),
+        Op::Orn => fill_result_row_inlined(Op::Orn, x, ys, row),
+        Op::Eq => fill_result_row_inlined(Op::Eq, x, ys, row),
+        Op::Ne => fill_result_row_inlined(Op::Ne, x, ys, row),
+        Op::Lt => fill_result_row_inlined(Op::Lt, x, ys, row),
+        Op::LtU => fill_result_row_inlined(Op::LtU, x, ys, row),
+        Op::Ge => fill_result_row_inlined(Op::Ge, x, ys, row),
+        Op::GeU => fill_result_row_inlined(Op::GeU, x, ys, row),
+        Op::Sh => fill_result_row_inlined(Op::Sh, x, ys, row),
+        Op::Sha => fill_result_row_inlined(Op::Sha, x, ys, row),
     }
 }
 
@@ -244,7 +244,7 @@ fn widen_by_results(b: &Bounds, v: &mut Val, op: Op, xs: &[u32], ys: &[u32], row
 
 /// Fills the row with the results of this operation on a word and each of the others.
 #[inline(always)]
-fn fill_result_row_by(op: Op, x: u32, ys: &[u32], row: &mut [u32])
+fn fill_result_row_inlined(op: Op, x: u32, ys: &[u32], row: &mut [u32])
     requires { length row.old ≡ length ys.now }
     ensures { row.new ≡ map (alu_of op x) ys.now }
 {
@@ -307,7 +307,7 @@ fn join_result(b: &Bounds, v: &mut Val, met: &mut [u32; 512], z: u32)
 
 /// Writes the abstract value of an operation on an instruction's operands. A value that the state
 /// has isn't copied; any other is built first.
-fn operate_on_own_values(b: &Bounds, plan: &Plan, s: &State, of: Operation, out: &mut Val)
+fn evaluate_on_state_values(b: &Bounds, plan: &Plan, s: &State, of: Operation, out: &mut Val)
     requires operands { IsArg of.x × IsArg of.y }
     requires values { AreValues b.now s.now.regs }
     ensures of { out.new
@@ -316,30 +316,30 @@ fn operate_on_own_values(b: &Bounds, plan: &Plan, s: &State, of: Operation, out:
 {
     match arg_in_state(b, plan, s, of.x) {
         Some(v) => match arg_in_state(b, plan, s, of.y) {
-            Some(w) => write_operation(b, of.op, v, w, out),
-            None => operate_on_built_right(b, plan, s, of, v, out),
+            Some(w) => write_operation_value(b, of.op, v, w, out),
+            None => evaluate_built_right(b, plan, s, of, v, out),
         },
-        None => operate_on_built_left(b, plan, s, of, out),
+        None => evaluate_built_left(b, plan, s, of, out),
     }
 }
 
 /// Writes the abstract value of an operation, as `operate` does, if the right operand has to be
 /// built. `v` is the left one.
 #[inline(never)]
-fn operate_on_built_right(b: &Bounds, plan: &Plan, s: &State, of: Operation, v: &Val, out: &mut Val)
+fn evaluate_built_right(b: &Bounds, plan: &Plan, s: &State, of: Operation, v: &Val, out: &mut Val)
     requires operand { IsArg of.y }
     requires values { AreValues b.now s.now.regs }
     requires left { IsValue b.now v.now }
     ensures of { out.new ≡ value_of b.now of.op v.now (arg_of plan.now s.now of.y) }
     ensures value { IsValue b.now out.new }
 {
-    write_operation(b, of.op, v, &build_arg(b, plan, s, of.y), out);
+    write_operation_value(b, of.op, v, &build_arg(b, plan, s, of.y), out);
 }
 
 /// Writes the abstract value of an operation, as `operate` does, if the left operand has to be
 /// built.
 #[inline(never)]
-fn operate_on_built_left(b: &Bounds, plan: &Plan, s: &State, of: Operation, out: &mut Val)
+fn evaluate_built_left(b: &Bounds, plan: &Plan, s: &State, of: Operation, out: &mut Val)
     requires operands { IsArg of.x × IsArg of.y }
     requires values { AreValues b.now s.now.regs }
     ensures of { out.new
@@ -347,5 +347,5 @@ fn operate_on_built_left(b: &Bounds, plan: &Plan, s: &State, of: Operation, out:
     ensures value { IsValue b.now out.new }
 {
     let v = build_arg(b, plan, s, of.x);
-    operate_on_built_right(b, plan, s, of, &v, out);
+    evaluate_built_right(b, plan, s, of, &v, out);
 }

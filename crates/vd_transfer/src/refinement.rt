@@ -12,11 +12,11 @@ ghost use Rattle.vd_transfer.specs.Signs.{is_signed_condition};
 ghost use Rattle.vd_transfer.specs.Branches.{state_if_possible, side_with_operands};
 ghost use Rattle.vd_transfer.specs.Changes.{state_after};
 
-use crate::branch_sides::{Comparison, narrow_side_register, relation_on_side};
+use crate::branch_sides::{Comparison, narrow_left_register, relation_on_side};
 use crate::change::Change;
 use crate::operands::operand_slot;
 use crate::signed_refinement::{is_signed_condition, refine_by_signed_relation};
-use value_domain::{Bounds, State, Val, extent_of, join_into, write_meet, write_meet_with_words};
+use value_domain::{Bounds, State, Val, extent_of, join_into, write_span_meet, write_meet_with_set};
 
 /// A relation between two words.
 #[derive(Clone, Copy, PartialEq, Eq)]
@@ -49,8 +49,8 @@ pub(crate) fn related_intervals(rel: Relation, low: u32, high: u32) -> (Interval
         Relation::Less => (words_below(high), NONE),
         Relation::AtMost => (Interval { lo: 0, last: high }, NONE),
         Relation::AtLeast => (words_from(low), NONE),
-        Relation::More => (words_past(low), NONE),
-        Relation::Other => (words_below(high), words_past(low)),
+        Relation::More => (words_above(low), NONE),
+        Relation::Other => (words_below(high), words_above(low)),
         Relation::Same => (words_from(low), NONE),
     }
 }
@@ -65,7 +65,7 @@ pub fn refine_by_relation(b: &Bounds, rel: Relation, v: &Val, w: &Val, out: &mut
     ensures value { IfSome (value_if_found result out.new) (IsValue b.now) }
 {
     match rel {
-        Relation::Same => refine_to_common(b, v, w, out),
+        Relation::Same => refine_to_common_members(b, v, w, out),
         _ => refine_by_intervals(b, rel, v, w, out),
     }
 }
@@ -90,10 +90,10 @@ pub(crate) fn join_members_in_interval(
         return found;
     }
     if found {
-        join_refined_members(b, v, i, out);
+        join_meet_with_interval(b, v, i, out);
         true
     } else {
-        write_meet(b, v, i.lo, i.last, 0, out)
+        write_span_meet(b, v, i.lo, i.last, 0, out)
     }
 }
 
@@ -140,7 +140,7 @@ pub(crate) fn refine_both_operands(
     ensures values { AreValues b.now (state_after s.now c.new).regs }
     ensures free { c.new.third.at ≡ None }
 {
-    if !narrow_side_register(b, test, s, v, w, c) {
+    if !narrow_left_register(b, test, s, v, w, c) {
         return false;
     }
     if !refine_right_operand(b, test, v, w, &mut c.second.value) {
@@ -175,7 +175,7 @@ fn words_from(low: u32) -> Interval
 }
 
 /// Returns the interval of the words above `low`, those in the relation More to `low`.
-fn words_past(low: u32) -> Interval
+fn words_above(low: u32) -> Interval
     ensures { (x : ℕ) → x < 2 ^ 32 → IsInInterval result x ↔ (low < x) }
 {
     if low == u32::MAX {
@@ -190,7 +190,7 @@ fn words_past(low: u32) -> Interval
 
 /// Refines by equality: overwrites `out` with the cover of the members of both values. Returns
 /// false if there are none.
-fn refine_to_common(b: &Bounds, v: &Val, w: &Val, out: &mut Val) -> bool
+fn refine_to_common_members(b: &Bounds, v: &Val, w: &Val, out: &mut Val) -> bool
     requires left { IsValue b.now v.now }
     requires right { IsValue b.now w.now }
     ensures kept { value_if_found result out.new
@@ -198,8 +198,8 @@ fn refine_to_common(b: &Bounds, v: &Val, w: &Val, out: &mut Val) -> bool
     ensures value { IfSome (value_if_found result out.new) (IsValue b.now) }
 {
     match w {
-        Val::Set(words) => write_meet_with_words(b, words.as_slice(), v, out),
-        Val::Span { lo, last, step } => write_meet(b, v, *lo, *last, *step, out),
+        Val::Set(words) => write_meet_with_set(b, words.as_slice(), v, out),
+        Val::Span { lo, last, step } => write_span_meet(b, v, *lo, *last, *step, out),
     }
 }
 
@@ -215,14 +215,14 @@ fn refine_by_intervals(b: &Bounds, rel: Relation, v: &Val, w: &Val, out: &mut Va
 {
     let e = extent_of(w);
     let (first, second) = related_intervals(rel, e.least, e.greatest);
-    let found = write_meet(b, v, first.lo, first.last, 0, out);
+    let found = write_span_meet(b, v, first.lo, first.last, 0, out);
     join_members_in_interval(b, v, second, found, out)
 }
 
 /// Joins the members of `v` in an interval into a refined value. This is a function of its own, so
 /// that its callers need no stack for a value.
 #[inline(never)]
-fn join_refined_members(b: &Bounds, v: &Val, i: Interval, out: &mut Val)
+fn join_meet_with_interval(b: &Bounds, v: &Val, i: Interval, out: &mut Val)
     requires value { IsValue b.now v.now }
     requires before { IsValue b.now out.old }
     ensures more { (xs : List ℕ) → Some out.old ≡ cover_if_any b.now xs
@@ -231,7 +231,7 @@ fn join_refined_members(b: &Bounds, v: &Val, i: Interval, out: &mut Val)
     ensures value { IsValue b.now out.new }
 {
     let mut others = Val::any();
-    if !write_meet(b, v, i.lo, i.last, 0, &mut others) {
+    if !write_span_meet(b, v, i.lo, i.last, 0, &mut others) {
         return;
     }
     join_into(b, out, &others);

@@ -14,7 +14,7 @@ pub const A10: u8 = 26;
 /// A11.
 #[tactic(auto, unfolding(crate::specs::Registers::slot))]
 #[inline(always)]
-pub(crate) fn slot_of(r: u8) -> Option<usize>
+pub(crate) fn register_slot(r: u8) -> Option<usize>
     ensures slot { result ≡ slot r }
     ensures within { IfSome result (λ i. i < 27) }
 {
@@ -56,7 +56,7 @@ pub fn reg(plan: &Plan, s: &State, r: u8) -> Val
     requires { r < 32 }
     ensures { result ≡ reg_of plan.now s.now r }
 {
-    match slot_of(r) {
+    match register_slot(r) {
         Some(i) => s.regs[i].copy(),
         None => fixed_register_value(plan, r),
     }
@@ -86,7 +86,7 @@ pub(crate) fn fixed_register_value(plan: &Plan, r: u8) -> Val
 /// Returns a register's abstract value, as `reg` does; the value is in the lattice if all values of
 /// the state are.
 #[inline(always)]
-pub(crate) fn reg_value(b: &Bounds, plan: &Plan, s: &State, r: u8) -> Val
+pub(crate) fn reg_in_lattice(b: &Bounds, plan: &Plan, s: &State, r: u8) -> Val
     requires register { r < 32 }
     requires values { AreValues b.now s.now.regs }
     ensures reg { result ≡ reg_of plan.now s.now r }
@@ -108,7 +108,7 @@ pub(crate) fn reg_in_state<'a>(b: &Bounds, plan: &Plan, s: &'a State, r: u8) -> 
 {
     let _most_words = b.most_words();
     let _regs = &s.regs[..];
-    match slot_of(r) {
+    match register_slot(r) {
         Some(i) => Some(&s.regs[i]),
         None => None,
     }

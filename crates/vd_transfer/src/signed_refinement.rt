@@ -10,7 +10,7 @@ ghost use Rattle.vd_transfer.specs.declared.refinement.Relation.TheVariants.{Sam
 
 use crate::refinement::{Interval, NONE, Relation, join_members_in_interval, related_intervals};
 use tc_isa::Cond;
-use value_domain::{Bounds, Val, extent_of, write_meet};
+use value_domain::{Bounds, Val, extent_of, write_span_meet};
 
 const HALF: u32 = 1 << 31;
 
@@ -25,17 +25,17 @@ pub fn refine_by_signed_relation(b: &Bounds, rel: Relation, v: &Val, w: &Val, ou
     ensures value { IfSome (value_if_found result out.new) (IsValue b.now) }
 {
     let (low, high) = signed_range(w);
-    let (i, j) = related_intervals(rel, place_in_signed_order(low), place_in_signed_order(high));
-    let (first, second) = signed_interval_parts(i);
-    let (third, fourth) = signed_interval_parts(j);
-    let one = write_meet(b, v, first.lo, first.last, 0, out);
+    let (i, j) = related_intervals(rel, signed_rank(low), signed_rank(high));
+    let (first, second) = words_in_signed_interval(i);
+    let (third, fourth) = words_in_signed_interval(j);
+    let one = write_span_meet(b, v, first.lo, first.last, 0, out);
     let two = join_members_in_interval(b, v, second, one, out);
     let three = join_members_in_interval(b, v, third, two, out);
     join_members_in_interval(b, v, fourth, three, out)
 }
 
 /// Returns a word's place in the signed order of all words: 80000000 is at 0, 0 is at 2^31.
-pub(crate) fn place_in_signed_order(x: u32) -> u32
+pub(crate) fn signed_rank(x: u32) -> u32
     ensures { result ≡ signed_order_place x }
 {
     x.wrapping_add(1 << 31)
@@ -64,7 +64,7 @@ fn signed_range(v: &Val) -> (u32, u32)
 }
 
 /// Returns the words whose positions in the signed order are in an interval, as two intervals.
-fn signed_interval_parts(i: Interval) -> (Interval, Interval)
+fn words_in_signed_interval(i: Interval) -> (Interval, Interval)
     ensures { (x : ℕ) → x < 2 ^ 32 → (IsInInterval result.0 x ⊎ IsInInterval result.1 x)
         ↔ IsInInterval i (signed_order_place x) }
 {
@@ -121,7 +121,7 @@ fn signed_min(x: u32, low: u32) -> u32
     ensures below_x { signed_order_place result ≤ signed_order_place x }
     ensures below_low { signed_order_place result ≤ signed_order_place low }
 {
-    if place_in_signed_order(x) < place_in_signed_order(low) {
+    if signed_rank(x) < signed_rank(low) {
         x
     } else {
         low
@@ -134,7 +134,7 @@ fn signed_max(x: u32, high: u32) -> u32
     ensures above_x { signed_order_place x ≤ signed_order_place result }
     ensures above_high { signed_order_place high ≤ signed_order_place result }
 {
-    if place_in_signed_order(high) < place_in_signed_order(x) {
+    if signed_rank(high) < signed_rank(x) {
         x
     } else {
         high

@@ -39,11 +39,11 @@ pub(crate) fn result_interval(op: Op, e: &Extent, f: &Extent, w: &Val) -> Stride
             step: e.step.max(f.step),
         },
         Op::Sh => match w.words() {
-            Some([count]) => shift_interval(e, (*count % 64) as u8),
+            Some([count]) => logical_shift_interval(e, (*count % 64) as u8),
             _ => ANY,
         },
         Op::Sha => match w.words() {
-            Some([count]) => signed_shift_interval(e, (*count % 64) as u8),
+            Some([count]) => arithmetic_shift_interval(e, (*count % 64) as u8),
             _ => ANY,
         },
         _ => ANY,
@@ -118,7 +118,7 @@ fn difference_interval(e: &Extent, f: &Extent) -> StridedInterval
 /// Returns the strided interval of an extent shifted by the six bits `n`, filled with zeros, as SH
 /// does.
 #[tactic(auto, unfolding(crate::specs::Intervals::shifts))]
-fn shift_interval(e: &Extent, n: u8) -> StridedInterval
+fn logical_shift_interval(e: &Extent, n: u8) -> StridedInterval
     requires count { n < 64 }
     requires order { e.now.least ≤ e.now.greatest }
     ensures { result ≡ shifts e.now.least e.now.greatest e.now.step n }
@@ -153,13 +153,13 @@ fn shift_interval(e: &Extent, n: u8) -> StridedInterval
 /// Returns the strided interval of an extent shifted by the six bits `n`, filled with the sign bit,
 /// as SHA does.
 #[tactic(auto, unfolding(crate::specs::Intervals::signed_shifts))]
-fn signed_shift_interval(e: &Extent, n: u8) -> StridedInterval
+fn arithmetic_shift_interval(e: &Extent, n: u8) -> StridedInterval
     requires count { n < 64 }
     requires order { e.now.least ≤ e.now.greatest }
     ensures { result ≡ signed_shifts e.now.least e.now.greatest e.now.step n }
 {
     if n < 32 || e.greatest < 0x8000_0000 {
-        shift_interval(e, n)
+        logical_shift_interval(e, n)
     } else {
         ANY
     }

@@ -8,7 +8,7 @@ use std::alloc::{AllocError, Global};
 
 /// Makes one pass over the rows, the last one first: raises the needs of frames that are too low.
 /// Returns whether any need changed.
-fn raise_low_needs(needs: &mut [u32], rows: &[NeedRow], cap: u32) -> bool
+fn raise_needs_by_rows(needs: &mut [u32], rows: &[NeedRow], cap: u32) -> bool
     requires cap { cap < 2 ^ 16 }
     requires nodes { length needs.old < 2 ^ 16 }
     requires within { AreRowsWithin rows.now (length needs.old) }
@@ -34,7 +34,7 @@ fn raise_needs_until_met(needs: &mut [u32], rows: &[NeedRow], cap: u32)
     ensures low { AreLowerBounds needs.new rows.now }
     ensures met { (row : NeedRow) → Contains rows.now row → MeetsRowUpToCap cap needs.new row }
 {
-    while raise_low_needs(needs, rows, cap) {}
+    while raise_needs_by_rows(needs, rows, cap) {}
 }
 
 /// Raises the need of a row's frame to what the row asks for, if lower, and returns whether the
@@ -75,7 +75,7 @@ pub fn least_needs(
 {
     let mut needs = vec![in alloc; 0u32; nodes]?;
     raise_needs_until_met(&mut needs, rows, cap);
-    match first_need_above(&needs, cap) {
+    match first_frame_above_cap(&needs, cap) {
         None => Ok(Some(needs)),
         Some(_) => Ok(None),
     }
@@ -83,7 +83,7 @@ pub fn least_needs(
 
 /// Returns the least needs if four passes over the rows find them within the cap, else `None`, as
 /// mostly with a recursive frame.
-pub fn needs_by_few_passes(
+pub fn needs_in_few_passes(
     alloc: Global,
     nodes: usize,
     rows: &[NeedRow],
@@ -99,7 +99,7 @@ pub fn needs_by_few_passes(
     if !raise_needs_in_few_passes(&mut needs, rows, cap) {
         return Ok(None);
     }
-    match first_need_above(&needs, cap) {
+    match first_frame_above_cap(&needs, cap) {
         None => Ok(Some(needs)),
         Some(_) => Ok(None),
     }
@@ -107,7 +107,7 @@ pub fn needs_by_few_passes(
 
 /// Returns the number of the first frame whose need is above the cap, or `None` if all needs are
 /// within the cap.
-fn first_need_above(needs: &[u32], cap: u32) -> Option<usize>
+fn first_frame_above_cap(needs: &[u32], cap: u32) -> Option<usize>
     ensures { MatchOption result
         (EachIndex needs.now (λ k. slice_index needs.now k ≤ cap))
         (λ k. (k < length needs.now) × (cap < slice_index needs.now k)) }
@@ -128,7 +128,7 @@ fn raise_needs_in_few_passes(needs: &mut [u32], rows: &[NeedRow], cap: u32) -> b
         → MeetsRowUpToCap cap needs.new row }
 {
     for _done in 0..FEW {
-        if !raise_low_needs(needs, rows, cap) {
+        if !raise_needs_by_rows(needs, rows, cap) {
             return true;
         }
     }

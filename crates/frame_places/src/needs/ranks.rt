@@ -22,7 +22,7 @@ pub fn node_ranks(
     }
     let mut work = Vec::new(alloc);
     for node in 0..nodes {
-        if number_or_zero(left.as_slice(), node) == 0 {
+        if get_or_zero(left.as_slice(), node) == 0 {
             work.push(node)?;
         }
     }
@@ -34,13 +34,13 @@ pub fn node_ranks(
         if let Some(place) = ranks.get_mut(node) {
             *place = rank;
         }
-        queue_predecessors(&sources, node, &mut left, &mut work)?;
+        queue_freed_predecessors(&sources, node, &mut left, &mut work)?;
     }
     Ok(ranks)
 }
 
 /// Returns the number that a list has at a node's index, or 0 past the end.
-pub fn number_or_zero(numbers: &[usize], node: usize) -> usize
+pub fn get_or_zero(numbers: &[usize], node: usize) -> usize
     ensures { result ≡ slice_index numbers.now node }
 {
     match numbers.get(node) {
@@ -55,7 +55,7 @@ pub(crate) fn are_ranks_rising(ranks: &[usize], edges: &[FrameEdge]) -> bool
     ensures { IsTrue result → (k : ℕ) → IsRecursiveNode edges.now k → ⊥ }
 {
     for edge in edges {
-        if number_or_zero(ranks, edge.node) >= number_or_zero(ranks, edge.into) {
+        if get_or_zero(ranks, edge.node) >= get_or_zero(ranks, edge.into) {
             return false;
         }
     }
@@ -64,7 +64,7 @@ pub(crate) fn are_ranks_rising(ranks: &[usize], edges: &[FrameEdge]) -> bool
 
 /// Counts a ranked node off the nodes that its predecessors enter, and queues each predecessor with
 /// none left: a step of a topological sort.
-fn queue_predecessors(
+fn queue_freed_predecessors(
     sources: &IndexMap<usize, Vec<usize>>,
     node: usize,
     left: &mut [usize],

@@ -31,7 +31,7 @@ pub fn frame_edges(
 
 /// Returns a mark for each node of the graph of entries: true for the nodes from which `node` is
 /// reached.
-pub fn nodes_reaching(
+pub fn reaching_marks(
     alloc: Global,
     nodes: usize,
     edges: &[FrameEdge],
@@ -42,7 +42,7 @@ pub fn nodes_reaching(
     ensures { IfOk result (λ marks. AreReachingMarks edges.now nodes node marks.items) }
 {
     let sources = predecessors(alloc, edges)?;
-    nodes_reaching_by_predecessors(alloc, nodes, &sources, node)
+    reaching_marks_by_predecessors(alloc, nodes, &sources, node)
 }
 
 /// Returns whether one of these nodes of the graph of entries is marked.
@@ -109,7 +109,7 @@ pub(crate) fn predecessors(
 
 /// Returns true marks for the nodes from which `node` is reached, found backwards by the
 /// predecessors of each node.
-fn nodes_reaching_by_predecessors(
+fn reaching_marks_by_predecessors(
     alloc: Global,
     nodes: usize,
     sources: &IndexMap<usize, Vec<usize>>,
@@ -123,7 +123,7 @@ fn nodes_reaching_by_predecessors(
     marks[node] = true;
     let mut work = Vec::new(alloc);
     work.push(node)?;
-    mark_all_reaching_nodes(&mut marks, &mut work, sources)?;
+    finish_marking(&mut marks, &mut work, sources)?;
     Ok(marks)
 }
 
@@ -147,7 +147,7 @@ fn add_predecessor(
 
 /// Marks all nodes of the graph of entries from which a queued node is reached, and empties the
 /// queue.
-fn mark_all_reaching_nodes(
+fn finish_marking(
     marks: &mut [bool],
     work: &mut Vec<usize>,
     sources: &IndexMap<usize, Vec<usize>>,
@@ -157,14 +157,14 @@ fn mark_all_reaching_nodes(
 {
     while let Some(node) = work.pop() {
         if let Some(list) = sources.get(&node) {
-            mark_reaching_nodes(marks, work, list.as_slice())?;
+            mark_and_queue_nodes(marks, work, list.as_slice())?;
         }
     }
     Ok(())
 }
 
 /// Marks these nodes of the graph of entries, and queues those that weren't marked.
-fn mark_reaching_nodes(
+fn mark_and_queue_nodes(
     marks: &mut [bool],
     work: &mut Vec<usize>,
     nodes: &[usize],
@@ -173,13 +173,13 @@ fn mark_reaching_nodes(
     ensures { OnOk result (MarksNodes nodes.now marks.old marks.new work.old.items work.new.items) }
 {
     for node in nodes {
-        mark_reaching_node(marks, work, *node)?;
+        mark_and_queue_node(marks, work, *node)?;
     }
     Ok(())
 }
 
 /// Marks a node of the graph of entries, and queues the node if there was no mark.
-fn mark_reaching_node(
+fn mark_and_queue_node(
     marks: &mut [bool],
     work: &mut Vec<usize>,
     node: usize,
@@ -246,7 +246,7 @@ fn is_recursive_node(
     requires sources { ArePredecessors edges.now sources.now }
     ensures { IfOk result (λ recurs. IsTrue recurs ↔ IsRecursiveNode edges.now node) }
 {
-    let marks = nodes_reaching_by_predecessors(alloc, nodes, sources, node)?;
+    let marks = reaching_marks_by_predecessors(alloc, nodes, sources, node)?;
     Ok(has_marked_successor(marks.as_slice(), edges, node))
 }
 

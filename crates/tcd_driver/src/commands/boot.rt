@@ -9,7 +9,7 @@ use packed_cert::Cert;
 use std::alloc::Global;
 use tc_boot::boot_ok;
 use tcd_base::Files;
-use tcd_forms::{CertFile, ElfFile, PlanFile, boots_line, refused_line};
+use tcd_forms::{CertFile, ElfFile, PlanFile, boot_line, refused_line};
 use tcd_plan::Plan;
 use tcd_reading::{Outcome, Report, Status, read_input};
 
@@ -43,7 +43,7 @@ fn boot_verdict(alloc: Global, image: &Image, plan: &Plan, cert: &Cert, at: u32)
     match check(image, plan, cert) {
         Verdict::Yes(need) => match boot_ok(image, plan, at) {
             Ok(events) => {
-                let line = boots_line(alloc, events, need, plan.areas - plan.reserve)?;
+                let line = boot_line(alloc, events, need, plan.areas - plan.reserve)?;
                 Ok(Report::of(alloc, Status::Done, line))
             }
             Err(e) => Ok(Report::of(alloc, Status::Refused, refused_boot_line(alloc, e)?)),

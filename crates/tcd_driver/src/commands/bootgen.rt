@@ -6,7 +6,7 @@ ghost use Rattle.tcd_reading.specs.Outcomes.{IsCommandOutcome, IsReportOutcome};
 use std::alloc::Global;
 use tc_boot::boot_source;
 use tcd_base::Files;
-use tcd_forms::{PlanFile, copy_printed_line, generated_boot_line};
+use tcd_forms::{PlanFile, copy_printed_line, bootgen_line};
 use tcd_plan::Plan;
 use tcd_reading::{Outcome, read_input, report_with_file};
 
@@ -42,6 +42,6 @@ fn bootgen_report(alloc: Global, plan: &Plan, entry: u32, at: u32, source: &str)
     ensures { IsReportOutcome (WritesBootSource entry at source.now plan.now) ⊥ result }
 {
     let text = boot_source(alloc, plan, entry, at)?;
-    let line = copy_printed_line(alloc, generated_boot_line())?;
+    let line = copy_printed_line(alloc, bootgen_line())?;
     Ok(report_with_file(alloc, source, text.into_bytes(), line)?)
 }

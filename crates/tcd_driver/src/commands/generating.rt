@@ -9,7 +9,7 @@ ghost use Rattle.tcd_reading.specs.Outcomes.{IsReportOutcome};
 use crate::cert_making::{make_least_cert, report_no_cert};
 use elf_image::Image;
 use std::alloc::Global;
-use tcd_forms::generated_line;
+use tcd_forms::gen_line;
 use tcd_plan::{Plan, PlanErr};
 use tcd_reading::{Outcome, Report, Status, Stop};
 use tcd_report::{generated_plan_text, image_of_functions};
@@ -40,7 +40,7 @@ fn report_generated_image(alloc: Global, functions: u32, image: &Image, plan: &P
     match make_least_cert(alloc, image, plan, 1) {
         Ok((cert, need)) => {
             let areas = plan.areas - plan.reserve;
-            let line = generated_line(alloc, functions, &cert, need, areas)?;
+            let line = gen_line(alloc, functions, &cert, need, areas)?;
             Ok(Report::of(alloc, Status::Done, line))
         }
         Err(e) => report_no_cert(alloc, e),

@@ -7,7 +7,7 @@ ghost use Rattle.tcd_driver.specs.Taskcert.{IsTaskcertReport, MakesTaskViewCert,
 
 use crate::cell_and_task_files::TasksFile;
 use crate::cert_making::make_least_cert;
-use crate::commands::tasks::{report_wrong_cert_count, task_need_to_count};
+use crate::commands::tasks::{report_wrong_cert_count, counted_task_need};
 use depth_maker::MakeErr;
 use elf_image::Image;
 use packed_cert::Cert;
@@ -45,7 +45,7 @@ pub(crate) fn certify_tasks<F: Files>(
     let board = read_input(&PlanFile, alloc, plan, files)?;
     let list = read_input(&TasksFile { plan: &board }, alloc, tasks, files)?;
     if certs.len() == list.list.len() {
-        certify_all_tasks(alloc, &image, &board, &list, certs)
+        taskcert_report(alloc, &image, &board, &list, certs)
     } else {
         report_wrong_cert_count(alloc)
     }
@@ -53,7 +53,7 @@ pub(crate) fn certify_tasks<F: Files>(
 
 // Makes the certificate of each task for `taskcert`. Reports the files to write, or why the tasks
 // are refused.
-fn certify_all_tasks(
+fn taskcert_report(
     alloc: Global,
     image: &Image,
     plan: &Plan,
@@ -112,7 +112,7 @@ fn make_each_task_cert(
         match make_task_cert(alloc, image, plan, tasks, u) {
             Ok((cert, need)) => {
                 match add_task_cert_file(alloc, &mut writes, names[u].as_str(), cert.into_bytes()) {
-                    Ok(()) => sum += u64::from(task_need_to_count(u, need)),
+                    Ok(()) => sum += u64::from(counted_task_need(u, need)),
                     Err(_) => return Err((u, MakeErr::NoMemory)),
                 }
             }

@@ -69,7 +69,7 @@ pub(crate) fn check_tasks<F: Files>(
 
 /// Returns the need that counts for a task in the sum that `tasks` and `taskcert` print: at least
 /// two areas, with which each task except the first starts.
-pub(crate) fn task_need_to_count(u: usize, need: u32) -> u32
+pub(crate) fn counted_task_need(u: usize, need: u32) -> u32
     ensures { result ≡ (if u == 0 then need else max need 2) }
 {
     if u == 0 { need } else { need.max(2) }
@@ -99,14 +99,14 @@ fn read_task_certs<F: Files>(
         (F.seen files.old) (F.seen files.new) result }
 {
     if names.len() == tasks.list.len() {
-        read_each_task_cert(alloc, image, plan, tasks, names, files)
+        verdict_on_cert_files(alloc, image, plan, tasks, names, files)
     } else {
         report_wrong_cert_count(alloc)
     }
 }
 
 /// Reads the certificate of each task, and reports the verdict of `tasks`.
-fn read_each_task_cert<F: Files>(
+fn verdict_on_cert_files<F: Files>(
     alloc: Global,
     image: &Image,
     plan: &Plan,
@@ -150,7 +150,7 @@ fn tasks_verdict(
     if let Some(addr) = routine_fault(image, plan, tasks) {
         return Ok(Report::of(alloc, Status::Refused, refused_switch_line(alloc, addr)?));
     }
-    match judge_tasks(alloc, image, plan, tasks, certs)? {
+    match check_each_task_cert(alloc, image, plan, tasks, certs)? {
         Tally::Sum(sum) => {
             if sum <= u64::from(areas) {
                 let line = certified_tasks_line(alloc, sum, areas, count)?;
@@ -173,7 +173,7 @@ fn tasks_verdict(
 
 // Checks each task's certificate for `tasks`: returns the sum of their needs, or the first task
 // whose certificate is refused.
-fn judge_tasks(
+fn check_each_task_cert(
     alloc: Global,
     image: &Image,
     plan: &Plan,
@@ -188,8 +188,8 @@ fn judge_tasks(
     let _switch = tasks.switch;
     let mut sum = 0u64;
     for u in 0..certs.len() {
-        match judge_task(alloc, image, plan, tasks, u, &certs[u])? {
-            Verdict::Yes(need) => sum += u64::from(task_need_to_count(u, need)),
+        match check_task_cert(alloc, image, plan, tasks, u, &certs[u])? {
+            Verdict::Yes(need) => sum += u64::from(counted_task_need(u, need)),
             Verdict::No { rule, key, addr } => {
                 return Ok(Tally::Against {
                     task: u,
@@ -205,7 +205,7 @@ fn judge_tasks(
 
 // Checks a certificate for task `u`'s view by the rules of all certificates, then whether the tasks
 // are kept apart (K17).
-fn judge_task(
+fn check_task_cert(
     alloc: Global,
     image: &Image,
     plan: &Plan,

@@ -75,14 +75,14 @@ fn append_function(out: &mut Vec<u8>, n: u32, i: u32) -> Result<(), NoMemory>
     let at = generated_function_address(i);
     // sub16.a a10, 8; st16.w [a10], d15
     append_segment_bytes(out, &[0x20, 0x08, 0x74, 0xaf])?;
-    append_call_if_below(out, n, at + 4, 2 * i + 1)?;
-    append_call_if_below(out, n, at + 8, 2 * i + 2)?;
+    append_call_if_any(out, n, at + 4, 2 * i + 1)?;
+    append_call_if_any(out, n, at + 8, 2 * i + 2)?;
     // ret16
     append_segment_bytes(out, &[0x00, 0x90])
 }
 
 // Appends to a generated image of n functions a call of function i, or nothing if i isn't below n.
-fn append_call_if_below(out: &mut Vec<u8>, n: u32, at: u32, i: u32) -> Result<(), NoMemory>
+fn append_call_if_any(out: &mut Vec<u8>, n: u32, at: u32, i: u32) -> Result<(), NoMemory>
     requires few { n ≤ 500 }
     requires low { 0x80008000 ≤ at }
     requires forward { i < n → at ≤ generated_function_address i }

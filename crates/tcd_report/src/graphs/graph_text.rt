@@ -13,7 +13,7 @@ ghost use Rattle.depth_cert.specs.Points.{point_of};
 use crate::graphs::edges::{Edges, find_edges};
 use crate::graphs::handlers::{no_handlers, set_handler_line_front};
 use crate::graphs::lines::{
-    append_edges, append_return, set_node_line_front, set_point_line_front,
+    append_edges, append_ret_line, set_node_line_front, set_point_line_front,
 };
 use crate::judged::Judged;
 use cfg_recover::KnownCodes;
@@ -73,8 +73,8 @@ pub(crate) fn append_node_lines<'a>(
     ensures handlers { OnOk result (KnowsHandlers judged.now.plan.now graph.new.ways.irq) }
 {
     set_node_line_front(&mut graph.key_front, &node.key)?;
-    node.walk(walk);
-    while let Some(addr) = walk.step() {
+    node.start_walk(walk);
+    while let Some(addr) = walk.advance() {
         append_point_lines(graph, judged, codes, &node.key, addr, walk.state())?;
     }
     Ok(())
@@ -110,5 +110,5 @@ fn append_point_lines(
     set_point_line_front(&mut graph.front, graph.key_front.as_str(), addr)?;
     set_handler_line_front(&mut graph.ways.irq, graph.front.as_str())?;
     append_edges(&mut graph.text, graph.front.as_str(), &graph.ways)?;
-    append_return(&mut graph.text, graph.front.as_str(), found.shape)
+    append_ret_line(&mut graph.text, graph.front.as_str(), found.shape)
 }

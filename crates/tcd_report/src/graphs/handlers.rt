@@ -8,7 +8,7 @@ ghost use Rattle.std.specs.Str.{IsAscii};
 ghost use Rattle.tcd_text.specs.HexNumbers.{hex_word};
 
 use crate::graphs::addresses::set_unique_addresses;
-use cfg_recover::{interrupts, irq_key};
+use cfg_recover::{possible_irqs, irq_key};
 use std::alloc::Global;
 use tcd_base::NoMemory;
 use tcd_plan::Plan;
@@ -61,7 +61,7 @@ pub(crate) fn find_handlers(
     if known.ie == s.ie && known.ccpn == s.ccpn {
         return Ok(());
     }
-    let irqs = interrupts(plan, s);
+    let irqs = possible_irqs(plan, s);
     set_handler_entries(room, plan, irqs.as_slice())?;
     set_unique_addresses(&mut known.entries, room)?;
     make_handler_lines(&mut known.lines, "", &known.entries)?;
@@ -154,12 +154,12 @@ pub(crate) fn append_handler_lines(
     ensures { OnOk result (string_bytes text.new
         ≡ string_bytes text.old ++ lines_to front.now (codes "irq ") known.now.entries.items) }
 {
-    read_handler_entries(&known.entries);
+    handler_entries_fit_words(&known.entries);
     append_ascii(text, &known.lines)
 }
 
 /// Gives a fact about the entries of handlers on the graph's `irq` lines: each is below 2^32, as
 /// its type says. It does nothing else.
-pub(crate) fn read_handler_entries(addresses: &[u32])
+pub(crate) fn handler_entries_fit_words(addresses: &[u32])
     ensures { (k : ℕ) → slice_index addresses.now k < 2 ^ 32 }
 {}

@@ -6,7 +6,7 @@ ghost use Rattle.std.specs.Str.{IsAscii};
 
 use crate::graphs::edges::Edges;
 use crate::graphs::handlers::append_handler_lines;
-use crate::texts::append_key_text;
+use crate::texts::append_frame_name;
 use depth_cert::Key;
 use tc_isa::Shape;
 use tcd_base::NoMemory;
@@ -21,7 +21,7 @@ pub(crate) fn set_node_line_front(front: &mut String, key: &Key) -> Result<(), N
     let _entry = key.entry;
     let _prio = key.prio;
     front.clear();
-    append_key_text(front, key)?;
+    append_frame_name(front, key)?;
     append_str(front, ": ")
 }
 
@@ -58,7 +58,7 @@ pub(crate) fn append_edges(text: &mut String, front: &str, ways: &Edges) -> Resu
 
 /// Appends to the graph the line of a point's own return, which ends with `ret` or `rfe`, if its
 /// instruction is a return.
-pub(crate) fn append_return(text: &mut String, front: &str, shape: Shape) -> Result<(), NoMemory>
+pub(crate) fn append_ret_line(text: &mut String, front: &str, shape: Shape) -> Result<(), NoMemory>
     ensures { OnOk result (string_bytes text.new
         ≡ string_bytes text.old ++ return_line_text front.now shape) }
 {

@@ -16,7 +16,7 @@ use tc_isa::{Shape, Target};
 use tcd_base::NoMemory;
 use tcd_plan::Plan;
 use value_domain::State;
-use vd_transfer::{change_on, identity_change};
+use vd_transfer::{write_branch_change, identity_change};
 
 /// Appends the successors of a point in its frame, for the graph: addresses, except those after a
 /// call or a system call.
@@ -79,7 +79,7 @@ pub(crate) fn set_return_addresses(
 {
     all.clear();
     for key in keys {
-        push_return(all, cert, key, back)?;
+        push_return_addr(all, cert, key, back)?;
     }
     Ok(())
 }
@@ -113,12 +113,12 @@ fn is_branch_side_possible(judged: &Judged, shape: Shape, s: &State, taken: bool
         result ≡ is_some (refine_of j.bounds.now j.plan.now shape s.now taken) }
 {
     let mut c = identity_change(s);
-    change_on(judged.bounds, judged.plan, shape, s, taken, &mut c)
+    write_branch_change(judged.bounds, judged.plan, shape, s, taken, &mut c)
 }
 
 // Appends the address after a call, a successor in the graph, if the node of the entered frame's
 // key has an exit.
-fn push_return(all: &mut Vec<u32>, cert: &Cert, key: &Key, back: u32) -> Result<(), NoMemory>
+fn push_return_addr(all: &mut Vec<u32>, cert: &Cert, key: &Key, back: u32) -> Result<(), NoMemory>
     ensures { OnOk result
         (all.new.items ≡ all.old.items ++ return_address_of_duty cert.now (resume key.now back)) }
 {

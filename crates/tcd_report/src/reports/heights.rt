@@ -39,19 +39,19 @@ pub(crate) fn heights(alloc: Global, judged: &Judged) -> Result<HashMap<Key, u32
     order.sort()?;
     let mut heights = HashMap::new(alloc);
     let mut codes = KnownCodes::new();
-    let mut walk = PointWalk::none();
+    let mut walk = PointWalk::empty();
     for (_, key) in &order {
         let Some(node) = cert.node(key) else {
             unreachable!()
         };
-        let rows = longest_chain_from(judged, &heights, &mut codes, &node, &mut walk);
+        let rows = height_of_node(judged, &heights, &mut codes, &node, &mut walk);
         heights.insert(*key, rows)?;
     }
     Ok(heights)
 }
 
 // Returns the height of a node: the length of the longest call chain that begins there.
-fn longest_chain_from<'a>(
+fn height_of_node<'a>(
     judged: &Judged,
     heights: &HashMap<Key, u32>,
     codes: &mut KnownCodes,
@@ -67,8 +67,8 @@ fn longest_chain_from<'a>(
         node.now.points result }
 {
     let mut most = 0;
-    node.walk(walk);
-    while let Some(addr) = walk.step() {
+    node.start_walk(walk);
+    while let Some(addr) = walk.advance() {
         most = height_at_point(judged, heights, codes, &node.key, addr, walk.state()).max(most);
     }
     most

@@ -22,7 +22,7 @@ pub(crate) struct LongestCalls {
 
 /// Returns the length of the longest call chain of each interrupt priority that has nodes, for the
 /// report.
-pub(crate) fn longest_by_priority(
+pub(crate) fn longest_calls_by_priority(
     alloc: Global,
     cert: &Cert,
     heights: &HashMap<Key, u32>,

@@ -5,7 +5,7 @@ ghost use Rattle.cfg_recover.specs.RulesHoldOrFail.{certified_need};
 ghost use Rattle.tcd_report.specs.Reports.{reported_node, nodes_data, all_longest_calls_data, report_object_data};
 
 use crate::reports::longest_by_priority::LongestCalls;
-use crate::texts::append_key_text;
+use crate::texts::append_frame_name;
 use cfg_recover::start_key;
 use elf_image::Image;
 use packed_cert::{Cert, Node};
@@ -16,7 +16,7 @@ use tcd_plan::Plan;
 
 /// Returns the certified need for the text of the report: the need of the start node, or 0 if there
 /// is none.
-pub(crate) fn need_of_start(image: &Image, plan: &Plan, cert: &Cert) -> u32
+pub(crate) fn certified_need(image: &Image, plan: &Plan, cert: &Cert) -> u32
     ensures { result ≡ certified_need image.now plan.now cert.now }
 {
     match cert.node(&start_key(image, plan)) {
@@ -79,7 +79,7 @@ fn node_value(alloc: Global, node: &Node<'_>) -> Result<Value, NoMemory>
     ensures { IfOk result (λ v. view v ≡ reported_node node.now) }
 {
     let mut key = String::new(alloc);
-    append_key_text(&mut key, &node.key)?;
+    append_frame_name(&mut key, &node.key)?;
     let value = json!(in alloc; {"key": key, "need": node.need, "points": node.len()})?;
     Ok(value)
 }

@@ -5,8 +5,8 @@ use Rattle.elf_image.specs.Images.{image_data, segment_data}
 use Rattle.cfg_recover.proofs.HeldLaws.{held_byte}
 use Rattle.cfg_recover.proofs.rom_code.code_byte_at.Goals as goal
 
-pub returns-in-Some-code_byte_of : goal.returns-in-Some-code_byte_of
-returns-in-Some-code_byte_of c =
+pub returns-in-Some-code_byte_in_segment : goal.returns-in-Some-code_byte_in_segment
+returns-in-Some-code_byte_in_segment c =
     let at = c.in-Some.ensures.lookup in
-    sym (held_byte (image_data c.image.inside) c.args.image.now c.deref.result.now c.args.near.now c.in-Some.segment.now c.in-Some-code_byte_of.byte c.args.addr c.image.view_is c.image.invariant.apart
-    (ap (λ (ss : List Segment). map segment_data ss) (sym c.deref.ensures.value)) (ltb-true c.args.near.now (length c.deref.result.now) (sym at.0)) at.1 c.in-Some-code_byte_of.ensures)
+    sym (held_byte (image_data c.image.inside) c.args.image.now c.deref.result.now c.args.near.now c.in-Some.segment.now c.in-Some-code_byte_in_segment.byte c.args.addr c.image.view_is c.image.invariant.apart
+    (ap (λ (ss : List Segment). map segment_data ss) (sym c.deref.ensures.value)) (ltb-true c.args.near.now (length c.deref.result.now) (sym at.0)) at.1 c.in-Some-code_byte_in_segment.ensures)

@@ -24,4 +24,4 @@ pub returns-clause-ok : goal.returns-clause-ok
 unfolding set_at
 returns-clause-ok g c =
     let all = many_end set_word_after c.args.n c.loop-i._i c.loop-i.words.items c.args.c.now c.loop-i.c c.loop-i-test.false c.loop-i.invariant.read in
-    rw (all, c.make_set_of_ascending.ensures, c.as_slice-2.ensures.value) refl
+    rw (all, c.overwrite_with_set.ensures, c.as_slice-2.ensures.value) refl

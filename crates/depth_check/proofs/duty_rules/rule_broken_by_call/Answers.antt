@@ -11,11 +11,11 @@ use Rattle.depth_check.specs.PointChecks.{point_check_data}
 use Rattle.depth_check.proofs.RuleLaws.{values_well}
 use Rattle.depth_check.proofs.duty_rules.rule_broken_by_call.Goals as goal
 
-pub rule_broken_by_calls-requires : goal.rule_broken_by_calls-requires
-rule_broken_by_calls-requires c = rw (← c.at.view_is) (values_well c.at.inside.bounds.now _ c.call_change-entry.ensures.values)
+pub rule_broken_by_call_targets-requires : goal.rule_broken_by_call_targets-requires
+rule_broken_by_call_targets-requires c = rw (← c.at.view_is) (values_well c.at.inside.bounds.now _ c.call_entry_change-entry.ensures.values)
 
-pub rule_broken_by_call_list-requires-clause-entry : goal.rule_broken_by_call_list-requires-clause-entry
-rule_broken_by_call_list-requires-clause-entry c = rw (← c.at.view_is) (values_well c.at.inside.bounds.now _ c.call_change-entry.ensures.values)
+pub rule_broken_by_calli-requires-clause-entry : goal.rule_broken_by_calli-requires-clause-entry
+rule_broken_by_calli-requires-clause-entry c = rw (← c.at.view_is) (values_well c.at.inside.bounds.now _ c.call_entry_change-entry.ensures.values)
 
 pub returns-in-Some : goal.returns-in-Some
 returns-in-Some c =
@@ -23,14 +23,14 @@ returns-in-Some c =
     let s = t.point.state in
     let one = (rw c.in-Some.is at c.direct_target.ensures.one) t.plan s in
     rw (← c.at.view_is)
-    (subst (λ (o : Option (List ℕ)). FindsLeastBroken (DutiesHold t.cert t.node s (flat_map (λ t2. entry_and_return 5 (call_key (t.node).key t2) (call_entry s) c.args.back) (unwrap_or o []))) c.rule_broken_by_calls.result) (sym one)
-    (subst (λ (u : State). FindsLeastBroken (DutiesHold t.cert t.node s (flat_map (λ t2. entry_and_return 5 (call_key (t.node).key t2) u c.args.back) (c.in-Some.target ∷ []))) c.rule_broken_by_calls.result)
-    c.call_change-entry.ensures.entry (rw (← c.at.view_is) at c.rule_broken_by_calls.ensures)))
+    (subst (λ (o : Option (List ℕ)). FindsLeastBroken (DutiesHold t.cert t.node s (flat_map (λ t2. entry_and_return 5 (call_key (t.node).key t2) (call_entry s) c.args.back) (unwrap_or o []))) c.rule_broken_by_call_targets.result) (sym one)
+    (subst (λ (u : State). FindsLeastBroken (DutiesHold t.cert t.node s (flat_map (λ t2. entry_and_return 5 (call_key (t.node).key t2) u c.args.back) (c.in-Some.target ∷ []))) c.rule_broken_by_call_targets.result)
+    c.call_entry_change-entry.ensures.entry (rw (← c.at.view_is) at c.rule_broken_by_call_targets.ensures)))
 
 pub returns-in-None : goal.returns-in-None
 returns-in-None c =
     let t = point_check_data c.at.inside in
     let s = t.point.state in
     rw (← c.at.view_is)
-    (subst (λ (u : State). FindsLeastBroken (DutiesHold t.cert t.node s (flat_map (λ t2. entry_and_return 5 (call_key (t.node).key t2) u c.args.back) (unwrap_or (targets_of t.plan s t.point.addr c.args.to) []))) c.rule_broken_by_call_list.result)
-    c.call_change-entry.ensures.entry (rw (← c.at.view_is) at c.rule_broken_by_call_list.ensures))
+    (subst (λ (u : State). FindsLeastBroken (DutiesHold t.cert t.node s (flat_map (λ t2. entry_and_return 5 (call_key (t.node).key t2) u c.args.back) (unwrap_or (targets_of t.plan s t.point.addr c.args.to) []))) c.rule_broken_by_calli.result)
+    c.call_entry_change-entry.ensures.entry (rw (← c.at.view_is) at c.rule_broken_by_calli.ensures))

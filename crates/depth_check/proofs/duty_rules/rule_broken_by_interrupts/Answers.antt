@@ -20,8 +20,8 @@ pub returns-then-is_empty : goal.returns-then-is_empty
 returns-then-is_empty c =
     let t = point_check_data c.at.inside in
     rw (← c.at.view_is)
-    (subst (λ (l : List Owed). FindsLeastBrokenByDuties t l None) (interrupts_none t.plan (t.node).key t.point.state c.interrupts-irqs.result.items c.interrupts-irqs.ensures (eqb-true _ _ (sym c.is_empty.ensures ∙ c.if-is_empty.true)))
+    (subst (λ (l : List Owed). FindsLeastBrokenByDuties t l None) (interrupts_none t.plan (t.node).key t.point.state c.possible_irqs-irqs.result.items c.possible_irqs-irqs.ensures (eqb-true _ _ (sym c.is_empty.ensures ∙ c.if-is_empty.true)))
     (nothing_found t.cert t.node t.point.state))
 
-pub rule_broken_by_taken_irqs-requires : goal.rule_broken_by_taken_irqs-requires
-rule_broken_by_taken_irqs-requires c = rw (← c.at.view_is) (c.as_slice.ensures.value ∙ c.interrupts-irqs.ensures)
+pub rule_broken_by_possible_irqs-requires : goal.rule_broken_by_possible_irqs-requires
+rule_broken_by_possible_irqs-requires c = rw (← c.at.view_is) (c.as_slice.ensures.value ∙ c.possible_irqs-irqs.ensures)

@@ -14,7 +14,7 @@ returns-in_default-clause-holds c =
 
 pub rule_broken_by_irqs-requires : goal.rule_broken_by_irqs-requires
 rule_broken_by_irqs-requires c =
-    rw (c.identity_change-entry.ensures.kept, c.put_register-entry.ensures, c.copy.ensures)
+    rw (c.identity_change-entry.ensures.kept, c.register_write-entry.ensures, c.copy.ensures)
     (values_well c.at.inside.bounds.now _ (handler_values c.at.inside.bounds.now c.at.inside.point.state.now c.in-Some.sp c.at.inside.point.state.now.ccpn c.most_words-most_words.ensures.limits c.in-Some.ensures.value))
 
 pub returns-in-Some-rule_broken_by_irqs-clause-value : goal.returns-in-Some-rule_broken_by_irqs-clause-value
@@ -30,10 +30,10 @@ returns-in-None-clause-holds c =
     let s = c.at.inside.point.state.now in
     let sp = c.in-Some.sp in
     let k = c.identity_change-entry.result in
-    let first : c.put_register-entry.result ≡ put_of_register 26 sp = c.put_register-entry.ensures ∙ ap (λ (v : Val). put_of_register 26 v) c.copy.ensures in
+    let first : c.register_write-entry.result ≡ put_of_register 26 sp = c.register_write-entry.ensures ∙ ap (λ (v : Val). put_of_register 26 v) c.copy.ensures in
     let second : k.second ≡ no_put = ap (λ (x : Change). x.second) c.identity_change-entry.ensures.kept in
     let third : k.third ≡ no_put = ap (λ (x : Change). x.third) c.identity_change-entry.ensures.kept in
     let none : c.clear.new.self ≡ record { items = [] } = ap (λ (l : List Bool). let a : ArrayVec Bool = record { items = l } in a) c.clear.ensures in
     rw (← c.at.view_is)
-    (other_stack c.at.inside.plan.now c.at.inside.cert.now c.at.inside.node.now s _ sp k.ccpn _ (entered_state s sp k.ccpn c.put_register-entry.result k.second k.third c.clear.new.self first second third none) (c.as_slice.ensures.value ∙ c.interrupts.ensures) c.in-Some.ensures.stack
+    (other_stack c.at.inside.plan.now c.at.inside.cert.now c.at.inside.node.now s _ sp k.ccpn _ (entered_state s sp k.ccpn c.register_write-entry.result k.second k.third c.clear.new.self first second third none) (c.as_slice.ensures.value ∙ c.possible_irqs.ensures) c.in-Some.ensures.stack
     (rw (c.in-None.is, ← c.at.view_is) at c.rule_broken_by_irqs.ensures))

@@ -15,20 +15,20 @@ returns-then-eq c =
     let t = point_check_data c.at.inside in
     rw (← c.at.view_is) (yes _ (known_covers t.node c.at.inside.point.next c.args.addr t.point.state (same_word c.at.inside.point.next c.args.addr c.eq.result c.eq.ensures c.if-eq.true) c.at.invariant.facts.next))
 
-pub covers_next-requires-clause-hand : goal.covers_next-requires-clause-hand
-covers_next-requires-clause-hand c =
+pub is_covered_by_next-requires-clause-hand : goal.is_covered_by_next-requires-clause-hand
+is_covered_by_next-requires-clause-hand c =
     let ahead = c.at.invariant.facts.walk in
     subst (λ (s : State). AreWellFormed s.regs) (sym ahead.current) (values_well c.at.inside.bounds.now _ c.at.invariant.values)
 
-pub covers_next-requires-clause-changed : goal.covers_next-requires-clause-changed
-covers_next-requires-clause-changed c =
+pub is_covered_by_next-requires-clause-changed : goal.is_covered_by_next-requires-clause-changed
+is_covered_by_next-requires-clause-changed c =
     let ahead = c.at.invariant.facts.walk in
-    let kept = ap (λ (s : State). state_after s c.keep.new.self) ahead.current ∙ c.keep.ensures.same in
+    let kept = ap (λ (s : State). state_after s c.set_to_identity.new.self) ahead.current ∙ c.set_to_identity.ensures.same in
     subst (λ (s : State). AreWellFormed s.regs) (sym kept) (values_well c.at.inside.bounds.now _ c.at.invariant.values)
 
-pub returns-then-covers_next : goal.returns-then-covers_next
-returns-then-covers_next c =
+pub returns-then-is_covered_by_next : goal.returns-then-is_covered_by_next
+returns-then-is_covered_by_next c =
     let t = point_check_data c.at.inside in
     let ahead = c.at.invariant.facts.walk in
-    let kept = ap (λ (s : State). state_after s c.keep.new.self) ahead.current ∙ c.keep.ensures.same in
-    rw (c.if-covers_next.true, ← c.at.view_is) (yes _ (subst (λ (s : State). HasCoveringPoint t.node c.args.addr s) kept (ahead.ahead c.args.addr _ (c.covers_next.ensures c.if-covers_next.true))))
+    let kept = ap (λ (s : State). state_after s c.set_to_identity.new.self) ahead.current ∙ c.set_to_identity.ensures.same in
+    rw (c.if-is_covered_by_next.true, ← c.at.view_is) (yes _ (subst (λ (s : State). HasCoveringPoint t.node c.args.addr s) kept (ahead.ahead c.args.addr _ (c.is_covered_by_next.ensures c.if-is_covered_by_next.true))))

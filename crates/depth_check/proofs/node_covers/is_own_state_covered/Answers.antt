@@ -16,8 +16,8 @@ returns-then-eq c =
     let t = point_check_data c.at.inside in
     rw (← c.at.view_is) (yes _ (known_covers t.node c.at.inside.point.next c.args.addr t.point.state (same_word c.at.inside.point.next c.args.addr c.eq.result c.eq.ensures c.if-eq.true) c.at.invariant.facts.next))
 
-pub covers_at-requires : goal.covers_at-requires
-covers_at-requires c =
+pub is_covered_at-requires : goal.is_covered_at-requires
+is_covered_at-requires c =
     let ahead = c.at.invariant.facts.walk in
     subst (λ (s : State). AreWellFormed s.regs) (sym ahead.current) (values_well c.at.inside.bounds.now _ c.at.invariant.values)
 
@@ -25,5 +25,5 @@ pub returns : goal.returns
 returns c =
     let ahead = c.at.invariant.facts.walk in
     rw (← c.at.view_is)
-    (subst (λ (s : State). IsTrue c.covers_at.result ↔ IsSomeAnd (find_point c.args.addr c.at.inside.node.now.points) (λ p. Covers p.state s)) ahead.current
-    (subst (λ (ps : List Point). IsTrue c.covers_at.result ↔ IsSomeAnd (find_point c.args.addr ps) (λ p. Covers p.state c.at.inside.point.walk.now.current)) ahead.points c.covers_at.ensures))
+    (subst (λ (s : State). IsTrue c.is_covered_at.result ↔ IsSomeAnd (find_point c.args.addr c.at.inside.node.now.points) (λ p. Covers p.state s)) ahead.current
+    (subst (λ (ps : List Point). IsTrue c.is_covered_at.result ↔ IsSomeAnd (find_point c.args.addr ps) (λ p. Covers p.state c.at.inside.point.walk.now.current)) ahead.points c.is_covered_at.ensures))

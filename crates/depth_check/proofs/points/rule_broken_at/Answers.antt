@@ -15,10 +15,10 @@ returns-clause-found c =
     let p = t.point.addr in
     let b = limits_in t.plan t.cert in
     let on = c.in-Some.ensures in
-    rw (c.lesser_broken_rule-2.ensures, c.lesser_broken_rule.ensures, c.rule_unless-need.ensures)
+    rw (c.lesser_broken_rule-2.ensures, c.lesser_broken_rule.ensures, c.broken_rule_unless-need.ensures)
     (duties_found t.image t.plan t.cert node t.point on.shape on.size
     (rw (← c.at.view_is) (subst (λ (l : Limits). AreValues l (c.at.inside.point.state.now).regs) c.at.invariant.limits c.at.invariant.values))
     (idle_faultless b t.image t.plan node.key p s c.in-Some.next on) on.code
-    (lesser_broken_rule c.rule_broken_by_kept_state-jump.result c.rule_broken_by_interrupts-irqs.result) c.has_own_need.result
+    (lesser_broken_rule c.rule_broken_by_kept_state-jump.result c.rule_broken_by_interrupts-irqs.result) c.has_need_for_point.result
     (idle_found b t.image t.plan t.cert node p s c.in-Some.next on c.rule_broken_by_kept_state-jump.result c.rule_broken_by_interrupts-irqs.result c.rule_broken_by_kept_state-jump.ensures c.rule_broken_by_interrupts-irqs.ensures)
-    c.has_own_need.ensures)
+    c.has_need_for_point.ensures)

@@ -37,10 +37,10 @@ returns-in-Ok-clause-found c =
     (c.in-Ok.ensures.found t.image t.point.addr c.locate-located.ensures.code)
     in
     let stands = subst (λ (b : Limits). IsFaultlessShape b t.image t.plan (t.node).key t.point.addr t.point.state found) c.at.invariant.limits here in
-    rw (c.lesser_broken_rule.ensures, c.rule_unless-need.ensures, ← c.at.view_is)
+    rw (c.lesser_broken_rule.ensures, c.broken_rule_unless-need.ensures, ← c.at.view_is)
     (duties_found t.image t.plan t.cert t.node t.point found.shape found.size
     (subst (λ (b : Limits). AreValues b (t.point.state).regs) c.at.invariant.limits c.at.invariant.values)
     stands.faultless stands.code
-    c.rule_broken_by_duties-duties.result c.has_own_need.result
+    c.rule_broken_by_duties-duties.result c.has_need_for_point.result
     (subst (λ (b : Limits). FindsLeastBroken (DutiesHold t.cert t.node t.point.state (duties_of b t.image t.plan (t.node).key t.point.addr t.point.state found.shape found.size)) c.rule_broken_by_duties-duties.result) c.at.invariant.limits (rw (← c.at.view_is) at c.rule_broken_by_duties-duties.ensures.found))
-    (rw (← c.at.view_is) at c.has_own_need.ensures))
+    (rw (← c.at.view_is) at c.has_need_for_point.ensures))

@@ -17,6 +17,6 @@ returns-clause-found c =
     let t = point_check_data c.at.inside in
     let s = t.point.state in
     let there = machine_address_ahead t.point.addr c.args.found.now.size in
-    rw (c.rule_unless.ensures, ← c.at.view_is)
+    rw (c.broken_rule_unless.ensures, ← c.at.view_is)
     (subst (λ (u : State). FindsLeastBrokenByDuties t (owed 4 (jump there u) ∷ []) (broken_rule_unless c.is_changed_state_covered.result 4)) (rw (← c.at.view_is) at c.write_change_at.ensures.change)
     (point_found t.cert t.node s (state_after s c.write_change_at.new.scratch.change) there c.is_changed_state_covered.result (rw (← c.at.view_is) at c.is_changed_state_covered.ensures)))

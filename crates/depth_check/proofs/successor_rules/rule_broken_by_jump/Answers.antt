@@ -7,4 +7,4 @@ pub returns-in-Abs-clause-found : goal.returns-in-Abs-clause-found
 returns-in-Abs-clause-found c = rw c.in-Abs.is c.rule_broken_by_kept_state-in-Abs.ensures
 
 pub returns-in-Reg-clause-found : goal.returns-in-Reg-clause-found
-returns-in-Reg-clause-found c = rw c.in-Reg.is c.rule_broken_by_jump_list.ensures.found
+returns-in-Reg-clause-found c = rw c.in-Reg.is c.rule_broken_by_ji.ensures.found

@@ -2,7 +2,7 @@ use Rattle.cfg_recover.proofs.NextLaws.{next_alone}
 use Rattle.depth_check.proofs.successor_rules.rule_broken_by_successors.Goals as goal
 
 pub returns-in-Branch-clause-found : goal.returns-in-Branch-clause-found
-returns-in-Branch-clause-found c = rw (c.in-Branch.is, ← c.at.view_is) (rw (c.in-Branch.is, ← c.at.view_is) at c.rule_broken_by_branch_sides.ensures)
+returns-in-Branch-clause-found c = rw (c.in-Branch.is, ← c.at.view_is) (rw (c.in-Branch.is, ← c.at.view_is) at c.rule_broken_by_branch.ensures)
 
 pub returns-in-Jump-clause-found : goal.returns-in-Jump-clause-found
 returns-in-Jump-clause-found c = rw c.in-Jump.is c.rule_broken_by_jump.ensures.found

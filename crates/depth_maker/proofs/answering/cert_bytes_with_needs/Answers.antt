@@ -3,8 +3,8 @@ use Rattle.depth_maker.specs.Needs.{LeastNeedsOrRecursion, AreLeastTableNeeds}
 use Rattle.depth_maker.proofs.MakeLemmas.{needs_are}
 use Rattle.depth_maker.proofs.answering.cert_bytes_with_needs.Goals as goal
 
-pub spelled_cert_bytes-requires-clause-needs : goal.spelled_cert_bytes-requires-clause-needs
-spelled_cert_bytes-requires-clause-needs c =
+pub serialize_cert-requires-clause-needs : goal.serialize_cert-requires-clause-needs
+serialize_cert-requires-clause-needs c =
     let found = subst (LeastNeedsOrRecursion c.args.source.now) c.in-Ok.is c.in_ok-needs.ensures in
     subst (AreLeastTableNeeds c.args.source.now) (sym c.as_slice.ensures.value) (needs_are c.args.source.now c.in-Ok.needs found)
 

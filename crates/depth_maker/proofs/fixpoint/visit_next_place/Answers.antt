@@ -21,13 +21,13 @@ returns-in_default-clause-steps c =
       empty,
     )
 
-pub returns-then-not-has_queued_mark-clause-steps : goal.returns-then-not-has_queued_mark-clause-steps
-returns-then-not-has_queued_mark-clause-steps c =
+pub returns-then-not-is_place_queued-clause-steps : goal.returns-then-not-is_place_queued-clause-steps
+returns-then-not-is_place_queued-clause-steps c =
     let s = c.args.table.now in
     let number = c.in-Some.number in
     let takes = subst (λ o. IfSome o (TakesPlace s.work c.pop.new.self)) c.in-Some.is c.in_ok-number.ensures.some in
     let x = c.requires.fine.listed.known number (takes_there s.work c.pop.new.self number takes) in
-    let idle : is_queued (mark_for s.places x.0) ≡ false = sym (c.has_queued_mark.ensures x.0 x.1) ∙ c.if-not-has_queued_mark.true in (
+    let idle : is_queued (mark_for s.places x.0) ≡ false = sym (c.is_place_queued.ensures x.0 x.1) ∙ c.if-not-is_place_queued.true in (
       passed_over _ _ _ s _ x.0 number refl takes x.1 idle c.requires.fine,
       c.requires.none,
       inr (same_level s _ (λ q. refl) refl refl, shorter s.work c.pop.new.self number takes),

@@ -9,10 +9,10 @@ pub join_each_handler_entry-requires-clause-owes : goal.join_each_handler_entry-
 join_each_handler_entry-requires-clause-owes c =
     let v = c.args.v.now in
     subst (λ (l : List Owed). OwesDuties v l)
-    (sym (duties_of_irqs-is v.ground.now.plan.now v.key v.state.now _ _ c.handler_change-entry.ensures.entry c.requires.irqs)) c.requires.owes
+    (sym (duties_of_irqs-is v.ground.now.plan.now v.key v.state.now _ _ c.handler_entry_change-entry.ensures.entry c.requires.irqs)) c.requires.owes
 
 pub returns-clause-ok : goal.returns-clause-ok
 returns-clause-ok c =
     let v = c.args.v.now in
     subst (λ (l : List Owed). OnOk c.join_each_handler_entry.result (JoinedBy v c.args.table.now c.join_each_handler_entry.new.table l))
-    (duties_of_irqs-is v.ground.now.plan.now v.key v.state.now _ _ c.handler_change-entry.ensures.entry c.requires.irqs) c.join_each_handler_entry.ensures.ok
+    (duties_of_irqs-is v.ground.now.plan.now v.key v.state.now _ _ c.handler_entry_change-entry.ensures.entry c.requires.irqs) c.join_each_handler_entry.ensures.ok

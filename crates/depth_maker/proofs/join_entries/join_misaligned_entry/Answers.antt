@@ -14,12 +14,12 @@ join_entry-requires-clause-owes c =
     let v = c.args.v.now in
     let g = v.ground.now in
     let one = owes_one _ _ _ v.key v.addr v.state.now (misaligned_duty v) c.requires.owes in
-    subst (λ (k : Key). OwesDuty v (enter k (state_after v.state.now c.misaligned_change-entry.result))) (sym c.aln_key.ensures)
-    (subst (λ (s : State). OwesDuty v (enter (entries.aln_key g.plan.now v.key) s)) (sym c.misaligned_change-entry.ensures.entry) one)
+    subst (λ (k : Key). OwesDuty v (enter k (state_after v.state.now c.aln_entry_change-entry.result))) (sym c.aln_key.ensures)
+    (subst (λ (s : State). OwesDuty v (enter (entries.aln_key g.plan.now v.key) s)) (sym c.aln_entry_change-entry.ensures.entry) one)
 
 pub returns-clause-ok : goal.returns-clause-ok
 returns-clause-ok c =
     let v = c.args.v.now in
     let g = v.ground.now in
     subst (λ (k : Key). OnOk c.join_entry.result (JoinedBy v c.args.table.now c.join_entry.new.table (owed 10 (enter k (entries.aln_entry g.plan.now v.key v.state.now)) ∷ []))) c.aln_key.ensures
-    (subst (λ (s : State). OnOk c.join_entry.result (JoinedBy v c.args.table.now c.join_entry.new.table (owed 10 (enter c.aln_key.result s) ∷ []))) c.misaligned_change-entry.ensures.entry (c.join_entry.ensures.ok 10))
+    (subst (λ (s : State). OnOk c.join_entry.result (JoinedBy v c.args.table.now c.join_entry.new.table (owed 10 (enter c.aln_key.result s) ∷ []))) c.aln_entry_change-entry.ensures.entry (c.join_entry.ensures.ok 10))

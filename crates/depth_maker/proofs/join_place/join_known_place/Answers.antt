@@ -32,29 +32,29 @@ covers-requires-clause-incoming c =
     asks_well_formed _ _ _ laws (view_of_table c.args.table.now).cells (place_of_spot c.args.y.now) (incoming_known c.args.incoming.now)
     (derived_well_formed _ _ _ laws (view_of_table c.args.table.now).cells (c.requires.fine.table).derived) c.requires.incoming
 
-pub join_from-requires-clause-known : goal.join_from-requires-clause-known
-join_from-requires-clause-known c =
+pub join_sharing-requires-clause-known : goal.join_sharing-requires-clause-known
+join_sharing-requires-clause-known c =
     let s = c.args.table.now in
     cells_well_formed _ _ _ (lawful _ _ _ c.args.v.now.ground.now.sound) s c.requires.fine c.args.y.now c.in-Some.place.now.value
     (ap (option_map (λ (m : Marked Known). m.value)) (had_at s.places c.args.number c.args.y.now _ c.in-Some.place.now (sym c.in-Some.ensures.entry) c.in-Some.ensures.value c.requires.there))
 
-pub join_from-requires-clause-incoming : goal.join_from-requires-clause-incoming
-join_from-requires-clause-incoming c =
+pub join_sharing-requires-clause-incoming : goal.join_sharing-requires-clause-incoming
+join_sharing-requires-clause-incoming c =
     let laws = lawful _ _ _ c.args.v.now.ground.now.sound in
     asks_well_formed _ _ _ laws (view_of_table c.args.table.now).cells (place_of_spot c.args.y.now) (incoming_known c.args.incoming.now)
     (derived_well_formed _ _ _ laws (view_of_table c.args.table.now).cells (c.requires.fine.table).derived) c.requires.incoming
 
-pub join_from-requires-clause-own : goal.join_from-requires-clause-own
+pub join_sharing-requires-clause-own : goal.join_sharing-requires-clause-own
 unfolding view_of_table
-join_from-requires-clause-own c =
+join_sharing-requires-clause-own c =
     let t = c.args.table.now in
     let x = Point c.args.v.now.key c.args.v.now.addr in
     let had = had_at t.places t.near x _ c.in-Some-get_index.own.now (sym c.in-Some-get_index.ensures.entry) c.in-Some-get_index.ensures.value c.requires.near in
     same_Some c.in-Some-get_index.own.now.value (state c.args.v.now.state.now) (sym (ap (option_map (λ (m : Marked Known). m.value)) had) ∙ c.requires.at)
     ∙ sym (ap (λ (s : State). state s) c.requires.own)
 
-pub put_place_value-requires : goal.put_place_value-requires
-put_place_value-requires c = record { listed = c.requires.fine.listed }
+pub set_and_queue_place-requires : goal.set_and_queue_place-requires
+set_and_queue_place-requires c = record { listed = c.requires.fine.listed }
 
 pub returns-then-covers : goal.returns-then-covers
 unfolding view_of_table
@@ -85,8 +85,8 @@ returns c =
       new = λ w there covers.
           (let no : true ≡ false =
           sym (c.covers.ensures.1 (subst (λ (z : Known). CoversKnown z v) (same_Some w c.in-Some.place.now.value (sym there ∙ at)) covers)) ∙ c.if-covers.false in cc);
-      puts = c.in_ok-put_place_value.ensures.puts c.args.y.now c.requires.there;
-      listed = c.in_ok-put_place_value.ensures.work c.args.y.now c.requires.there;
+      puts = c.in_ok-set_and_queue_place.ensures.puts c.args.y.now c.requires.there;
+      listed = c.in_ok-set_and_queue_place.ensures.work c.args.y.now c.requires.there;
       near = refl;
       readers = refl;
       covered = refl;

@@ -8,25 +8,25 @@ use Rattle.depth_maker.specs.VisitDuties.{OwesDuties, JoinedBy, side_state}
 use Rattle.depth_maker.proofs.PartLemmas.{owes_one, duties_none}
 use Rattle.depth_maker.proofs.join_successors.join_branch_side.Goals as goal
 
-pub returns-then-not-change_on-clause-ok : goal.returns-then-not-change_on-clause-ok
-returns-then-not-change_on-clause-ok c =
+pub returns-then-not-write_branch_change-clause-ok : goal.returns-then-not-write_branch_change-clause-ok
+returns-then-not-write_branch_change-clause-ok c =
     let v = c.args.v.now in
     let side = c.args.side in
-    let e : None ≡ side_state v side.shape side.taken = sym (ap (λ (t : Bool). state_if_possible t (state_after v.state.now c.change_on.new.c)) c.if-not-change_on.true) ∙ c.change_on.ensures.refine in
+    let e : None ≡ side_state v side.shape side.taken = sym (ap (λ (t : Bool). state_if_possible t (state_after v.state.now c.write_branch_change.new.c)) c.if-not-write_branch_change.true) ∙ c.write_branch_change.ensures.refine in
     subst (λ (o : Option State). JoinedBy v c.args.table.now c.args.table.now (jump_on side.to o)) e (duties_none _ _ _ v.key v.addr v.state.now c.args.table.now c.requires.visited.fine)
 
-pub join_jump-requires-clause-owes : goal.join_jump-requires-clause-owes
-join_jump-requires-clause-owes c =
+pub join_successor-requires-clause-owes : goal.join_successor-requires-clause-owes
+join_successor-requires-clause-owes c =
     let v = c.args.v.now in
     let side = c.args.side in
-    let e : Some (state_after v.state.now c.change_on.new.c) ≡ side_state v side.shape side.taken =
-    sym (ap (λ (t : Bool). state_if_possible t (state_after v.state.now c.change_on.new.c)) c.if-not-change_on.false) ∙ c.change_on.ensures.refine in
-    owes_one _ _ _ v.key v.addr v.state.now (owed 4 (jump side.to (state_after v.state.now c.change_on.new.c))) (subst (λ (o : Option State). OwesDuties v (jump_on side.to o)) (sym e) c.requires.owes)
+    let e : Some (state_after v.state.now c.write_branch_change.new.c) ≡ side_state v side.shape side.taken =
+    sym (ap (λ (t : Bool). state_if_possible t (state_after v.state.now c.write_branch_change.new.c)) c.if-not-write_branch_change.false) ∙ c.write_branch_change.ensures.refine in
+    owes_one _ _ _ v.key v.addr v.state.now (owed 4 (jump side.to (state_after v.state.now c.write_branch_change.new.c))) (subst (λ (o : Option State). OwesDuties v (jump_on side.to o)) (sym e) c.requires.owes)
 
 pub returns-clause-ok : goal.returns-clause-ok
 returns-clause-ok c =
     let v = c.args.v.now in
     let side = c.args.side in
-    let e : Some (state_after v.state.now c.change_on.new.c) ≡ side_state v side.shape side.taken =
-    sym (ap (λ (t : Bool). state_if_possible t (state_after v.state.now c.change_on.new.c)) c.if-not-change_on.false) ∙ c.change_on.ensures.refine in
-    subst (λ (o : Option State). OnOk c.join_jump.result (JoinedBy v c.args.table.now c.join_jump.new.table (jump_on side.to o))) e c.join_jump.ensures.ok
+    let e : Some (state_after v.state.now c.write_branch_change.new.c) ≡ side_state v side.shape side.taken =
+    sym (ap (λ (t : Bool). state_if_possible t (state_after v.state.now c.write_branch_change.new.c)) c.if-not-write_branch_change.false) ∙ c.write_branch_change.ensures.refine in
+    subst (λ (o : Option State). OnOk c.join_successor.result (JoinedBy v c.args.table.now c.join_successor.new.table (jump_on side.to o))) e c.join_successor.ensures.ok

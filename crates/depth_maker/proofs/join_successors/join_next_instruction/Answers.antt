@@ -7,16 +7,16 @@ use Rattle.depth_maker.specs.VisitDuties.{OwesDuty, JoinedBy}
 use Rattle.depth_maker.proofs.PartLemmas.{owes_one}
 use Rattle.depth_maker.proofs.join_successors.join_next_instruction.Goals as goal
 
-pub write_visit_change-requires-clause-room : goal.write_visit_change-requires-clause-room
-write_visit_change-requires-clause-room c = let f = c.requires.found in ((f.faultless 8).own c.args.found.now.shape c.args.found.now.size f.code).room refl
+pub write_step_change-requires-clause-room : goal.write_step_change-requires-clause-room
+write_step_change-requires-clause-room c = let f = c.requires.found in ((f.faultless 8).own c.args.found.now.shape c.args.found.now.size f.code).room refl
 
-pub join_first_jump-requires-clause-owes : goal.join_first_jump-requires-clause-owes
-join_first_jump-requires-clause-owes c =
+pub join_first_successor-requires-clause-owes : goal.join_first_successor-requires-clause-owes
+join_first_successor-requires-clause-owes c =
     let v = c.args.v.now in
     let n = machine_address_ahead v.addr c.args.found.now.size in
-    subst (λ (s : State). OwesDuty v (jump n s)) (sym c.write_visit_change.ensures.change) (owes_one _ _ _ v.key v.addr v.state.now (owed 4 (jump n _)) c.requires.owes)
+    subst (λ (s : State). OwesDuty v (jump n s)) (sym c.write_step_change.ensures.change) (owes_one _ _ _ v.key v.addr v.state.now (owed 4 (jump n _)) c.requires.owes)
 
 pub returns-clause-ok : goal.returns-clause-ok
 returns-clause-ok c =
     let v = c.args.v.now in
-    subst (λ (s : State). OnOk c.join_first_jump.result (JoinedBy v c.args.table.now c.join_first_jump.new.table (owed 4 (jump (machine_address_ahead v.addr c.args.found.now.size) s) ∷ []))) c.write_visit_change.ensures.change c.join_first_jump.ensures.ok
+    subst (λ (s : State). OnOk c.join_first_successor.result (JoinedBy v c.args.table.now c.join_first_successor.new.table (owed 4 (jump (machine_address_ahead v.addr c.args.found.now.size) s) ∷ []))) c.write_step_change.ensures.change c.join_first_successor.ensures.ok

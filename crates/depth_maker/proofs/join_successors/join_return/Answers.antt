@@ -10,8 +10,8 @@ use Rattle.depth_maker.proofs.VisitLemmas.{exit_known}
 use Rattle.depth_maker.proofs.PartLemmas.{has_duty, resume_asks, on_resume, duties_queued, duties_resume_none}
 use Rattle.depth_maker.proofs.join_successors.join_return.Goals as goal
 
-pub returns-then-has_queued_mark-clause-ok : goal.returns-then-has_queued_mark-clause-ok
-returns-then-has_queued_mark-clause-ok c = duties_queued _ _ _ _ _ _ c.args.table.now _ c.requires.visited (sym (c.has_queued_mark.ensures _ c.requires.visited.stands) ∙ c.if-has_queued_mark.true)
+pub returns-then-is_place_queued-clause-ok : goal.returns-then-is_place_queued-clause-ok
+returns-then-is_place_queued-clause-ok c = duties_queued _ _ _ _ _ _ c.args.table.now _ c.requires.visited (sym (c.is_place_queued.ensures _ c.requires.visited.stands) ∙ c.if-is_place_queued.true)
 
 pub returns-in_default-clause-ok : goal.returns-in_default-clause-ok
 returns-in_default-clause-ok c =
@@ -35,10 +35,10 @@ join_at_place-requires-clause-incoming c =
     let there : value_for c.args.table.now.places (spots.Exit c.args.key) ≡ Some (leaving x) =
     sym (ap (option_map (λ (m : Marked Known). m.value)) c.in-Some.ensures.value) ∙ ap (λ (w : Known). Some w) (c.in-Some-exit.ensures.some ∙ ap leaving (sym c.in_ok-copy.ensures)) in
     resume_asks _ _ _ v.key v.addr v.state.now c.args.table.now c.args.key c.args.back x there
-    (has_duty _ _ _ v.key v.addr v.state.now c.args.table.now (resume c.args.key c.args.back) c.requires.visited (sym (c.has_queued_mark.ensures _ c.requires.visited.stands) ∙ c.if-has_queued_mark.false) c.requires.owes)
+    (has_duty _ _ _ v.key v.addr v.state.now c.args.table.now (resume c.args.key c.args.back) c.requires.visited (sym (c.is_place_queued.ensures _ c.requires.visited.stands) ∙ c.if-is_place_queued.false) c.requires.owes)
 
 pub join_at_place-requires-clause-at : goal.join_at_place-requires-clause-at
-join_at_place-requires-clause-at c = c.requires.visited.at (sym (c.has_queued_mark.ensures _ c.requires.visited.stands) ∙ c.if-has_queued_mark.false)
+join_at_place-requires-clause-at c = c.requires.visited.at (sym (c.is_place_queued.ensures _ c.requires.visited.stands) ∙ c.if-is_place_queued.false)
 
 pub returns-clause-ok : goal.returns-clause-ok
 returns-clause-ok c =

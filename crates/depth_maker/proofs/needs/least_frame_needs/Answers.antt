@@ -8,8 +8,8 @@ use Rattle.depth_maker.proofs.NeedSteps.{source_within, source_needs}
 use Rattle.depth_maker.proofs.RowSteps.{rows_again}
 use Rattle.depth_maker.proofs.needs.least_frame_needs.Goals as goal
 
-pub needs_by_few_passes-requires-clause-within : goal.needs_by_few_passes-requires-clause-within
-needs_by_few_passes-requires-clause-within c =
+pub needs_in_few_passes-requires-clause-within : goal.needs_in_few_passes-requires-clause-within
+needs_in_few_passes-requires-clause-within c =
     source_within c.args.source.now c.as_slice-frames.result.now c.as_slice.result.now c.requires c.as_slice-frames.ensures.value
     (rows_again c.args.source.now c.in_ok-rows.rows.items _ c.as_slice.result.now c.as_slice.ensures.value c.sort_by_key.ensures.permutation c.in_ok-rows.ensures)
 
@@ -26,7 +26,7 @@ first_recursion-requires-clause-edges c = (
   subst (AreEdges c.as_slice-2.result.now) (sym c.as_slice-4.ensures.keys) c.in_ok-edges.ensures,
 )
 
-pub needs_from_rows-requires-clause-rows : goal.needs_from_rows-requires-clause-rows
-needs_from_rows-requires-clause-rows c =
+pub least_needs_from_rows-requires-clause-rows : goal.least_needs_from_rows-requires-clause-rows
+least_needs_from_rows-requires-clause-rows c =
     rows_again c.args.source.now c.sort_by_key.new.self.items _ c.as_slice-6.result.now c.as_slice-6.ensures.value c.sort_by_key-2.ensures.permutation
     (rows_again c.args.source.now c.in_ok-rows.rows.items _ _ refl c.sort_by_key.ensures.permutation c.in_ok-rows.ensures)

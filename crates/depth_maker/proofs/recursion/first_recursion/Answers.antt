@@ -25,8 +25,8 @@ first_recursive_node-requires c =
 pub returns-in_default : goal.returns-in_default
 returns-in_default c = none_recurs c.args.source.now c.requires.source c.args.edges.now c.requires.edges (rw c.in_default.is at c.in_ok-node.ensures)
 
-pub nodes_reaching-requires-clause-edges : goal.nodes_reaching-requires-clause-edges
-nodes_reaching-requires-clause-edges c =
+pub reaching_marks-requires-clause-edges : goal.reaching_marks-requires-clause-edges
+reaching_marks-requires-clause-edges c =
     subst (λ (l : List Key). AreEdgesBetween c.args.edges.now (length l)) (sym c.requires.frames) (edges_within c.args.source.now c.requires.source c.args.edges.now c.requires.edges)
 
 pub returns : goal.returns

@@ -5,8 +5,8 @@ use Rattle.depth_maker.specs.TableView.{view_of_table}
 use Rattle.depth_maker.proofs.RowSteps.{all_known, done_well_formed, known_there, read_there}
 use Rattle.depth_maker.proofs.rows.point_row.Goals as goal
 
-pub read_state-requires : goal.read_state-requires
-read_state-requires c =
+pub write_state-requires : goal.write_state-requires
+write_state-requires c =
     let s = c.args.source.now in
     let at = c.args.at.now in
     done_well_formed s.ground.now s.table.now (c.requires.source).done (Point at.key at.addr) _ (known_there s at c.requires.at)
@@ -16,7 +16,7 @@ check_local_rules-requires c =
     let s = c.args.source.now in
     let at = c.args.at.now in
     let done = (c.requires.source).done in
-    let there = read_there s.ground.now s.table.now done at.key at.addr _ c.state.result.now (known_there s at c.requires.at) (subst (IsKnownState at.known.now.value) (sym c.state.ensures) c.read_state.ensures) in
+    let there = read_there s.ground.now s.table.now done at.key at.addr _ c.state.result.now (known_there s at c.requires.at) (subst (IsKnownState at.known.now.value) (sym c.state.ensures) c.write_state.ensures) in
     (done_well_formed s.ground.now s.table.now done (Point at.key at.addr) (state c.state.result.now) there).values
 
 pub visited_point_row-requires-clause-well_formed : goal.visited_point_row-requires-clause-well_formed
@@ -24,7 +24,7 @@ visited_point_row-requires-clause-well_formed c =
     let s = c.args.source.now in
     let at = c.args.at.now in
     let done = (c.requires.source).done in
-    let there = read_there s.ground.now s.table.now done at.key at.addr _ c.state.result.now (known_there s at c.requires.at) (subst (IsKnownState at.known.now.value) (sym c.state.ensures) c.read_state.ensures) in
+    let there = read_there s.ground.now s.table.now done at.key at.addr _ c.state.result.now (known_there s at c.requires.at) (subst (IsKnownState at.known.now.value) (sym c.state.ensures) c.write_state.ensures) in
     done_well_formed s.ground.now s.table.now done (Point at.key at.addr) (state c.state.result.now) there
 
 pub returns : goal.returns
@@ -33,7 +33,7 @@ returns c =
     let s = c.args.source.now in
     let at = c.args.at.now in
     let source = c.requires.source in
-    let there = read_there s.ground.now s.table.now source.done at.key at.addr _ c.state.result.now (known_there s at c.requires.at) (subst (IsKnownState at.known.now.value) (sym c.state.ensures) c.read_state.ensures) in
+    let there = read_there s.ground.now s.table.now source.done at.key at.addr _ c.state.result.now (known_there s at c.requires.at) (subst (IsKnownState at.known.now.value) (sym c.state.ensures) c.write_state.ensures) in
     (c.state.result.now, there, c.in_ok-visited_point_row-in-Ok.ensures s.table.now.frames.items (record { all = source.numbers; taken = source.handlers }) (all_known _ s.table.now source.done there) (c.requires.at).node)
 
 pub unreachable-requires : goal.unreachable-requires
@@ -42,5 +42,5 @@ unreachable-requires c =
     let s = c.args.source.now in
     let at = c.args.at.now in
     let done = (c.requires.source).done in
-    let there = read_there s.ground.now s.table.now done at.key at.addr _ c.state.result.now (known_there s at c.requires.at) (subst (IsKnownState at.known.now.value) (sym c.state.ensures) c.read_state.ensures) in
+    let there = read_there s.ground.now s.table.now done at.key at.addr _ c.state.result.now (known_there s at c.requires.at) (subst (IsKnownState at.known.now.value) (sym c.state.ensures) c.write_state.ensures) in
     c.in-Err.ensures.fault.fails (done.faultless at.key at.addr c.state.result.now there _)

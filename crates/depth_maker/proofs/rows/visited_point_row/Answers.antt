@@ -31,7 +31,7 @@ returns c frames are all node =
       node = node;
       held = c.len.ensures.value;
       into =
-          c.in_ok-add_taken_handlers.ensures
+          c.in_ok-append_handlers_if_enabled.ensures
           ∙ ap (λ (l : List ℕ). l ++ taken_handlers (v.state.now).ie (v.state.now).ccpn c.args.source.now.handlers.now) first
           ∙ ap (λ (l : List ℕ). map (frame_number_in frames) own ++ l) second
           ∙ sym (ap (map (frame_number_in frames)) whole ∙ map-append (frame_number_in frames) own irqs);

@@ -10,9 +10,9 @@ unfolding duties_of
 returns-clause-ok c =
     let v = c.args.v.now in
     let f = c.args.found.now in
-    on_five _ _ _ v.key v.addr v.state.now (lawful _ _ _ v.ground.now.sound) c.args.table.now c.join_successors.new.table c.join_entries.new.table c.join_access_entry.new.table c.join_interrupts.new.table c.join_exit_if_left.new.table
-    (jump_duties v f) (entry_duties v f.shape f.size) (access_duties v f) (interrupt_duties v) (exit_duties_of v.key v.state.now f.shape) c.join_exit_if_left.result c.requires.visited
-    (owes_duties _ _ _ v.key v.addr v.state.now f c.requires.found) c.in_ok-join_successors.ensures.ok c.in_ok-join_entries.ensures.ok c.in_ok-join_access_entry.ensures.ok c.in_ok-join_interrupts.ensures.ok c.join_exit_if_left.ensures.ok
+    on_five _ _ _ v.key v.addr v.state.now (lawful _ _ _ v.ground.now.sound) c.args.table.now c.join_successors.new.table c.join_entry_duties.new.table c.join_access_duties.new.table c.join_irq_duties.new.table c.join_exit_if_leaving.new.table
+    (jump_duties v f) (entry_duties v f.shape f.size) (access_duties v f) (interrupt_duties v) (exit_duties_of v.key v.state.now f.shape) c.join_exit_if_leaving.result c.requires.visited
+    (owes_duties _ _ _ v.key v.addr v.state.now f c.requires.found) c.in_ok-join_successors.ensures.ok c.in_ok-join_entry_duties.ensures.ok c.in_ok-join_access_duties.ensures.ok c.in_ok-join_irq_duties.ensures.ok c.join_exit_if_leaving.ensures.ok
 
 pub join_successors-requires-clause-owes : goal.join_successors-requires-clause-owes
 unfolding duties_of
@@ -22,58 +22,58 @@ join_successors-requires-clause-owes c =
     let a = jump_duties v f in let b = entry_duties v f.shape f.size in let d = access_duties v f in let e = interrupt_duties v in let l = exit_duties_of v.key v.state.now f.shape in
     owes_front _ _ _ v.key v.addr v.state.now a b (owes_front _ _ _ v.key v.addr v.state.now (a ++ b) d (owes_front _ _ _ v.key v.addr v.state.now (a ++ b ++ d) e (owes_front _ _ _ v.key v.addr v.state.now (a ++ b ++ d ++ e) l (owes_duties _ _ _ v.key v.addr v.state.now f c.requires.found))))
 
-pub join_entries-requires-clause-owes : goal.join_entries-requires-clause-owes
+pub join_entry_duties-requires-clause-owes : goal.join_entry_duties-requires-clause-owes
 unfolding duties_of
-join_entries-requires-clause-owes c =
+join_entry_duties-requires-clause-owes c =
     let v = c.args.v.now in
     let f = c.args.found.now in
     let a = jump_duties v f in let b = entry_duties v f.shape f.size in let d = access_duties v f in let e = interrupt_duties v in let l = exit_duties_of v.key v.state.now f.shape in
     owes_back _ _ _ v.key v.addr v.state.now a b (owes_front _ _ _ v.key v.addr v.state.now (a ++ b) d (owes_front _ _ _ v.key v.addr v.state.now (a ++ b ++ d) e (owes_front _ _ _ v.key v.addr v.state.now (a ++ b ++ d ++ e) l (owes_duties _ _ _ v.key v.addr v.state.now f c.requires.found))))
 
-pub join_access_entry-requires-clause-owes : goal.join_access_entry-requires-clause-owes
+pub join_access_duties-requires-clause-owes : goal.join_access_duties-requires-clause-owes
 unfolding duties_of
-join_access_entry-requires-clause-owes c =
+join_access_duties-requires-clause-owes c =
     let v = c.args.v.now in
     let f = c.args.found.now in
     let a = jump_duties v f in let b = entry_duties v f.shape f.size in let d = access_duties v f in let e = interrupt_duties v in let l = exit_duties_of v.key v.state.now f.shape in
     owes_back _ _ _ v.key v.addr v.state.now (a ++ b) d (owes_front _ _ _ v.key v.addr v.state.now (a ++ b ++ d) e (owes_front _ _ _ v.key v.addr v.state.now (a ++ b ++ d ++ e) l (owes_duties _ _ _ v.key v.addr v.state.now f c.requires.found)))
 
-pub join_interrupts-requires-clause-owes : goal.join_interrupts-requires-clause-owes
+pub join_irq_duties-requires-clause-owes : goal.join_irq_duties-requires-clause-owes
 unfolding duties_of
-join_interrupts-requires-clause-owes c =
+join_irq_duties-requires-clause-owes c =
     let v = c.args.v.now in
     let f = c.args.found.now in
     let a = jump_duties v f in let b = entry_duties v f.shape f.size in let d = access_duties v f in let e = interrupt_duties v in let l = exit_duties_of v.key v.state.now f.shape in
     owes_back _ _ _ v.key v.addr v.state.now (a ++ b ++ d) e (owes_front _ _ _ v.key v.addr v.state.now (a ++ b ++ d ++ e) l (owes_duties _ _ _ v.key v.addr v.state.now f c.requires.found))
 
-pub join_exit_if_left-requires-clause-owes : goal.join_exit_if_left-requires-clause-owes
+pub join_exit_if_leaving-requires-clause-owes : goal.join_exit_if_leaving-requires-clause-owes
 unfolding duties_of
-join_exit_if_left-requires-clause-owes c =
+join_exit_if_leaving-requires-clause-owes c =
     let v = c.args.v.now in
     let f = c.args.found.now in
     let a = jump_duties v f in let b = entry_duties v f.shape f.size in let d = access_duties v f in let e = interrupt_duties v in let l = exit_duties_of v.key v.state.now f.shape in
     owes_back _ _ _ v.key v.addr v.state.now (a ++ b ++ d ++ e) l (owes_duties _ _ _ v.key v.addr v.state.now f c.requires.found)
 
-pub join_entries-requires-clause-visited : goal.join_entries-requires-clause-visited
-join_entries-requires-clause-visited c = let v = c.args.v.now in visited_after _ _ _ v.key v.addr v.state.now c.args.table.now _ _ c.requires.visited c.in_ok-join_successors.ensures.ok
+pub join_entry_duties-requires-clause-visited : goal.join_entry_duties-requires-clause-visited
+join_entry_duties-requires-clause-visited c = let v = c.args.v.now in visited_after _ _ _ v.key v.addr v.state.now c.args.table.now _ _ c.requires.visited c.in_ok-join_successors.ensures.ok
 
-pub join_access_entry-requires-clause-visited : goal.join_access_entry-requires-clause-visited
-join_access_entry-requires-clause-visited c =
+pub join_access_duties-requires-clause-visited : goal.join_access_duties-requires-clause-visited
+join_access_duties-requires-clause-visited c =
     let v = c.args.v.now in
-    visited_after _ _ _ v.key v.addr v.state.now _ _ _ (visited_after _ _ _ v.key v.addr v.state.now c.args.table.now _ _ c.requires.visited c.in_ok-join_successors.ensures.ok) c.in_ok-join_entries.ensures.ok
+    visited_after _ _ _ v.key v.addr v.state.now _ _ _ (visited_after _ _ _ v.key v.addr v.state.now c.args.table.now _ _ c.requires.visited c.in_ok-join_successors.ensures.ok) c.in_ok-join_entry_duties.ensures.ok
 
-pub join_interrupts-requires-clause-visited : goal.join_interrupts-requires-clause-visited
-join_interrupts-requires-clause-visited c =
+pub join_irq_duties-requires-clause-visited : goal.join_irq_duties-requires-clause-visited
+join_irq_duties-requires-clause-visited c =
     let v = c.args.v.now in
     visited_after _ _ _ v.key v.addr v.state.now _ _ _
-    (visited_after _ _ _ v.key v.addr v.state.now _ _ _ (visited_after _ _ _ v.key v.addr v.state.now c.args.table.now _ _ c.requires.visited c.in_ok-join_successors.ensures.ok) c.in_ok-join_entries.ensures.ok)
-    c.in_ok-join_access_entry.ensures.ok
+    (visited_after _ _ _ v.key v.addr v.state.now _ _ _ (visited_after _ _ _ v.key v.addr v.state.now c.args.table.now _ _ c.requires.visited c.in_ok-join_successors.ensures.ok) c.in_ok-join_entry_duties.ensures.ok)
+    c.in_ok-join_access_duties.ensures.ok
 
-pub join_exit_if_left-requires-clause-visited : goal.join_exit_if_left-requires-clause-visited
-join_exit_if_left-requires-clause-visited c =
+pub join_exit_if_leaving-requires-clause-visited : goal.join_exit_if_leaving-requires-clause-visited
+join_exit_if_leaving-requires-clause-visited c =
     let v = c.args.v.now in
     visited_after _ _ _ v.key v.addr v.state.now _ _ _
     (visited_after _ _ _ v.key v.addr v.state.now _ _ _
-    (visited_after _ _ _ v.key v.addr v.state.now _ _ _ (visited_after _ _ _ v.key v.addr v.state.now c.args.table.now _ _ c.requires.visited c.in_ok-join_successors.ensures.ok) c.in_ok-join_entries.ensures.ok)
-    c.in_ok-join_access_entry.ensures.ok)
-    c.in_ok-join_interrupts.ensures.ok
+    (visited_after _ _ _ v.key v.addr v.state.now _ _ _ (visited_after _ _ _ v.key v.addr v.state.now c.args.table.now _ _ c.requires.visited c.in_ok-join_successors.ensures.ok) c.in_ok-join_entry_duties.ensures.ok)
+    c.in_ok-join_access_duties.ensures.ok)
+    c.in_ok-join_irq_duties.ensures.ok

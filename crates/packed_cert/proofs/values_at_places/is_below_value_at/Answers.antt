@@ -17,24 +17,24 @@ returns-then-tag-eq0 c =
     let s = stands_at c.args.version c.args.bytes.now c.args.place (λ k. (c.type_inv.bytes k).fits) c.requires.stands in
     ((λ t. subst (λ (w : Val). IsBelow c.args.v.now w) (sym (s.shape.any (omega (arith, c.if-tag-eq0.true)))) (below_any c.args.v.now c.requires.well)), (λ below. refl))
 
-pub has_words_at-requires : goal.has_words_at-requires
-has_words_at-requires c =
+pub is_set_of_words_at-requires : goal.is_set_of_words_at-requires
+is_set_of_words_at-requires c =
     let s = stands_at c.args.version c.args.bytes.now c.args.place (λ k. (c.type_inv.bytes k).fits) c.requires.stands in
     omega (arith, s.within, long_set (get_or c.args.bytes.now c.args.place 0) (omega (arith, c.if-tag-eq0.false)) (omega (arith, c.if-tag-gt-MOST_WORDS.false)))
 
-pub returns-then-has_words_at : goal.returns-then-has_words_at
-returns-then-has_words_at c =
+pub returns-then-is_set_of_words_at : goal.returns-then-is_set_of_words_at
+returns-then-is_set_of_words_at c =
     let s = stands_at c.args.version c.args.bytes.now c.args.place (λ k. (c.type_inv.bytes k).fits) c.requires.stands in
     let is = s.shape.set (omega (arith, c.if-tag-eq0.false)) (omega (arith, c.if-tag-gt-MOST_WORDS.false)) in
-    ((λ t x m. subst (λ (w : Val). IsMember x w) (c.has_words_at.ensures c.if-has_words_at.true ∙ sym is) m), (λ below. refl))
+    ((λ t x m. subst (λ (w : Val). IsMember x w) (c.is_set_of_words_at.ensures c.if-is_set_of_words_at.true ∙ sym is) m), (λ below. refl))
 
-pub are_words_covered_at-requires-clause-within : goal.are_words_covered_at-requires-clause-within
-are_words_covered_at-requires-clause-within c =
+pub are_words_in_set_at-requires-clause-within : goal.are_words_in_set_at-requires-clause-within
+are_words_in_set_at-requires-clause-within c =
     let s = stands_at c.args.version c.args.bytes.now c.args.place (λ k. (c.type_inv.bytes k).fits) c.requires.stands in
     omega (arith, s.within, long_set (get_or c.args.bytes.now c.args.place 0) (omega (arith, c.if-tag-eq0.false)) (omega (arith, c.if-tag-gt-MOST_WORDS.false)))
 
-pub are_words_covered_at-requires-clause-words : goal.are_words_covered_at-requires-clause-words
-are_words_covered_at-requires-clause-words c =
+pub are_words_in_set_at-requires-clause-words : goal.are_words_in_set_at-requires-clause-words
+are_words_in_set_at-requires-clause-words c =
     let s = stands_at c.args.version c.args.bytes.now c.args.place (λ k. (c.type_inv.bytes k).fits) c.requires.stands in
     set_rising c.args.version _ (subst (IsWellFormedCertValue c.args.version) (s.shape.set (omega (arith, c.if-tag-eq0.false)) (omega (arith, c.if-tag-gt-MOST_WORDS.false))) s.well)
 
@@ -43,5 +43,5 @@ returns-in-Set c =
     let s = stands_at c.args.version c.args.bytes.now c.args.place (λ k. (c.type_inv.bytes k).fits) c.requires.stands in
     let is = s.shape.set (omega (arith, c.if-tag-eq0.false)) (omega (arith, c.if-tag-gt-MOST_WORDS.false)) in
     let words = words_at c.args.bytes.now (c.args.place + 1) (get_or c.args.bytes.now c.args.place 0) in
-    subst (λ (w : Val). IsTrue c.are_words_covered_at.result ↔ IsBelow c.args.v.now w) (sym is)
-    (subst (λ (v : Val). IsTrue c.are_words_covered_at.result ↔ IsBelow v (Set words)) (sym c.in-Set.is) (rw c.as_slice.ensures.items at c.are_words_covered_at.ensures))
+    subst (λ (w : Val). IsTrue c.are_words_in_set_at.result ↔ IsBelow c.args.v.now w) (sym is)
+    (subst (λ (v : Val). IsTrue c.are_words_in_set_at.result ↔ IsBelow v (Set words)) (sym c.in-Set.is) (rw c.as_slice.ensures.items at c.are_words_in_set_at.ensures))

@@ -12,23 +12,23 @@ returns-then-tag-eq0 c =
     let s = stands_at c.args.version c.args.bytes.now c.args.place (λ k. (c.type_inv.bytes k).fits) c.requires in
     c.write_any.ensures ∙ sym (s.shape.any (omega (arith, c.if-tag-eq0.true)))
 
-pub read_value_word-requires : goal.read_value_word-requires
-read_value_word-requires c =
+pub word_at_place-requires : goal.word_at_place-requires
+word_at_place-requires c =
     let s = stands_at c.args.version c.args.bytes.now c.args.place (λ k. (c.type_inv.bytes k).fits) c.requires in
     one_inside c.args.bytes.now c.args.place (omega (arith, c.if-tag-eq1.true)) s.within
 
 pub returns-then-tag-eq1 : goal.returns-then-tag-eq1
 returns-then-tag-eq1 c =
     let s = stands_at c.args.version c.args.bytes.now c.args.place (λ k. (c.type_inv.bytes k).fits) c.requires in
-    c.set_words.ensures ∙ ap (λ (x : ℕ). Set (x ∷ [])) c.read_value_word.ensures ∙ sym (one_value c.args.version c.args.bytes.now c.args.place (omega (arith, c.if-tag-eq1.true)) s)
+    c.set_words.ensures ∙ ap (λ (x : ℕ). Set (x ∷ [])) c.word_at_place.ensures ∙ sym (one_value c.args.version c.args.bytes.now c.args.place (omega (arith, c.if-tag-eq1.true)) s)
 
-pub read_value_word-lo-requires : goal.read_value_word-lo-requires
-read_value_word-lo-requires c =
+pub word_at_place-lo-requires : goal.word_at_place-lo-requires
+word_at_place-lo-requires c =
     let s = stands_at c.args.version c.args.bytes.now c.args.place (λ k. (c.type_inv.bytes k).fits) c.requires in
     omega (arith, s.within, long_span (get_or c.args.bytes.now c.args.place 0) (omega (arith, c.if-tag-gt-MOST_WORDS.true)))
 
-pub read_value_word-last-requires : goal.read_value_word-last-requires
-read_value_word-last-requires c =
+pub word_at_place-last-requires : goal.word_at_place-last-requires
+word_at_place-last-requires c =
     let s = stands_at c.args.version c.args.bytes.now c.args.place (λ k. (c.type_inv.bytes k).fits) c.requires in
     omega (arith, s.within, long_span (get_or c.args.bytes.now c.args.place 0) (omega (arith, c.if-tag-gt-MOST_WORDS.true)))
 
@@ -38,44 +38,44 @@ overflow_sub-tag c = ((stands_at c.args.version c.args.bytes.now c.args.place (�
 pub returns-then-tag-gt-MOST_WORDS : goal.returns-then-tag-gt-MOST_WORDS
 returns-then-tag-gt-MOST_WORDS c =
     let s = stands_at c.args.version c.args.bytes.now c.args.place (λ k. (c.type_inv.bytes k).fits) c.requires in
-    (rw (c.read_value_word-lo.ensures, c.read_value_word-last.ensures) at c.set_span.ensures) ∙ sym (s.shape.span (omega (arith, c.if-tag-gt-MOST_WORDS.true))).1
+    (rw (c.word_at_place-lo.ensures, c.word_at_place-last.ensures) at c.set_span.ensures) ∙ sym (s.shape.span (omega (arith, c.if-tag-gt-MOST_WORDS.true))).1
 
-pub has_words_at-requires : goal.has_words_at-requires
-has_words_at-requires c =
+pub is_set_of_words_at-requires : goal.is_set_of_words_at-requires
+is_set_of_words_at-requires c =
     let s = stands_at c.args.version c.args.bytes.now c.args.place (λ k. (c.type_inv.bytes k).fits) c.requires in
     omega (arith, s.within, long_set (get_or c.args.bytes.now c.args.place 0) (omega (arith, c.if-tag-eq0.false)) (omega (arith, c.if-tag-gt-MOST_WORDS.false)))
 
-pub returns-then-has_words_at : goal.returns-then-has_words_at
-returns-then-has_words_at c =
+pub returns-then-is_set_of_words_at : goal.returns-then-is_set_of_words_at
+returns-then-is_set_of_words_at c =
     let s = stands_at c.args.version c.args.bytes.now c.args.place (λ k. (c.type_inv.bytes k).fits) c.requires in
-    c.has_words_at.ensures c.if-has_words_at.true ∙ sym (s.shape.set (omega (arith, c.if-tag-eq0.false)) (omega (arith, c.if-tag-gt-MOST_WORDS.false)))
+    c.is_set_of_words_at.ensures c.if-is_set_of_words_at.true ∙ sym (s.shape.set (omega (arith, c.if-tag-eq0.false)) (omega (arith, c.if-tag-gt-MOST_WORDS.false)))
 
-pub make_set_at_place-requires-clause-within : goal.make_set_at_place-requires-clause-within
-make_set_at_place-requires-clause-within c =
+pub read_set_at_place-requires-clause-within : goal.read_set_at_place-requires-clause-within
+read_set_at_place-requires-clause-within c =
     let s = stands_at c.args.version c.args.bytes.now c.args.place (λ k. (c.type_inv.bytes k).fits) c.requires in
     omega (arith, s.within, long_set (get_or c.args.bytes.now c.args.place 0) (omega (arith, c.if-tag-eq0.false)) (omega (arith, c.if-tag-gt-MOST_WORDS.false)))
 
-pub make_set_at_place-requires-clause-words : goal.make_set_at_place-requires-clause-words
-make_set_at_place-requires-clause-words c =
+pub read_set_at_place-requires-clause-words : goal.read_set_at_place-requires-clause-words
+read_set_at_place-requires-clause-words c =
     let s = stands_at c.args.version c.args.bytes.now c.args.place (λ k. (c.type_inv.bytes k).fits) c.requires in
     set_good c.args.version _ (subst (IsWellFormedCertValue c.args.version) (s.shape.set (omega (arith, c.if-tag-eq0.false)) (omega (arith, c.if-tag-gt-MOST_WORDS.false))) s.well)
 
-pub make_set_at_place-requires-else-tag-le8-clause-within : goal.make_set_at_place-requires-else-tag-le8-clause-within
-make_set_at_place-requires-else-tag-le8-clause-within c =
+pub read_set_at_place-requires-else-tag-le8-clause-within : goal.read_set_at_place-requires-else-tag-le8-clause-within
+read_set_at_place-requires-else-tag-le8-clause-within c =
     let s = stands_at c.args.version c.args.bytes.now c.args.place (λ k. (c.type_inv.bytes k).fits) c.requires in
     omega (arith, s.within, long_set (get_or c.args.bytes.now c.args.place 0) (omega (arith, c.if-tag-eq0.false)) (omega (arith, c.if-tag-gt-MOST_WORDS.false)))
 
-pub make_set_at_place-requires-else-tag-le8-clause-words : goal.make_set_at_place-requires-else-tag-le8-clause-words
-make_set_at_place-requires-else-tag-le8-clause-words c =
+pub read_set_at_place-requires-else-tag-le8-clause-words : goal.read_set_at_place-requires-else-tag-le8-clause-words
+read_set_at_place-requires-else-tag-le8-clause-words c =
     let s = stands_at c.args.version c.args.bytes.now c.args.place (λ k. (c.type_inv.bytes k).fits) c.requires in
     set_good c.args.version _ (subst (IsWellFormedCertValue c.args.version) (s.shape.set (omega (arith, c.if-tag-eq0.false)) (omega (arith, c.if-tag-gt-MOST_WORDS.false))) s.well)
 
 pub returns-then-tag-le8 : goal.returns-then-tag-le8
 returns-then-tag-le8 c =
     let s = stands_at c.args.version c.args.bytes.now c.args.place (λ k. (c.type_inv.bytes k).fits) c.requires in
-    c.make_set_at_place.ensures ∙ sym (s.shape.set (omega (arith, c.if-tag-eq0.false)) (omega (arith, c.if-tag-gt-MOST_WORDS.false)))
+    c.read_set_at_place.ensures ∙ sym (s.shape.set (omega (arith, c.if-tag-eq0.false)) (omega (arith, c.if-tag-gt-MOST_WORDS.false)))
 
 pub returns-else-tag-le8 : goal.returns-else-tag-le8
 returns-else-tag-le8 c =
     let s = stands_at c.args.version c.args.bytes.now c.args.place (λ k. (c.type_inv.bytes k).fits) c.requires in
-    c.make_set_at_place-else-tag-le8.ensures ∙ sym (s.shape.set (omega (arith, c.if-tag-eq0.false)) (omega (arith, c.if-tag-gt-MOST_WORDS.false)))
+    c.read_set_at_place-else-tag-le8.ensures ∙ sym (s.shape.set (omega (arith, c.if-tag-eq0.false)) (omega (arith, c.if-tag-gt-MOST_WORDS.false)))

@@ -14,8 +14,8 @@ overflow_add-place c =
     let v = c.as_slice-known.ensures.value in
     omega (
       arith,
-      c.count_incoming-count.ensures.long,
-      c.count_incoming-count.ensures.few,
+      c.count_incoming_values-count.ensures.long,
+      c.count_incoming_values-count.ensures.few,
       c.requires.long,
       c.loop-n.invariant.0,
       ap (λ (s : SpacedValue). s.anys) c.index-known-n.is,
@@ -27,8 +27,8 @@ overflow_add-at c =
     let v = c.as_slice-known.ensures.value in
     omega (
       arith,
-      c.count_incoming-count.ensures.long,
-      c.count_incoming-count.ensures.few,
+      c.count_incoming_values-count.ensures.long,
+      c.count_incoming_values-count.ensures.few,
       c.requires.long,
       c.loop-n.invariant.0,
       ap (λ (s : SpacedValue). s.anys) c.index-known-n.is,
@@ -72,15 +72,15 @@ join_incoming-requires-clause-value c =
       is_within known c.args.left.now.rest c.loop-n.n here (rw v at c.loop-n-test.true) (rw v at c.index-known-n.is),
     )))
 
-pub add_spaced-requires : goal.add_spaced-requires
-add_spaced-requires c =
+pub push_after_unknowns-requires : goal.push_after_unknowns-requires
+push_after_unknowns-requires c =
     let v = c.as_slice-known.ensures.value in
     let known = c.args.left.now.known.items in
     let within = is_within known c.args.left.now.rest c.loop-n.n c.index-known-n.result (rw v at c.loop-n-test.true) (rw v at c.index-known-n.is) in
     omega (
       arith,
-      c.count_incoming-count.ensures.long,
-      c.count_incoming-count.ensures.few,
+      c.count_incoming_values-count.ensures.long,
+      c.count_incoming_values-count.ensures.few,
       c.requires.long,
       c.loop-n.invariant.0,
       ap (λ (s : SpacedValue). s.anys) c.index-known-n.is,
@@ -100,23 +100,23 @@ loop-n-preserved c =
     let is = rw v at c.index-known-n.is in
     let values = joined_regs b (all_values c.args.left.now) ws in (
       omega (arith, c.loop-n.invariant.0, ap (λ (s : SpacedValue). s.anys) c.index-known-n.is, length-front known rest c.loop-n.n here lt is),
-      c.in_ok-add_spaced.ensures
+      c.in_ok-push_after_unknowns.ensures
           ∙ ap (λ (l : List Val). (l ++ replicate here.anys any_val) ++ c.in_ok-value.value ∷ []) c.loop-n.invariant.1
           ∙ ap (λ (u : Val). (take c.loop-n.at values ++ replicate here.anys any_val) ++ u ∷ [])
           (c.in_ok-value.ensures ∙ ap (λ (u : Val). join_of b here.value u) c.incoming_value.ensures)
           ∙ sym (joined_more b known rest ws c.requires.long c.requires.left c.requires.incoming c.loop-n.n here lt is c.loop-n.at c.loop-n.invariant.0),
     )
 
-pub add_anys-requires : goal.add_anys-requires
-add_anys-requires c =
+pub push_unknowns-requires : goal.push_unknowns-requires
+push_unknowns-requires c =
     let v = c.as_slice-known.ensures.value in
     let known = c.args.left.now.known.items in
     let ws = incoming_values c.args.incoming.now in
     let whole = ap (λ (l : List SpacedValue). length (compact_front l)) (take_all c.loop-n.n known (rw v at c.loop-n-test.false)) in
     omega (
       arith,
-      c.count_incoming-count.ensures.long,
-      c.count_incoming-count.ensures.few,
+      c.count_incoming_values-count.ensures.long,
+      c.count_incoming_values-count.ensures.few,
       c.requires.long,
       c.loop-n.invariant.0,
       whole,
@@ -133,6 +133,6 @@ returns c =
     let ws = incoming_values c.args.incoming.now in
     let values = joined_regs b (all_values c.args.left.now) ws in
     let whole = c.loop-n.invariant.0 ∙ ap (λ (l : List SpacedValue). length (compact_front l)) (take_all c.loop-n.n known (rw v at c.loop-n-test.false)) in
-    c.add_anys.ensures
+    c.push_unknowns.ensures
     ∙ ap (λ (l : List Val). l ++ replicate rest any_val) (c.loop-n.invariant.1 ∙ ap (λ (m : ℕ). take m values) whole)
     ∙ joined_rest b known rest ws c.requires.long c.requires.left c.requires.incoming

@@ -23,29 +23,29 @@ more_anys old new count n e long =
     ap (λ (l : List Val). length l) e ∙ length-append old (replicate count any_val) ∙ ap (λ (m : ℕ). m + length (replicate count any_val)) long
     ∙ ap (λ (m : ℕ). n + m) (length-replicate count any_val)
 
-pub add_part-requires-clause-few : goal.add_part-requires-clause-few
-add_part-requires-clause-few c =
+pub extend_from_range-requires-clause-few : goal.extend_from_range-requires-clause-few
+extend_from_range-requires-clause-few c =
     let none = begun _ c.in_ok-with_capacity.ensures.items in
     omega (arith, ap (λ (l : List Val). length l) none)
 
-pub add_anys-requires : goal.add_anys-requires
-add_anys-requires c =
+pub push_unknowns-requires : goal.push_unknowns-requires
+push_unknowns-requires c =
     let none = begun _ c.in_ok-with_capacity.ensures.items in
-    let one = more _ _ _ _ _ _ c.in_ok-add_part.ensures (ap (λ (l : List Val). length l) none) in
+    let one = more _ _ _ _ _ _ c.in_ok-extend_from_range.ensures (ap (λ (l : List Val). length l) none) in
     omega (arith, one)
 
-pub add_part-requires-2-clause-few : goal.add_part-requires-2-clause-few
-add_part-requires-2-clause-few c =
+pub extend_from_range-requires-2-clause-few : goal.extend_from_range-requires-2-clause-few
+extend_from_range-requires-2-clause-few c =
     let none = begun _ c.in_ok-with_capacity.ensures.items in
-    let one = more _ _ _ _ _ _ c.in_ok-add_part.ensures (ap (λ (l : List Val). length l) none) in
-    let two = more_anys _ _ 6 16 c.add_anys.ensures one in
+    let one = more _ _ _ _ _ _ c.in_ok-extend_from_range.ensures (ap (λ (l : List Val). length l) none) in
+    let two = more_anys _ _ 6 16 c.push_unknowns.ensures one in
     omega (arith, two)
 
 pub returns : goal.returns
 returns c =
     let own = all_values c.args.own.now in
     let none = begun _ c.in_ok-with_capacity.ensures.items in
-    c.in_ok-add_part-2.ensures
+    c.in_ok-extend_from_range-2.ensures
     ∙ ap (λ (l : List Val). l ++ values_from own 22 5)
-    (c.add_anys.ensures ∙ ap (λ (l : List Val). l ++ replicate 6 any_val) (c.in_ok-add_part.ensures ∙ ap (λ (l : List Val). l ++ values_from own 8 8) none))
+    (c.push_unknowns.ensures ∙ ap (λ (l : List Val). l ++ replicate 6 any_val) (c.in_ok-extend_from_range.ensures ∙ ap (λ (l : List Val). l ++ values_from own 8 8) none))
     ∙ forgotten_parts own c.requires

@@ -34,7 +34,7 @@ loop-n-preserved c =
     let gap = c.if-before-here.false in
     elim c.if-not-is_equal.branch [
       | then-not-is_equal w ↦
-          rw (w.regs-is, w.same-is, w.replace.ensures) (
+          rw (w.regs-is, w.same-is, w.write_to-then-not-is_equal.ensures) (
             one_written known last rest c.loop-n.n c.loop-n.at c.loop-n.regs here before lt is lt_last was gap c.loop-n.invariant.0,
             simp length-set c.loop-n.invariant.1,
             c.loop-n.invariant.2,

@@ -15,8 +15,8 @@ returns-then-len-lt-MOST_TASKS-clause-ok c =
     let some : 0 < length c.args.line.now = search rules in
     let there : IsSome c.args.draft.now.places = search rules in
     let few = c.if-len-lt-MOST_TASKS.true in
-    takes_task c.args.draft.now c.args.number c.args.line.now some _ (task_of_pair (c.in-Some-task_pair_in_line.entry, c.in-Some-task_pair_in_line.sp)) there
-    (sym (ap (option_map task_of_pair) (c.in-Some-task_pair_in_line.ensures ∙ ap (λ name. task_pair_of_words name (line_words c.args.line.now)) c.as_slice.ensures))) refl (λ lt. (c.push.ensures.items, refl))
+    takes_task c.args.draft.now c.args.number c.args.line.now some _ (task_of_pair (c.in-Some-number_pair_in_line.entry, c.in-Some-number_pair_in_line.sp)) there
+    (sym (ap (option_map task_of_pair) (c.in-Some-number_pair_in_line.ensures ∙ ap (λ name. task_pair_of_words name (line_words c.args.line.now)) c.as_slice.ensures))) refl (λ lt. (c.push.ensures.items, refl))
     (λ many. absurd (omega (arith, c.len.ensures.value)))
 
 pub returns-clause-ok : goal.returns-clause-ok
@@ -24,6 +24,6 @@ returns-clause-ok c =
     let some : 0 < length c.args.line.now = search rules in
     let there : IsSome c.args.draft.now.places = search rules in
     let many = c.if-len-lt-MOST_TASKS.false in
-    takes_task c.args.draft.now c.args.number c.args.line.now some _ (task_of_pair (c.in-Some-task_pair_in_line.entry, c.in-Some-task_pair_in_line.sp)) there
-    (sym (ap (option_map task_of_pair) (c.in-Some-task_pair_in_line.ensures ∙ ap (λ name. task_pair_of_words name (line_words c.args.line.now)) c.as_slice.ensures))) refl (λ lt. absurd (omega (arith, c.len.ensures.value)))
+    takes_task c.args.draft.now c.args.number c.args.line.now some _ (task_of_pair (c.in-Some-number_pair_in_line.entry, c.in-Some-number_pair_in_line.sp)) there
+    (sym (ap (option_map task_of_pair) (c.in-Some-number_pair_in_line.ensures ∙ ap (λ name. task_pair_of_words name (line_words c.args.line.now)) c.as_slice.ensures))) refl (λ lt. absurd (omega (arith, c.len.ensures.value)))
     (λ le. (refl, c.or-draft.ensures))

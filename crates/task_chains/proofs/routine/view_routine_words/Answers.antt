@@ -3,4 +3,4 @@ use Rattle.task_chains.proofs.RoutineBytes.{offset, view_words_are}
 use Rattle.task_chains.proofs.routine.view_routine_words.Goals as goal
 
 pub returns : goal.returns
-returns c = view_words_are c.args.n c.args.b _ _ c.upper_half-upper.ensures.is (c.bol_offset_bits-lower.ensures ∙ ap (λ k. offset k) c.lower_half.ensures.is)
+returns c = view_words_are c.args.n c.args.b _ _ c.adjusted_upper_half-upper.ensures.is (c.bol_offset_bits-lower.ensures ∙ ap (λ k. offset k) c.lower_half.ensures.is)

@@ -12,5 +12,5 @@ returns-clause-same c =
     ap (λ bs. named (bs ++ replicate 0 0)) c.in_ok-resize.ensures.items
     ∙ ap named
     (append-nil _
-    ∙ filled r.bytes.items r.zeros c.part_len-len.result _
-    (c.part_len-len.ensures ∙ length-zeros r.bytes.items r.zeros) r.bytes.ok.0)
+    ∙ filled r.bytes.items r.zeros c.section_len-len.result _
+    (c.section_len-len.ensures ∙ length-zeros r.bytes.items r.zeros) r.bytes.ok.0)

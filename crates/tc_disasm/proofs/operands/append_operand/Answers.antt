@@ -3,7 +3,7 @@ use Rattle.tc_isa.specs.Forms.{bounds}
 use Rattle.tc_disasm.proofs.Bounds.{bounds-k}
 use Rattle.tc_disasm.proofs.operands.append_operand.Goals as goal
 
-pub append_target-requires-clause-small : goal.append_target-requires-clause-small
-append_target-requires-clause-small c =
-    let bound : c.bounds_of.result.k ≡ (bounds c.args.form).k = ap (λ b. b.k) c.bounds_of.ensures in
+pub append_target_operand-requires-clause-small : goal.append_target_operand-requires-clause-small
+append_target_operand-requires-clause-small c =
+    let bound : c.field_bounds.result.k ≡ (bounds c.args.form).k = ap (λ b. b.k) c.field_bounds.ensures in
     omega (arith, bound, bounds-k c.args.form)

@@ -7,12 +7,12 @@ use Rattle.tc_isa.specs.ValidRowFields.{uses_of, are_unused_fields_zero}
 use Rattle.tc_encode.proofs.Finds.{plain_zero, plain_at, uses_at}
 use Rattle.tc_encode.proofs.word_search.are_missing_fields_zero.Goals as goal
 
-pub returns-then-plain_rows-at : goal.returns-then-plain_rows-at
-returns-then-plain_rows-at c =
+pub returns-then-full_rows-at : goal.returns-then-full_rows-at
+returns-then-full_rows-at c =
     let r = row_of c.args.row.now in
-    let names = sym (plain_at c.plain_rows.result.now c.from-at.result false r c.plain_rows.ensures (ap (slice_get listed) c.from-at.ensures ∙ c.requires.place)) ∙ c.if-plain_rows-at.true in
-    c.if-plain_rows-at.true ∙ sym (plain_zero (uses_of r) c.args.f.now (bounds c.args.row.now.form) names c.requires.below)
+    let names = sym (plain_at c.full_rows.result.now c.from-at.result false r c.full_rows.ensures (ap (slice_get listed) c.from-at.ensures ∙ c.requires.place)) ∙ c.if-full_rows-at.true in
+    c.if-full_rows-at.true ∙ sym (plain_zero (uses_of r) c.args.f.now (bounds c.args.row.now.form) names c.requires.below)
 
-pub returns-else-plain_rows-at : goal.returns-else-plain_rows-at
-returns-else-plain_rows-at c =
+pub returns-else-full_rows-at : goal.returns-else-full_rows-at
+returns-else-full_rows-at c =
     c.are_unused_fields_zero.ensures ∙ ap (λ (u : Uses). are_unused_fields_zero u c.args.f.now) (uses_at c.uses_by_row.result.now c.from-at.result _ (row_of c.args.row.now) c.uses_by_row.ensures (ap (slice_get listed) c.from-at.ensures ∙ c.requires.place))

@@ -5,12 +5,12 @@ use Rattle.tc_encode.proofs.word_search.find_by_word.Goals as goal
 pub returns-in_default-clause-none : goal.returns-in_default-clause-none
 returns-in_default-clause-none c = λ i m.
     let s = stands i.row c.args.w m.inst.row m.inst.at i m refl in
-    none_some i.row (c.in_default.ensures.only i.row m.inst.row m.inst.at s.first (s.second ∙ sym (c.second_code_by_first-second.ensures i.row m.inst.row m.inst.at s.first)))
+    none_some i.row (c.in_default.ensures.only i.row m.inst.row m.inst.at s.first (s.second ∙ sym (c.second_code_by_first_byte-second.ensures i.row m.inst.row m.inst.at s.first)))
 
-pub find_word_at-requires-clause-second : goal.find_word_at-requires-clause-second
-find_word_at-requires-clause-second c = λ r at first. c.second_code_by_first-second.ensures c.in-Some.place r at first
+pub find_word_by_codes-requires-clause-second : goal.find_word_by_codes-requires-clause-second
+find_word_by_codes-requires-clause-second c = λ r at first. c.second_code_by_first_byte-second.ensures c.in-Some.place r at first
 
 pub returns-clause-none : goal.returns-clause-none
-returns-clause-none c = none_map c.find_word_at.result c.find_word_at.ensures.none (λ none i m.
+returns-clause-none c = none_map c.find_word_by_codes.result c.find_word_by_codes.ensures.none (λ none i m.
     let s = stands i.row c.args.w m.inst.row m.inst.at i m refl in
-    none i m (same_some i.row c.in-Some.place (sym (c.in-Some.ensures.only i.row m.inst.row m.inst.at s.first (s.second ∙ sym (c.second_code_by_first-second.ensures i.row m.inst.row m.inst.at s.first))))))
+    none i m (same_some i.row c.in-Some.place (sym (c.in-Some.ensures.only i.row m.inst.row m.inst.at s.first (s.second ∙ sym (c.second_code_by_first_byte-second.ensures i.row m.inst.row m.inst.at s.first))))))

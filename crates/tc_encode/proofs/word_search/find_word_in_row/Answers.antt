@@ -20,13 +20,13 @@ returns-then-not-are_missing_fields_zero-clause-none c = λ i m same.
     let s = stands c.args.place c.args.w (row_of c.args.row.now) c.requires.place i m same in
     both_ways _ (sym c.are_missing_fields_zero.ensures ∙ c.if-not-are_missing_fields_zero.true) (ap (are_unused_fields_zero (uses_of (row_of c.args.row.now))) c.fields_of_word-f.ensures ∙ s.fits.zero)
 
-pub returns-then-not-are_registers_apart-clause-none : goal.returns-then-not-are_registers_apart-clause-none
-returns-then-not-are_registers_apart-clause-none c = λ i m same.
+pub returns-then-not-are_registers_allowed-clause-none : goal.returns-then-not-are_registers_allowed-clause-none
+returns-then-not-are_registers_allowed-clause-none c = λ i m same.
     let s = stands c.args.place c.args.w (row_of c.args.row.now) c.requires.place i m same in
-    both_ways _ (sym c.are_registers_apart.ensures ∙ c.if-not-are_registers_apart.true) (ap (are_registers_apart (row_of c.args.row.now)) c.fields_of_word-f.ensures ∙ s.fits.apart)
+    both_ways _ (sym c.are_registers_allowed.ensures ∙ c.if-not-are_registers_allowed.true) (ap (are_registers_apart (row_of c.args.row.now)) c.fields_of_word-f.ensures ∙ s.fits.apart)
 
 pub invariant_of-result : goal.invariant_of-result
-invariant_of-result c = (makes_of c.args.place c.args.w (row_of c.args.row.now) c.fields_of_word-f.result c.requires.place c.fields_of_word-f.ensures c.ranges.w.fits c.requires.short c.requires.first c.requires.second (sym c.are_unused_bits_zero.ensures ∙ c.if-not-are_unused_bits_zero.false) (sym c.are_missing_fields_zero.ensures ∙ c.if-not-are_missing_fields_zero.false) (sym c.are_registers_apart.ensures ∙ c.if-not-are_registers_apart.false)).inst
+invariant_of-result c = (makes_of c.args.place c.args.w (row_of c.args.row.now) c.fields_of_word-f.result c.requires.place c.fields_of_word-f.ensures c.ranges.w.fits c.requires.short c.requires.first c.requires.second (sym c.are_unused_bits_zero.ensures ∙ c.if-not-are_unused_bits_zero.false) (sym c.are_missing_fields_zero.ensures ∙ c.if-not-are_missing_fields_zero.false) (sym c.are_registers_allowed.ensures ∙ c.if-not-are_registers_allowed.false)).inst
 
 pub returns-clause-some : goal.returns-clause-some
-returns-clause-some c = makes_of c.args.place c.args.w (row_of c.args.row.now) c.fields_of_word-f.result c.requires.place c.fields_of_word-f.ensures c.ranges.w.fits c.requires.short c.requires.first c.requires.second (sym c.are_unused_bits_zero.ensures ∙ c.if-not-are_unused_bits_zero.false) (sym c.are_missing_fields_zero.ensures ∙ c.if-not-are_missing_fields_zero.false) (sym c.are_registers_apart.ensures ∙ c.if-not-are_registers_apart.false)
+returns-clause-some c = makes_of c.args.place c.args.w (row_of c.args.row.now) c.fields_of_word-f.result c.requires.place c.fields_of_word-f.ensures c.ranges.w.fits c.requires.short c.requires.first c.requires.second (sym c.are_unused_bits_zero.ensures ∙ c.if-not-are_unused_bits_zero.false) (sym c.are_missing_fields_zero.ensures ∙ c.if-not-are_missing_fields_zero.false) (sym c.are_registers_allowed.ensures ∙ c.if-not-are_registers_allowed.false)

@@ -8,8 +8,8 @@ named : (c : ℕ) → is_name_first c ≡ true → is_name_byte c ≡ true
 unfolding is_name_byte
 named c e = rw e
 
-pub returns-then-is_name_first-clause-within : goal.returns-then-is_name_first-clause-within
-returns-then-is_name_first-clause-within c =
+pub returns-then-is_name_start-clause-within : goal.returns-then-is_name_start-clause-within
+returns-then-is_name_start-clause-within c =
     let e : is_name_first c.args.c ≡ true = cc in
     let named_here : is_name_byte (get_or c.args.text.now 0 0) ≡ true = ap is_name_byte (sym c.requires.first) ∙ named c.args.c e in
     (omega (arith, c.word_len.ensures.value, prefix_len_some is_name_byte c.args.text.now c.requires.some named_here), c.word_len.ensures.within)

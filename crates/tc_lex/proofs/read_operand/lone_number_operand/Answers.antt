@@ -9,5 +9,5 @@ use Rattle.tc_lex.proofs.read_operand.lone_number_operand.Goals as goal
 pub returns : goal.returns
 returns c =
     c.plain_operand.ensures
-    ∙ ap plain_operand (c.plain_number.ensures ∙ ap (plain_number false) (c.token_number.ensures ∙ ap token_number c.token_text.ensures))
+    ∙ ap plain_operand (c.number_operand_value.ensures ∙ ap (plain_number false) (c.token_number.ensures ∙ ap token_number c.token_text.ensures))
     ∙ lone_number (map piece_of c.args.ps.now) (length-map c.args.ps.now piece_of ∙ c.requires.one) c.requires.number

@@ -9,6 +9,6 @@ use Rattle.tc_lex.proofs.read_operand.lone_word_operand.Goals as goal
 pub returns : goal.returns
 returns c =
     c.plain_operand.ensures
-    ∙ ap plain_operand c.make_operand_value.ensures
+    ∙ ap plain_operand c.value_with_shape.ensures
     ∙ ap (λ text. plain_operand (operand_value_data shape.Word text false 0)) c.token_text.ensures
     ∙ lone_word (map piece_of c.args.ps.now) (length-map c.args.ps.now piece_of ∙ c.requires.one) c.requires.word

@@ -16,7 +16,7 @@ returns-then-is_empty c =
 pub returns : goal.returns
 returns c =
     let some : 0 < length c.args.ps.now = grind (arith, nat_tests) in
-    c.put_operand.ensures.operands
+    c.read_operand_into.ensures.operands
     ∙ parted_end (map operand_of c.parts.out.items) c.parts.rest.now (sym c.find_comma.ensures.value ∙ c.in_default.is)
     ∙ c.parts.invariant.parts
     ∙ operands-some c.args.ps.now some
@@ -28,11 +28,11 @@ parts-preserved c =
     let found : c.find_comma.result ≡ Some i = c.in-Some.is in
     record {
       parts =
-          ap (λ os. os ++ map operand (slice_split is_comma (map piece_of c.tokens_after-rest.result.now))) c.put_operand_before.ensures.operands
-          ∙ ap (λ (ps : List Piece). (out ++ operand (take i (map piece_of c.parts.rest.now)) ∷ []) ++ map operand (slice_split is_comma (map piece_of ps))) c.tokens_after-rest.ensures
+          ap (λ os. os ++ map operand (slice_split is_comma (map piece_of c.tokens_after_comma-rest.result.now))) c.read_operand_before.ensures.operands
+          ∙ ap (λ (ps : List Piece). (out ++ operand (take i (map piece_of c.parts.rest.now)) ∷ []) ++ map operand (slice_split is_comma (map piece_of ps))) c.tokens_after_comma-rest.ensures
           ∙ parted_more out c.parts.rest.now i (sym c.find_comma.ensures.value ∙ found)
           ∙ c.parts.invariant.parts;
       few =
           let within : i < length c.parts.rest.now = subst (λ (o : Option ℕ). IfSome o (λ j. j < length c.parts.rest.now)) found c.find_comma.ensures.within in
-          omega (arith, c.put_operand_before.ensures.one_more, ap length c.tokens_after-rest.ensures, length-drop (i + 1) c.parts.rest.now, within);
+          omega (arith, c.read_operand_before.ensures.one_more, ap length c.tokens_after_comma-rest.ensures, length-drop (i + 1) c.parts.rest.now, within);
     }

@@ -44,8 +44,8 @@ returns-in_err-placed-clause-err c =
     let p = err_from_is_err_and c.from_residual-in_err-placed.result c.from_residual-in_err-placed.ensures.1 in
     rw (p.1, p.2) (linked_told c.args.objects.now c.args.layout.now x (told_room c.args.objects.now c.args.layout.now x c.in_ok-check_repeated_symbols.ensures.ok c.in_ok-check_missing_symbols.ensures.ok none h))
 
-pub relocated_contents-requires : goal.relocated_contents-requires
-relocated_contents-requires c =
+pub all_relocated_sections-requires : goal.all_relocated_sections-requires
+all_relocated_sections-requires c =
     let at = are_placed c.args.objects.now c.args.layout.now _ _ c.deref-3.result.now (c.deref.ensures.value ∙ ap (λ (l : LayoutData). l.places) c.layout.view_is) (c.deref-2.ensures.value ∙ ap (λ (l : LayoutData). l.places) c.layout.view_is)
     c.in_ok-check_repeated_symbols.ensures.ok c.in_ok-check_missing_symbols.ensures.ok c.in_ok-check_places.ensures.ok c.in_ok-placed.ensures.room (c.deref-3.ensures.value ∙ c.in_ok-placed.ensures.placed) in
     record {
@@ -68,7 +68,7 @@ returns-in_default-clause-err c =
     let name : c.as_str.result.now ≡ c.args.layout.now.entry = c.as_str.ensures.value ∙ ap (λ (l : LayoutData). l.entry) c.layout.view_is in
     let again : c.deref-4.result.now ≡ c.deref-3.result.now = c.deref-4.ensures.value ∙ sym c.deref-3.ensures.value in
     let globals : AreGlobals c.in_ok-names.names c.deref-4.result.now (globals_of c.deref-4.result.now) = c.in_ok-names.ensures.globals c.deref-4.result.now (ap (map (λ (p : PlacedData). p.object)) (again ∙ at.same) ∙ placed_objects c.args.layout.now.places [] c.args.objects.now) in
-    let entry = ap (global_address (globals_of c.deref-3.result.now)) (sym name) ∙ ap (λ (ps : List PlacedData). global_address (globals_of ps) c.as_str.result.now) (sym again) ∙ sym (globals c.as_str.result.now) ∙ sym c.address_named.ensures ∙ c.in_default.is in
+    let entry = ap (global_address (globals_of c.deref-3.result.now)) (sym name) ∙ ap (λ (ps : List PlacedData). global_address (globals_of ps) c.as_str.result.now) (sym again) ∙ sym (globals c.as_str.result.now) ∙ sym c.global_symbol_address.ensures ∙ c.in_default.is in
     sym (linked_made c.args.objects.now c.args.layout.now c.deref-3.result.now at.none at.same) ∙ made_no_entry c.args.layout.now c.deref-3.result.now c.in_ok-contents.ensures.none entry
 
 pub invariant_of-result : goal.invariant_of-result
@@ -90,7 +90,7 @@ returns-clause-ok c =
     let name : c.as_str.result.now ≡ c.args.layout.now.entry = c.as_str.ensures.value ∙ ap (λ (l : LayoutData). l.entry) c.layout.view_is in
     let again : c.deref-4.result.now ≡ c.deref-3.result.now = c.deref-4.ensures.value ∙ sym c.deref-3.ensures.value in
     let globals : AreGlobals c.in_ok-names.names c.deref-4.result.now (globals_of c.deref-4.result.now) = c.in_ok-names.ensures.globals c.deref-4.result.now (ap (map (λ (p : PlacedData). p.object)) (again ∙ at.same) ∙ placed_objects c.args.layout.now.places [] c.args.objects.now) in
-    let entry = ap (global_address (globals_of c.deref-3.result.now)) (sym name) ∙ ap (λ (ps : List PlacedData). global_address (globals_of ps) c.as_str.result.now) (sym again) ∙ sym (globals c.as_str.result.now) ∙ sym c.address_named.ensures ∙ c.in-Some.is in
+    let entry = ap (global_address (globals_of c.deref-3.result.now)) (sym name) ∙ ap (λ (ps : List PlacedData). global_address (globals_of ps) c.as_str.result.now) (sym again) ∙ sym (globals c.as_str.result.now) ∙ sym c.global_symbol_address.ensures ∙ c.in-Some.is in
     let places : c.deref-5.result.now ≡ c.args.layout.now.places = c.deref-5.ensures.value ∙ ap (λ (l : LayoutData). l.places) c.layout.view_is in
     let contents : c.deref-6.result.now ≡ relocated_contents c.deref-3.result.now = c.deref-6.ensures.value ∙ c.in_ok-contents.ensures.sections in
     let segments : map segment_data c.in_ok-segments.segments.items ≡ segments_of c.args.layout.now.places (relocated_contents c.deref-3.result.now) =

@@ -24,7 +24,7 @@ loop-section-preserved c =
     let next : take (i + 1) all ≡ take i all ++ s ∷ [] = take_next all i s c.loop-section-test.true c.section-item.is in
     let inv = c.loop-section.invariant in
     record {
-      bases = λ before t. c.in_ok-push.ensures.items ∙ bases_step c.args.places.now before all i s c.base_of.result c.loop-section.bases.items next (inv.bases before t) (c.base_of.ensures (before ++ take i all) (inv.taken before t));
+      bases = λ before t. c.in_ok-push.ensures.items ∙ bases_step c.args.places.now before all i s c.section_base.result c.loop-section.bases.items next (inv.bases before t) (c.section_base.ensures (before ++ take i all) (inv.taken before t));
       taken = λ before t. taken_step c.args.places.now before all i s c.add_section_size.new.sizes next (c.add_section_size.ensures.taken (before ++ take i all) (inv.taken before t));
       room = λ before t. room_step c.args.places.now before all i s c.are_places_overfull.result next (inv.room before t) (c.are_places_overfull.ensures.over ((before ++ take i all) ++ s ∷ []) (c.add_section_size.ensures.taken (before ++ take i all) (inv.taken before t))) c.if-are_places_overfull.false;
       small = c.are_places_overfull.ensures.small c.if-are_places_overfull.false;

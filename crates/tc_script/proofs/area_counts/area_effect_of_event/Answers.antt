@@ -9,4 +9,4 @@ pub returns-then-is_event_interrupt_taken : goal.returns-then-is_event_interrupt
 returns-then-is_event_interrupt_taken c = told_interrupt _ c.args.used c.args.m.now c.args.event.now c.requires.running (sym c.is_event_interrupt_taken.ensures ∙ c.if-is_event_interrupt_taken.true) c.area_effect_of_save.ensures
 
 pub returns-in-Ok : goal.returns-in-Ok
-returns-in-Ok c = told_found _ c.args.used c.args.m.now c.args.event.now c.in-Ok.shape c.in-Ok.field-0-1 c.requires.running (sym c.is_event_interrupt_taken.ensures ∙ c.if-is_event_interrupt_taken.false) (sym c.in-Ok.is ∙ c.requires.found) (c.area_effect_of_shape.ensures c.in-Ok.field-0-1)
+returns-in-Ok c = told_found _ c.args.used c.args.m.now c.args.event.now c.in-Ok.shape c.in-Ok.field-0-1 c.requires.running (sym c.is_event_interrupt_taken.ensures ∙ c.if-is_event_interrupt_taken.false) (sym c.in-Ok.is ∙ c.requires.found) (c.area_effect_of_instruction.ensures c.in-Ok.field-0-1)

@@ -13,6 +13,6 @@ use Rattle.tcd_plan.proofs.key_refusals.first_bad_key.Goals as goal
 pub returns : goal.returns
 unfolding first_bad_key
 returns c =
-    let test = λ (r : KeyRow). list_any (is_key_value_bad r) (plan_objects_of r.holder (view c.args.value.now)) in
+    let test = λ (r : KeyRow). list_any (is_key_value_bad r) (plan_objects_of r.parent (view c.args.value.now)) in
     let found = find_from_yields_List (λ (r : Row). test (row_of r)) _ _ c.find.result c.find.ensures.ran (YieldsList-from_slice c.key_table_rows.result.now cc) (λ x b q k. search (rules, tests)) in
     c.key_of_refused_row.ensures ∙ key_found test c.key_table_rows.result.now _ c.key_table_rows.ensures.rows found

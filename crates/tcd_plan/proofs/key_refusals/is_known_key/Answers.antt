@@ -9,6 +9,6 @@ use Rattle.tcd_plan.proofs.key_refusals.is_known_key.Goals as goal
 
 pub returns : goal.returns
 returns c =
-    let test = is_row_of_key c.args.holder c.args.name.now in
+    let test = is_row_of_key c.args.parent c.args.name.now in
     any_from_yields_List (λ (r : Row). test (row_of r)) _ _ _ c.any.ensures.ran (YieldsList-from_slice c.key_table_rows.result.now cc) (λ x b q k. search (rules, tests))
     ∙ sym (list_any-map test row_of c.key_table_rows.result.now) ∙ ap (list_any test) c.key_table_rows.ensures.rows

@@ -28,8 +28,8 @@ returns c =
     let nodes_are : view c.in_ok-nodes.nodes ≡ nodes_data cert.nodes = c.in_ok-nodes.ensures in
     let value_is : view c.in_ok-value.value ≡ report_data image plan cert rows =
     c.in_ok-value.ensures
-    ∙ ap (λ d. report_object_data plan.areas d c.need_of_start-need.result (view c.in_ok-nodes.nodes) plan.reserve) calls_are
-    ∙ ap (λ n. report_object_data plan.areas (all_longest_calls_data rows) n (view c.in_ok-nodes.nodes) plan.reserve) c.need_of_start-need.ensures
+    ∙ ap (λ d. report_object_data plan.areas d c.certified_need-need.result (view c.in_ok-nodes.nodes) plan.reserve) calls_are
+    ∙ ap (λ n. report_object_data plan.areas (all_longest_calls_data rows) n (view c.in_ok-nodes.nodes) plan.reserve) c.certified_need-need.ensures
     ∙ ap (λ d. report_object_data plan.areas (all_longest_calls_data rows) (certified_need image plan cert) d plan.reserve) nodes_are in
     let plain : has_float (view c.in_ok-value.value) ≡ false = ap has_float value_is ∙ report_plain plan.areas (certified_need image plan cert) plan.reserve rows cert.nodes in
     record {

@@ -18,28 +18,28 @@ use Rattle.value_cells.proofs.faults.cells_fault.Goals as goal
 pub unreachable-requires : goal.unreachable-requires
 unreachable-requires c = never_none (c.args.cert.now).nodes c.loop-i.i (omega (arith, c.loop-i-test.true, c.len-i-end.ensures)) c.in_default.ensures
 
-pub node_cells_fault-requires-clause-values : goal.node_cells_fault-requires-clause-values
-node_cells_fault-requires-clause-values c =
+pub first_cell_fault_in_node-requires-clause-values : goal.first_cell_fault_in_node-requires-clause-values
+first_cell_fault_in_node-requires-clause-values c =
     let other : PlanData = c.with_cells-other.result in
     let accepted = subst (λ (p : PlanData). Accepts c.args.image.now p c.args.cert.now) (sym c.with_cells-other.ensures) c.requires.accepted in
     let limits = c.of-bounds.ensures ∙ ap (limits_for other) c.version.ensures.version in
     let member = (got (c.args.cert.now).nodes c.loop-i.i c.in-Some.node c.in-Some.ensures).2 in
     subst (λ (b : Limits). All (λ (p : Point). AreValues b (p.state).regs) (c.in-Some.node).points) (sym limits) (accepted_values c.args.image.now other c.args.cert.now c.in-Some.node accepted member)
 
-pub node_cells_fault-requires-clause-cells : goal.node_cells_fault-requires-clause-cells
-node_cells_fault-requires-clause-cells c =
+pub first_cell_fault_in_node-requires-clause-cells : goal.first_cell_fault_in_node-requires-clause-cells
+first_cell_fault_in_node-requires-clause-cells c =
     subst (λ (l : List Cell). All (λ (d : Cell). d.at + 4 ≤ 2 ^ 32) l) (sym c.list.ensures) (cells_fit c.args.plan.now c.args.cells.now (subst IsPlan c.plan.view_is c.plan.invariant) c.requires.cells)
 
-pub returns-in-Some-node_cells_fault-clause-some : goal.returns-in-Some-node_cells_fault-clause-some
-returns-in-Some-node_cells_fault-clause-some c =
+pub returns-in-Some-first_cell_fault_in_node-clause-some : goal.returns-in-Some-first_cell_fault_in_node-clause-some
+returns-in-Some-first_cell_fault_in_node-clause-some c =
     let image = c.args.image.now in
     let cells : List Cell = c.args.cells.now in
     let other : PlanData = c.with_cells-other.result in
     let cert = c.args.cert.now in
     let node : NodeData = c.in-Some.node in
-    let addr = c.in-Some-node_cells_fault.addr in
+    let addr = c.in-Some-first_cell_fault_in_node.addr in
     let limits = c.of-bounds.ensures ∙ ap (limits_for other) c.version.ensures.version in
-    let found = subst (λ (b : Limits). IsRule16NodeFault b image other c.list.result.now node addr) limits c.in-Some-node_cells_fault.ensures.some in
+    let found = subst (λ (b : Limits). IsRule16NodeFault b image other c.list.result.now node addr) limits c.in-Some-first_cell_fault_in_node.ensures.some in
     let breaks = subst (λ (l : List Cell). IsRule16NodeFault (limits_in other cert) image other l node addr) c.list.ensures found in
     let here = got cert.nodes c.loop-i.i node c.in-Some.ensures in
     let first = first_breaks image other cells cert c.version.ensures.limits cert.nodes refl c.loop-i.i node addr here.0 here.1 c.loop-i.invariant breaks in
@@ -52,7 +52,7 @@ loop-i-preserved c =
     let cert = c.args.cert.now in
     let node : NodeData = c.in-Some.node in
     let limits = c.of-bounds.ensures ∙ ap (limits_for other) c.version.ensures.version in
-    let found = subst (λ (b : Limits). All (KeepsCellsAtPoint b image other c.list.result.now) node.points) limits c.in_default-node_cells_fault.ensures.none in
+    let found = subst (λ (b : Limits). All (KeepsCellsAtPoint b image other c.list.result.now) node.points) limits c.in_default-first_cell_fault_in_node.ensures.none in
     let keeps = subst (λ (l : List Cell). All (KeepsCellsAtPoint (limits_in other cert) image other l) node.points) c.list.ensures found in
     let here = got cert.nodes c.loop-i.i node c.in-Some.ensures in
     all_more (λ (n : NodeData). All (KeepsCellsAtPoint (limits_in other cert) image other c.args.cells.now) n.points) cert.nodes c.loop-i.i node here.0 here.1 c.loop-i.invariant keeps

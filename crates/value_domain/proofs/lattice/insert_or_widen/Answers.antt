@@ -12,7 +12,7 @@ returns-then-member c = with_member c.args.b.now c.args.v.now c.args.x c.require
 
 pub returns-then-as_slice-most_words : goal.returns-then-as_slice-most_words
 returns-then-as_slice-most_words c =
-    rw (c.in-Set.is, c.put.ensures)
+    rw (c.in-Set.is, c.insert.ensures)
     (with_room c.args.b.now c.in-Set.words c.args.x c.as_slice.ensures.words
     (omega (arith, ap length c.as_slice.ensures.items, c.most_words-most_words.ensures.most_words)))
 

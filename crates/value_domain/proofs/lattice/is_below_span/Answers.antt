@@ -2,9 +2,9 @@ use Rattle.std.proofs.Common.{refl}
 use Rattle.value_domain.proofs.RangeLaws.{below_any, below_span}
 use Rattle.value_domain.proofs.lattice.is_below_span.Goals as goal
 
-pub returns-then-is_all_words : goal.returns-then-is_all_words
-returns-then-is_all_words c =
-    let all = c.is_all_words.ensures.0 c.if-is_all_words.true in
+pub returns-then-is_span_of_all_words : goal.returns-then-is_span_of_all_words
+returns-then-is_span_of_all_words c =
+    let all = c.is_span_of_all_words.ensures.0 c.if-is_span_of_all_words.true in
     rw (all.0, all.1, all.2) ((λ t. below_any c.args.v.now c.requires.left), (λ below. refl))
 
 pub returns : goal.returns

@@ -7,4 +7,4 @@ use Rattle.value_domain.proofs.lattice.write_cover_as_span.Goals as goal
 pub returns : goal.returns
 returns c =
     c.write_span.ensures
-    ∙ sym (cover_span c.args.b.now (range c.args.first c.args.last c.args.step) (many_range c.args.b.now c.args.first c.args.last c.args.step c.requires.many) c.span_extent-e.ensures)
+    ∙ sym (cover_span c.args.b.now (range c.args.first c.args.last c.args.step) (many_range c.args.b.now c.args.first c.args.last c.args.step c.requires.many) c.extent_of_span-e.ensures)

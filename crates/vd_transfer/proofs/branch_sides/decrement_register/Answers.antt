@@ -10,13 +10,13 @@ use Rattle.value_domain.specs.Values.{word_val}
 use Rattle.vd_transfer.proofs.ChangeLaws.{third-free}
 use Rattle.vd_transfer.proofs.branch_sides.decrement_register.Goals as goal
 
-pub set_last_put_destination-requires-clause-values : goal.set_last_put_destination-requires-clause-values
-set_last_put_destination-requires-clause-values c =
-    subst (λ (t : State). AreValues c.args.b.now t.regs) (sym (third-free c.args.s.now c.args.c.now c.write_operation.new.out c.requires.free)) c.requires.values
+pub set_third_write_slot-requires-clause-values : goal.set_third_write_slot-requires-clause-values
+set_third_write_slot-requires-clause-values c =
+    subst (λ (t : State). AreValues c.args.b.now t.regs) (sym (third-free c.args.s.now c.args.c.now c.write_operation_value.new.out c.requires.free)) c.requires.values
 
 pub returns-clause-lowered : goal.returns-clause-lowered
 returns-clause-lowered c =
-    let lowered : c.write_operation.new.out ≡ value_of c.args.b.now Sub (reg_of c.args.plan.now (state_after c.args.s.now c.args.c.now) c.args.x) (word_val 1) = rw (c.changed_reg-v.ensures.reg, c.constant_operand.ensures.word) at c.write_operation.ensures.cover in
-    c.set_last_put_destination.ensures.written
-    ∙ ap (λ (t : State). write_reg t c.args.x c.write_operation.new.out) (third-free c.args.s.now c.args.c.now c.write_operation.new.out c.requires.free)
+    let lowered : c.write_operation_value.new.out ≡ value_of c.args.b.now Sub (reg_of c.args.plan.now (state_after c.args.s.now c.args.c.now) c.args.x) (word_val 1) = rw (c.changed_reg-v.ensures.reg, c.constant_value.ensures.word) at c.write_operation_value.ensures.cover in
+    c.set_third_write_slot.ensures.written
+    ∙ ap (λ (t : State). write_reg t c.args.x c.write_operation_value.new.out) (third-free c.args.s.now c.args.c.now c.write_operation_value.new.out c.requires.free)
     ∙ ap (λ (v : Val). write_reg (state_after c.args.s.now c.args.c.now) c.args.x v) lowered

@@ -1,5 +1,5 @@
 use Rattle.vd_transfer.proofs.LoadedValues.{loaded_is}
 use Rattle.vd_transfer.proofs.built_states.transfer.Goals as goal
 
-pub change_of-requires-clause-loaded : goal.change_of-requires-clause-loaded
-change_of-requires-clause-loaded c = loaded_is c.args.b.now _ _ (rw c.copy-c.ensures c.requires.loaded)
+pub write_instruction_change-requires-clause-loaded : goal.write_instruction_change-requires-clause-loaded
+write_instruction_change-requires-clause-loaded c = loaded_is c.args.b.now _ _ (rw c.copy-c.ensures c.requires.loaded)

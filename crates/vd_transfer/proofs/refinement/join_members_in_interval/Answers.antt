@@ -8,11 +8,11 @@ pub returns-then-i-clause-more : goal.returns-then-i-clause-more
 returns-then-i-clause-more c = λ xs e. e ∙ past_empty c.args.b.now c.args.i xs (members c.args.v.now) c.if-i.true
 
 pub returns-then-found-clause-more : goal.returns-then-found-clause-more
-returns-then-found-clause-more c = λ xs e. c.join_refined_members.ensures.more xs (rw c.if-found.true at e)
+returns-then-found-clause-more c = λ xs e. c.join_meet_with_interval.ensures.more xs (rw c.if-found.true at e)
 
 pub returns-else-found-clause-more : goal.returns-else-found-clause-more
 returns-else-found-clause-more c = λ xs e.
-    none_before c.args.b.now xs (filter (is_in_span c.args.i.lo c.args.i.last 0) (members c.args.v.now)) _ (rw c.if-found.false at e) c.write_meet.ensures.meet
+    none_before c.args.b.now xs (filter (is_in_span c.args.i.lo c.args.i.last 0) (members c.args.v.now)) _ (rw c.if-found.false at e) c.write_span_meet.ensures.meet
 
-pub join_refined_members-requires-clause-before : goal.join_refined_members-requires-clause-before
-join_refined_members-requires-clause-before c = rw c.if-found.true at c.requires.before
+pub join_meet_with_interval-requires-clause-before : goal.join_meet_with_interval-requires-clause-before
+join_meet_with_interval-requires-clause-before c = rw c.if-found.true at c.requires.before

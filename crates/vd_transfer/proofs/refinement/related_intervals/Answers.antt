@@ -17,7 +17,7 @@ returns-in-AtLeast c = λ x h. rw c.in-AtLeast.is (with_none (c.args.low ≤ x) 
 
 pub returns-in-More : goal.returns-in-More
 unfolding MayBeRelated
-returns-in-More c = λ x h. rw c.in-More.is (with_none (c.args.low < x) c.words_past.result x (c.words_past.ensures x h))
+returns-in-More c = λ x h. rw c.in-More.is (with_none (c.args.low < x) c.words_above.result x (c.words_above.ensures x h))
 
 pub returns-in-Same : goal.returns-in-Same
 unfolding MayBeRelated
@@ -27,6 +27,6 @@ pub returns-in-Other : goal.returns-in-Other
 unfolding MayBeRelated
 returns-in-Other c = λ x h.
     let a = c.words_below-in-Other.ensures x in
-    let b = c.words_past-in-Other.ensures x h in
+    let b = c.words_above-in-Other.ensures x h in
     rw c.in-Other.is
     ((λ s. elim s [ inl i ↦ inl (a.0 i) | inr i ↦ inr (b.0 i) ]), (λ r. elim r [ inl l ↦ inl (a.1 l) | inr g ↦ inr (b.1 g) ]))

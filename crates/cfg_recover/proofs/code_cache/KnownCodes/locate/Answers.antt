@@ -7,7 +7,7 @@ use Rattle.cfg_recover.proofs.code_cache.KnownCodes.locate.Goals.{Then-known-wor
 
 known_before : (c : goal.Then-known-word) → LocatesCode c.args.image.now c.args.plan.now c.args.addr (get_or c.args.self.now.codes c.code_cache_slot-place.result c.index-self-place.result).found
 known_before c =
-    located_there c.args.image.now c.args.plan.now c.args.addr c.cache_word_of_bytes-word.result c.in-Some.bytes _ (omega arith) c.in-Some.ensures c.cache_word_of_bytes-word.ensures
+    located_there c.args.image.now c.args.plan.now c.args.addr c.code_cache_word-word.result c.in-Some.bytes _ (omega arith) c.in-Some.ensures c.code_cache_word-word.ensures
     ((get_or c.args.self.now.codes c.code_cache_slot-place.result c.index-self-place.result).known ∙ ap located_code_in c.if-known-word.true)
 
 pub returns-then-known-word-clause-code : goal.returns-then-known-word-clause-code
@@ -18,11 +18,11 @@ returns-then-known-word-clause-shape c = located_bounded c.args.image.now c.args
 
 pub returns-clause-code : goal.returns-clause-code
 returns-clause-code c =
-    located_there c.args.image.now c.args.plan.now c.args.addr c.cache_word_of_bytes-word.result c.in-Some.bytes _ (omega arith) c.in-Some.ensures c.cache_word_of_bytes-word.ensures
+    located_there c.args.image.now c.args.plan.now c.args.addr c.code_cache_word-word.result c.in-Some.bytes _ (omega arith) c.in-Some.ensures c.code_cache_word-word.ensures
     (c.decode_word-code.result.known ∙ ap located_code_in c.decode_word-code.ensures)
 
 pub returns-clause-shape : goal.returns-clause-shape
 returns-clause-shape c =
     located_bounded c.args.image.now c.args.plan.now c.args.addr _
-    (located_there c.args.image.now c.args.plan.now c.args.addr c.cache_word_of_bytes-word.result c.in-Some.bytes _ (omega arith) c.in-Some.ensures c.cache_word_of_bytes-word.ensures
+    (located_there c.args.image.now c.args.plan.now c.args.addr c.code_cache_word-word.result c.in-Some.bytes _ (omega arith) c.in-Some.ensures c.code_cache_word-word.ensures
     (c.decode_word-code.result.known ∙ ap located_code_in c.decode_word-code.ensures))

@@ -28,8 +28,8 @@ returns-in_err-check_no_overlap c =
     let loads = c.in_ok-loads.ensures.ok in
     rw (p.1, p.2) (refused_overlap c.args.bytes.now _ c.in_ok-check_elf_header.ensures.refusal c.in_ok-check_program_headers.ensures loads.1 c.deref.result.now (c.deref.ensures.value ∙ loads.0) c.in_err-check_no_overlap.ensures)
 
-pub segments_of-requires : goal.segments_of-requires
-segments_of-requires c =
+pub loaded_segments-requires : goal.loaded_segments-requires
+loaded_segments-requires c =
     let bytes = c.args.bytes.now in
     let inside = All-weaker (Good bytes) (λ h. h.offset + h.file_size ≤ length bytes) (λ h good. good.inside) (load_headers bytes) (loads_good bytes (sym c.in_ok-check_program_headers.ensures)) in
     rw (c.deref-2.ensures.value ∙ c.in_ok-loads.ensures.ok.0) inside

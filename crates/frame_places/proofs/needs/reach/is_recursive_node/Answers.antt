@@ -3,8 +3,8 @@ use Rattle.frame_places.specs.NodeGraph.{AreEdgesBetween, AreReachingMarks}
 use Rattle.frame_places.proofs.ReachLemmas.{recurring_marks, sources_below}
 use Rattle.frame_places.proofs.needs.reach.is_recursive_node.Goals as goal
 
-pub nodes_reaching_by_predecessors-requires-clause-sources : goal.nodes_reaching_by_predecessors-requires-clause-sources
-nodes_reaching_by_predecessors-requires-clause-sources c = sources_below c.args.edges.now c.args.sources.now c.args.nodes c.requires.sources c.requires.edges
+pub reaching_marks_by_predecessors-requires-clause-sources : goal.reaching_marks_by_predecessors-requires-clause-sources
+reaching_marks_by_predecessors-requires-clause-sources c = sources_below c.args.edges.now c.args.sources.now c.args.nodes c.requires.sources c.requires.edges
 
 pub has_marked_successor-requires : goal.has_marked_successor-requires
 has_marked_successor-requires c =

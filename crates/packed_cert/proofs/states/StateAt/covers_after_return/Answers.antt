@@ -14,7 +14,7 @@ returns c =
     let first = subst (λ (l : List Val). IsTrue c.are_restored_below.result ↔ AreBelow (values_with_lower_from 0 l c.args.s.now.regs) (values_in c.self.inside.version c.self.inside.bytes.now c.place_of_values.result 27)) low c.are_restored_below.ensures in
     let both = subst (λ (l : List Val). IsTrue c.are_restored_below.result ↔ AreBelow (values_with_lower_from 0 c.args.exit.now.lower c.args.s.now.regs) l) regs first in
     let context = rw (c.ie_and_ccpn_after_return-ie.ensures.ie, c.ie_and_ccpn_after_return-ie.ensures.ccpn) at (c.covers_context.ensures.0 c.if-not-covers_context.false) in
-    let locals = rw (c.as_slice.ensures.value, c.as_slice-2.ensures.value) at (c.are_flags_implied.ensures.0 c.if-not-are_flags_implied.false) in (
+    let locals = rw (c.as_slice.ensures.value, c.as_slice-2.ensures.value) at (c.flags_imply.ensures.0 c.if-not-flags_imply.false) in (
       (λ t. record { regs = both.0 t; context = context; locals = rw c.locals.ensures at locals }),
       (λ covers. both.1 covers.regs),
     )

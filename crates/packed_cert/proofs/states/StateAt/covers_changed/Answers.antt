@@ -7,14 +7,14 @@ use Rattle.vd_transfer.specs.Changes.{state_after}
 use Rattle.vd_transfer.proofs.ChangeLaws.{length-changed}
 use Rattle.packed_cert.proofs.states.StateAt.covers_changed.Goals as goal
 
-pub are_covered_at-requires-clause-count : goal.are_covered_at-requires-clause-count
-are_covered_at-requires-clause-count c = length-changed c.args.s.now c.args.c.now (omega arith)
+pub are_values_covered_at-requires-clause-count : goal.are_values_covered_at-requires-clause-count
+are_values_covered_at-requires-clause-count c = length-changed c.args.s.now c.args.c.now (omega arith)
 
 pub returns : goal.returns
 returns c =
     let regs = sym c.place_of_values-place.ensures.values ∙ ap (λ (s : State). s.regs) c.self.view_is in
-    let both = subst (λ (l : List Val). IsTrue c.are_covered_at.result ↔ AreBelow (state_after c.args.s.now c.args.c.now).regs l) regs c.are_covered_at.ensures in
-    let locals = rw (c.as_slice.ensures.value, c.as_slice-2.ensures.value) at (c.are_flags_implied.ensures.0 c.if-not-are_flags_implied.false) in (
+    let both = subst (λ (l : List Val). IsTrue c.are_values_covered_at.result ↔ AreBelow (state_after c.args.s.now c.args.c.now).regs l) regs c.are_values_covered_at.ensures in
+    let locals = rw (c.as_slice.ensures.value, c.as_slice-2.ensures.value) at (c.flags_imply.ensures.0 c.if-not-flags_imply.false) in (
       (λ t. record { regs = both.0 t; context = c.covers_context.ensures.0 c.if-not-covers_context.false; locals = rw c.locals.ensures at locals }),
       (λ covers. both.1 covers.regs),
     )

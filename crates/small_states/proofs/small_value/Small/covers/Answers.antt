@@ -11,22 +11,22 @@ use Rattle.small_states.proofs.small_value.Small.covers.Goals as goal
 pub returns-in-Some : goal.returns-in-Some
 returns-in-Some c =
     let whole = rw c.in-Some.is at c.singleton_word.ensures in
-    subst (λ (u : Val). IsTrue c.has.result ↔ IsBelow u c.args.self.now) (sym whole) (
-      (λ t z m. elim m [ inl e ↦ subst (λ (y : ℕ). IsMember y c.args.self.now) (sym e) (c.has.ensures.0 t) | inr none ↦ absurd none ]),
-      (λ below. c.has.ensures.1 (below c.in-Some.x (inl refl))),
+    subst (λ (u : Val). IsTrue c.has_member.result ↔ IsBelow u c.args.self.now) (sym whole) (
+      (λ t z m. elim m [ inl e ↦ subst (λ (y : ℕ). IsMember y c.args.self.now) (sym e) (c.has_member.ensures.0 t) | inr none ↦ absurd none ]),
+      (λ below. c.has_member.ensures.1 (below c.in-Some.x (inl refl))),
     )
 
 pub returns-in-Many : goal.returns-in-Many
-returns-in-Many c = rw (← c.self.view_is, c.in-Many.is) (rw c.as_ref.ensures at c.is_below_small_value.ensures)
+returns-in-Many c = rw (← c.self.view_is, c.in-Many.is) (rw c.as_ref.ensures at c.is_below_shared_value.ensures)
 
 pub returns-in-Some-words : goal.returns-in-Some-words
 returns-in-Some-words c =
     let words = c.in-Some-words.words.now in
     let ve = set_of c.args.v.now words c.in-Some-words.ensures in
     let oe = sym c.self.view_is ∙ ap small_value_of c.in-One.is in
-    subst (λ (u : Val). IsTrue (nat_eq c.count_held_words.result (length words)) ↔ IsBelow u c.args.self.now) (sym ve)
-    (subst (λ (u : Val). IsTrue (nat_eq c.count_held_words.result (length words)) ↔ IsBelow (Set words) u) (sym oe)
-    (held_all (c.in-One.x ∷ []) words c.count_held_words.result c.count_held_words.ensures.within c.count_held_words.ensures.held c.count_held_words.ensures.missing))
+    subst (λ (u : Val). IsTrue (nat_eq c.count_leading_members.result (length words)) ↔ IsBelow u c.args.self.now) (sym ve)
+    (subst (λ (u : Val). IsTrue (nat_eq c.count_leading_members.result (length words)) ↔ IsBelow (Set words) u) (sym oe)
+    (held_all (c.in-One.x ∷ []) words c.count_leading_members.result c.count_leading_members.ensures.within c.count_leading_members.ensures.held c.count_leading_members.ensures.missing))
 
 pub returns-in-None : goal.returns-in-None
 returns-in-None c =

@@ -8,9 +8,9 @@ use Rattle.small_states.proofs.small_value.Small.covers_compact.Goals as goal
 pub returns-in-One : goal.returns-in-One
 returns-in-One c =
     let whole : c.args.v.now ≡ Set (c.in-One.x ∷ []) = sym c.v.view_is ∙ ap small_value_of c.in-One.is in
-    subst (λ (u : Val). IsTrue c.has.result ↔ IsBelow u c.args.self.now) (sym whole) (
-      (λ t z m. elim m [ inl e ↦ subst (λ (y : ℕ). IsMember y c.args.self.now) (sym e) (c.has.ensures.0 t) | inr none ↦ absurd none ]),
-      (λ below. c.has.ensures.1 (below c.in-One.x (inl refl))),
+    subst (λ (u : Val). IsTrue c.has_member.result ↔ IsBelow u c.args.self.now) (sym whole) (
+      (λ t z m. elim m [ inl e ↦ subst (λ (y : ℕ). IsMember y c.args.self.now) (sym e) (c.has_member.ensures.0 t) | inr none ↦ absurd none ]),
+      (λ below. c.has_member.ensures.1 (below c.in-One.x (inl refl))),
     )
 
 pub returns-in-Many : goal.returns-in-Many

@@ -18,4 +18,4 @@ returns-then-is_inside_range c =
     let own = c.args.self.now in
     let v = c.args.v.now in
     let below = subst (λ (u : Val). IsBelow own u) (sym c.in-Span.is) (c.is_inside_range.ensures c.if-is_inside_range.true) in
-    IfOk-weaker c.of.result _ _ (λ s e. e ∙ sym (join_above c.args.b.now own v c.requires.own.well c.requires.value below)) c.of.ensures
+    IfOk-weaker c.from_value.result _ _ (λ s e. e ∙ sym (join_above c.args.b.now own v c.requires.own.well c.requires.value below)) c.from_value.ensures

@@ -11,5 +11,5 @@ returns c =
     let tasks = c.args.self.now in
     let rs = c.as_slice.result.now in
     let at = ap (λ (t : TasksData). t.block) c.self.view_is in
-    let t = c.is_in_any_range.ensures ∙ ap (λ x. list_any (is_within_range x c.block_size.result) rs) at ∙ ap (λ k. list_any (is_within_range tasks.block k) rs) c.block_size.ensures in
-    tests_one c.is_in_any_range.result tasks.block (block_size tasks) rs c.args.plan.now.ram (c.as_slice.ensures.value ∙ ap (λ (p : PlanData). p.ram) c.plan.view_is) t
+    let t = c.is_in_one_range.ensures ∙ ap (λ x. list_any (is_within_range x c.block_size.result) rs) at ∙ ap (λ k. list_any (is_within_range tasks.block k) rs) c.block_size.ensures in
+    tests_one c.is_in_one_range.result tasks.block (block_size tasks) rs c.args.plan.now.ram (c.as_slice.ensures.value ∙ ap (λ (p : PlanData). p.ram) c.plan.view_is) t

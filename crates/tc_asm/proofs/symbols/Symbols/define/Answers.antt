@@ -6,17 +6,17 @@ use Rattle.tc_asm.proofs.symbols.Symbols.define.Goals as goal
 
 pub returns-in-None-clause-symbols : goal.returns-in-None-clause-symbols
 returns-in-None-clause-symbols c =
-    labelled_new c.args.self.now _ c.args.name.now c.args.place _ c.in_ok-put.ensures.old c.in-None.is
-    c.in_ok-put.ensures.put
+    labelled_new c.args.self.now _ c.args.name.now c.args.place _ c.in_ok-insert.ensures.old c.in-None.is
+    c.in_ok-insert.ensures.put
 
 pub returns-in-None-clause-before : goal.returns-in-None-clause-before
-returns-in-None-clause-before c = ap (λ o. (unwrap_or o undefined_entry).place) (sym c.in-None.is ∙ c.in_ok-put.ensures.old)
+returns-in-None-clause-before c = ap (λ o. (unwrap_or o undefined_entry).place) (sym c.in-None.is ∙ c.in_ok-insert.ensures.old)
 
-pub returns-in_ok-put-in-Some-clause-symbols : goal.returns-in_ok-put-in-Some-clause-symbols
-returns-in_ok-put-in-Some-clause-symbols c =
-    labelled_known c.args.self.now c.put.new.self _ c.args.name.now c.args.place _ c.in-Some.old c.in_ok-put.ensures.old c.in-Some.is
-    c.in_ok-put.ensures.put
-    (c.in_ok-put-in-Some.ensures.put ∙ ap (put_entry c.put.new.self c.args.name.now) c.entry_with_label.ensures)
+pub returns-in_ok-insert-in-Some-clause-symbols : goal.returns-in_ok-insert-in-Some-clause-symbols
+returns-in_ok-insert-in-Some-clause-symbols c =
+    labelled_known c.args.self.now c.insert.new.self _ c.args.name.now c.args.place _ c.in-Some.old c.in_ok-insert.ensures.old c.in-Some.is
+    c.in_ok-insert.ensures.put
+    (c.in_ok-insert-in-Some.ensures.put ∙ ap (put_entry c.insert.new.self c.args.name.now) c.entry_with_label.ensures)
 
-pub returns-in_ok-put-in-Some-clause-before : goal.returns-in_ok-put-in-Some-clause-before
-returns-in_ok-put-in-Some-clause-before c = ap (λ o. (unwrap_or o undefined_entry).place) (sym c.in-Some.is ∙ c.in_ok-put.ensures.old)
+pub returns-in_ok-insert-in-Some-clause-before : goal.returns-in_ok-insert-in-Some-clause-before
+returns-in_ok-insert-in-Some-clause-before c = ap (λ o. (unwrap_or o undefined_entry).place) (sym c.in-Some.is ∙ c.in_ok-insert.ensures.old)

@@ -26,8 +26,8 @@ returns-then-certs-len g c =
     (leads_firmware _ _ _ _ _ _ _ _ c.in_ok-image.ensures.leaves c.in_ok-image.ensures.later c.in_ok-image.ensures.found c.in_ok-board.ensures.leaves c.in_ok-board.ensures.later c.in_ok-board.ensures.found).comes _ _
     ((leads_read _ _ _ _ _ _ _ c.in_ok-list.ensures.leaves c.in_ok-list.ensures.later c.in_ok-list.ensures.found).comes _ _
     (comes_counted (map string_bytes c.args.certs.now) c.in_ok-list.list
-    (IsTaskcertReport (map string_bytes c.args.certs.now) c.in_ok-image.image c.in_ok-board.board c.in_ok-list.list) (g.F.Files.seen c.read_input-3.new.files) c.certify_all_tasks.result
-    (length-map c.args.certs.now string_bytes ∙ c.if-certs-len.true ∙ c.len.ensures.value ∙ ap (λ (t : TasksData). length t.list) c.list.view_is) c.certify_all_tasks.ensures))
+    (IsTaskcertReport (map string_bytes c.args.certs.now) c.in_ok-image.image c.in_ok-board.board c.in_ok-list.list) (g.F.Files.seen c.read_input-3.new.files) c.taskcert_report.result
+    (length-map c.args.certs.now string_bytes ∙ c.if-certs-len.true ∙ c.len.ensures.value ∙ ap (λ (t : TasksData). length t.list) c.list.view_is) c.taskcert_report.ensures))
 
 pub returns : goal.returns
 returns g c =

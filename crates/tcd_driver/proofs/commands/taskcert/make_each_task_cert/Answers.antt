@@ -11,7 +11,7 @@ pub loop-u-preserved : goal.loop-u-preserved
 loop-u-preserved c =
     next_made (map string_bytes c.args.names.now) c.args.image.now c.args.plan.now c.args.tasks.now c.loop-u.u c.as_str.result.now c.loop-u.writes.items _ c.loop-u.sum c.in-Ok.need c.from-sum.result c.in-Ok.cert c.into_bytes.result.items
     (name_here string_bytes c.args.names.now c.loop-u.u c.index-names-u.result _ (omega arith) c.index-names-u.is c.as_str.ensures.value) (omega arith) c.loop-u.invariant c.in-Ok.ensures c.into_bytes.ensures
-    c.in-Ok-add_task_cert_file.ensures (c.from-sum.ensures ∙ c.task_need_to_count.ensures)
+    c.in-Ok-add_task_cert_file.ensures (c.from-sum.ensures ∙ c.counted_task_need.ensures)
 
 pub returns-in-Err : goal.returns-in-Err
 returns-in-Err c =

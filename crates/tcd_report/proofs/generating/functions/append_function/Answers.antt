@@ -15,10 +15,10 @@ returns c =
     let left : ℕ → List ℕ = λ a. call_if_below n (a + 4) (2 * i + 1) in
     let right : ℕ → List ℕ = λ a. call_if_below n (a + 8) (2 * i + 2) in
     let at : ℕ = c.generated_function_address-at.result in
-    let there : c.append_call_if_below-2.new.out.items ≡ ((before ++ head) ++ left (generated_function_address i)) ++ right (generated_function_address i) =
-    c.in_ok-append_call_if_below-2.ensures
-    ∙ ap (λ l. l ++ right at) (c.in_ok-append_call_if_below.ensures ∙ ap (λ l. l ++ left at) c.in_ok-append_segment_bytes.ensures)
+    let there : c.append_call_if_any-2.new.out.items ≡ ((before ++ head) ++ left (generated_function_address i)) ++ right (generated_function_address i) =
+    c.in_ok-append_call_if_any-2.ensures
+    ∙ ap (λ l. l ++ right at) (c.in_ok-append_call_if_any.ensures ∙ ap (λ l. l ++ left at) c.in_ok-append_segment_bytes.ensures)
     ∙ ap (λ a. ((before ++ head) ++ left a) ++ right a) c.generated_function_address-at.ensures in
-    let whole : c.append_call_if_below-2.new.out.items ++ tail ≡ before ++ generated_function_code n i =
+    let whole : c.append_call_if_any-2.new.out.items ++ tail ≡ before ++ generated_function_code n i =
     ap (λ l. l ++ tail) there ∙ joined_four before head (left (generated_function_address i)) (right (generated_function_address i)) tail ∙ ap (λ l. before ++ l) (sym (function_bytes n i)) in
     subst (λ (l : List ℕ). OnOk c.append_segment_bytes-2.result (c.append_segment_bytes-2.new.out.items ≡ l)) whole c.append_segment_bytes-2.ensures

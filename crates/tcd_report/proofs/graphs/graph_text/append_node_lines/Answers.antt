@@ -16,16 +16,16 @@ use Rattle.tcd_report.proofs.graphs.graph_text.append_node_lines.Goals as goal
 pub append_point_lines-requires-clause-values : goal.append_point_lines-requires-clause-values
 append_point_lines-requires-clause-values c =
     let j = c.args.judged.now in
-    let p : Point = point_of c.in-Some.addr c.step.new.self.current in
-    let there : Contains (c.args.node.now).points p = walked (c.args.node.now).points c.loop-addr.invariant.done (c.loop-addr.walk).left c.step.new.self.left p c.loop-addr.invariant.split c.in-Some.ensures.0 in
+    let p : Point = point_of c.in-Some.addr c.advance.new.self.current in
+    let there : Contains (c.args.node.now).points p = walked (c.args.node.now).points c.loop-addr.invariant.done (c.loop-addr.walk).left c.advance.new.self.left p c.loop-addr.invariant.split c.in-Some.ensures.0 in
     subst (λ (s : State). AreValues j.bounds.now s.regs) (sym c.state.ensures)
     (point_values j.image.now j.plan.now j.cert.now c.requires.judged.accepted c.args.node.now c.requires.stands p there j.bounds.now c.requires.judged.limits)
 
 pub append_point_lines-requires-clause-faultless : goal.append_point_lines-requires-clause-faultless
 append_point_lines-requires-clause-faultless c =
     let j = c.args.judged.now in
-    let p : Point = point_of c.in-Some.addr c.step.new.self.current in
-    let there : Contains (c.args.node.now).points p = walked (c.args.node.now).points c.loop-addr.invariant.done (c.loop-addr.walk).left c.step.new.self.left p c.loop-addr.invariant.split c.in-Some.ensures.0 in
+    let p : Point = point_of c.in-Some.addr c.advance.new.self.current in
+    let there : Contains (c.args.node.now).points p = walked (c.args.node.now).points c.loop-addr.invariant.done (c.loop-addr.walk).left c.advance.new.self.left p c.loop-addr.invariant.split c.in-Some.ensures.0 in
     subst (λ (k : Key). IsFaultless j.bounds.now j.image.now j.plan.now k c.in-Some.addr c.state.result.now) (sym (ap (λ (n : NodeData). n.key) c.node.view_is))
     (subst (λ (s : State). IsFaultless j.bounds.now j.image.now j.plan.now (c.args.node.now).key c.in-Some.addr s) (sym c.state.ensures)
     (point_faultless j.image.now j.plan.now j.cert.now c.requires.judged.accepted c.args.node.now c.requires.stands p there j.bounds.now c.requires.judged.limits))
@@ -34,14 +34,14 @@ pub loop-addr-preserved : goal.loop-addr-preserved
 loop-addr-preserved c =
     let j = c.args.judged.now in
     let inv = c.loop-addr.invariant in
-    let p : Point = point_of c.in-Some.addr c.step.new.self.current in
+    let p : Point = point_of c.in-Some.addr c.advance.new.self.current in
     let grows =
     subst (λ (s : State). GrowsByLines (ArePointLines j.image.now j.plan.now j.cert.now (c.args.node.now).key (point_of c.in-Some.addr s)) (string_bytes c.loop-addr.graph.text) (string_bytes c.append_point_lines.new.graph.text)) c.state.ensures
     (subst (λ (k : Key). GrowsByLines (ArePointLines j.image.now j.plan.now j.cert.now k (point_of c.in-Some.addr c.state.result.now)) (string_bytes c.loop-addr.graph.text) (string_bytes c.append_point_lines.new.graph.text)) (ap (λ (n : NodeData). n.key) c.node.view_is)
     c.in_ok-append_point_lines.ensures.lines) in
     record {
       done = inv.done ++ p ∷ [];
-      split = split_more (c.args.node.now).points inv.done (c.loop-addr.walk).left c.step.new.self.left p inv.split c.in-Some.ensures.0;
+      split = split_more (c.args.node.now).points inv.done (c.loop-addr.walk).left c.advance.new.self.left p inv.split c.in-Some.ensures.0;
       front = c.in_ok-append_point_lines.ensures.front ∙ ap key_front (ap (λ (n : NodeData). n.key) c.node.view_is);
       handlers = c.in_ok-append_point_lines.ensures.handlers;
       grown = grown_push (ArePointLines j.image.now j.plan.now j.cert.now (c.args.node.now).key) inv.done p (string_bytes c.args.graph.now.text) (string_bytes c.loop-addr.graph.text) (string_bytes c.append_point_lines.new.graph.text) inv.grown grows;

@@ -33,19 +33,19 @@ returns-clause-lines c =
     record { to = found.to; call = found.call; back = found.back; sys = found.sys; aln = found.aln; irq = c.in_ok-set_handler_line_front.ensures.entries ∙ found.irq } in
     let front_is : string_bytes c.set_point_line_front.new.front ≡ line_front key c.args.addr =
     c.in_ok-set_point_line_front.ensures ∙ ap (λ l. l ++ (hex_word c.args.addr ++ 32 ∷ [])) (c.as_str.ensures.value ∙ c.requires.front) in
-    on_ok_weaker c.append_return.result
+    on_ok_weaker c.append_ret_line.result
     (λ whole.
-    point_lines j.image.now j.plan.now j.cert.now key (point_of c.args.addr c.args.s.now) c.in-Some.found.shape c.in-Some.found.size j.bounds.now ways before text (string_bytes c.append_return.new.text)
+    point_lines j.image.now j.plan.now j.cert.now key (point_of c.args.addr c.args.s.now) c.in-Some.found.shape c.in-Some.found.size j.bounds.now ways before text (string_bytes c.append_ret_line.new.text)
     c.requires.judged.limits c.in-Some.ensures.code are
     (c.in_ok-append_edges.ensures ∙ ap (λ l. before ++ edge_lines_text l ways) (c.as_str-3.ensures.value ∙ front_is))
     (whole ∙ ap (λ l. text ++ return_line_text l c.in-Some.found.shape) (c.as_str-4.ensures.value ∙ front_is)))
-    c.append_return.ensures
+    c.append_ret_line.ensures
 
 pub returns-clause-front : goal.returns-clause-front
-returns-clause-front c = on_ok_weaker c.append_return.result (λ whole. c.requires.front) c.append_return.ensures
+returns-clause-front c = on_ok_weaker c.append_ret_line.result (λ whole. c.requires.front) c.append_ret_line.ensures
 
 pub returns-clause-handlers : goal.returns-clause-handlers
-returns-clause-handlers c = on_ok_weaker c.append_return.result (λ whole. c.in_ok-set_handler_line_front.ensures.known c.args.judged.now.plan.now c.in_ok-find_edges.ensures.handlers) c.append_return.ensures
+returns-clause-handlers c = on_ok_weaker c.append_ret_line.result (λ whole. c.in_ok-set_handler_line_front.ensures.known c.args.judged.now.plan.now c.in_ok-find_edges.ensures.handlers) c.append_ret_line.ensures
 
 pub unreachable-requires : goal.unreachable-requires
 unreachable-requires c = c.in_default.ensures.code ((c.requires.faultless 3).code refl)

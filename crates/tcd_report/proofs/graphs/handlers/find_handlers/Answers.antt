@@ -7,11 +7,11 @@ use Rattle.tcd_report.proofs.graphs.handlers.find_handlers.Goals as goal
 
 pub returns-clause-entries : goal.returns-clause-entries
 returns-clause-entries c =
-    c.in_ok-set_unique_addresses.ensures ∙ ap unique_addresses (c.deref.ensures.value ∙ c.in_ok-set_handler_entries.ensures ∙ ap (irq_entry_vectors c.args.plan.now) (c.as_slice.ensures.value ∙ c.interrupts-irqs.ensures))
+    c.in_ok-set_unique_addresses.ensures ∙ ap unique_addresses (c.deref.ensures.value ∙ c.in_ok-set_handler_entries.ensures ∙ ap (irq_entry_vectors c.args.plan.now) (c.as_slice.ensures.value ∙ c.possible_irqs-irqs.ensures))
 
 pub returns-clause-known : goal.returns-clause-known
 returns-clause-known c =
     let plan = c.args.plan.now in
     known_by plan _ c.args.s.now refl refl
-    (c.in_ok-set_unique_addresses.ensures ∙ ap unique_addresses (c.deref.ensures.value ∙ c.in_ok-set_handler_entries.ensures ∙ ap (irq_entry_vectors plan) (c.as_slice.ensures.value ∙ c.interrupts-irqs.ensures)))
+    (c.in_ok-set_unique_addresses.ensures ∙ ap unique_addresses (c.deref.ensures.value ∙ c.in_ok-set_handler_entries.ensures ∙ ap (irq_entry_vectors plan) (c.as_slice.ensures.value ∙ c.possible_irqs-irqs.ensures)))
     (record { front = []; sized = refl; are = c.in_ok-make_handler_lines.ensures ∙ ap (lines_to [] (codes "irq ")) c.deref-2.ensures.value })

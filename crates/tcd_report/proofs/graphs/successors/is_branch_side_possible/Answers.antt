@@ -4,4 +4,4 @@ use Rattle.tcd_report.proofs.GraphLemmas.DutyLists.{possible_some}
 use Rattle.tcd_report.proofs.graphs.successors.is_branch_side_possible.Goals as goal
 
 pub returns : goal.returns
-returns c = sym (possible_some c.change_on.result _) ∙ ap is_some c.change_on.ensures.refine
+returns c = sym (possible_some c.write_branch_change.result _) ∙ ap is_some c.write_branch_change.ensures.refine

@@ -22,13 +22,13 @@ unreachable-requires c =
     let none : ℕ × Key = (0, record { kind = 0; entry = 0; prio = 0; is = false }) in
     cc (c.in_default.ensures ∙ ((ranked cert c.version-version.ensures.limits order moved (get_or order i none) (Contains-get_or order i none c.loop-key-test.true)).1).0)
 
-pub longest_chain_from-rows-requires-clause-low : goal.longest_chain_from-rows-requires-clause-low
-longest_chain_from-rows-requires-clause-low c =
+pub height_of_node-rows-requires-clause-low : goal.height_of_node-rows-requires-clause-low
+height_of_node-rows-requires-clause-low c =
     let j = c.args.judged.now in
     tells_low j.image.now j.plan.now j.cert.now (c.version-version.ensures.limits) c.requires.accepted c.loop-key.heights c.loop-key.invariant.tells
 
-pub longest_chain_from-rows-requires-clause-stands : goal.longest_chain_from-rows-requires-clause-stands
-longest_chain_from-rows-requires-clause-stands c =
+pub height_of_node-rows-requires-clause-stands : goal.height_of_node-rows-requires-clause-stands
+height_of_node-rows-requires-clause-stands c =
     let cert : CertData = c.args.judged.now.cert.now in
     let order : List (ℕ × Key) = c.deref-key-items.result.now in
     let moved : IsPermutation (map height_rank_of cert.nodes) order =
@@ -59,9 +59,9 @@ loop-key-preserved c =
     let sorted : IsSortedBy (λ x y. is_lt (ordering_then (nat_cmp x.0 y.0) (key_cmp x.1 y.1))) order =
     subst (λ (l : List (ℕ × Key)). IsSortedBy (λ x y. is_lt (ordering_then (nat_cmp x.0 y.0) (key_cmp x.1 y.1))) l) (sym c.deref-key-items.ensures.value) c.in_ok-sort.ensures.sorted in
     let heights = c.loop-key.heights in
-    let rows : ℕ = c.longest_chain_from-rows.result in
+    let rows : ℕ = c.height_of_node-rows.result in
     let most : IsGreatestHeightOf (HasCalleeHeightAt j.image.now j.plan.now cert heights (r.0).key) (r.0).points rows =
-    subst (λ (n : NodeData). IsGreatestHeightOf (HasCalleeHeightAt j.image.now j.plan.now cert heights n.key) n.points rows) node_is c.longest_chain_from-rows.ensures in
+    subst (λ (n : NodeData). IsGreatestHeightOf (HasCalleeHeightAt j.image.now j.plan.now cert heights n.key) n.points rows) node_is c.height_of_node-rows.ensures in
     let known = callees_known j.image.now j.plan.now cert is c.requires.accepted heights key_cmp order moved sorted i x r.0 lt at c.loop-key.invariant.all (r.1).1 in
     let told : HasNodeHeight j.image.now j.plan.now cert x.1 rows =
     record {

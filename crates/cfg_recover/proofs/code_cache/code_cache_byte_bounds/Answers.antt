@@ -1,4 +1,0 @@
-use Rattle.cfg_recover.proofs.code_cache.code_cache_byte_bounds.Goals as goal
-
-pub returns : goal.returns
-returns c = λ k. (c.type_inv.bytes k).fits

@@ -1,5 +1,0 @@
-use Rattle.value_domain.proofs.WordLaws.{words_from}
-use Rattle.depth_cert.proofs.value_reader.make_set_of_ascending.Goals as goal
-
-pub set_words-requires : goal.set_words-requires
-set_words-requires c = words_from c.args.words.now c.requires.some c.requires.few c.requires.rising (λ k. (c.type_inv.words k).fits)

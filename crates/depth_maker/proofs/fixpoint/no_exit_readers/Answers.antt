@@ -1,5 +1,0 @@
-use Rattle.depth_maker.proofs.VisitLemmas.{get_none}
-use Rattle.depth_maker.proofs.fixpoint.no_exit_readers.Goals as goal
-
-pub returns : goal.returns
-returns c z = get_none c.new.result z c.new.ensures.empty

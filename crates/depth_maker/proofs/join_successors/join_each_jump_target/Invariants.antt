@@ -1,0 +1,7 @@
+use Rattle.std.proofs.Common.{take}
+use Rattle.cfg_recover.specs.Duties.{jumps_to}
+use Rattle.depth_maker.specs.VisitDuties.{JoinedBy}
+use Rattle.depth_maker.proofs.join_successors.join_each_jump_target.Given as goal
+
+abbrev pub invariant-loop-t : goal.invariant-loop-t
+invariant-loop-t l = JoinedBy l.v l.initial.table l.table (jumps_to l.v.state.now (take l.t-index l.targets))

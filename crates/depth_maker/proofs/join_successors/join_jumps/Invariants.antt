@@ -1,7 +1,0 @@
-use Rattle.std.proofs.Common.{take}
-use Rattle.cfg_recover.specs.Duties.{jumps_to}
-use Rattle.depth_maker.specs.VisitDuties.{JoinedBy}
-use Rattle.depth_maker.proofs.join_successors.join_jumps.Given as goal
-
-abbrev pub invariant-loop-t : goal.invariant-loop-t
-invariant-loop-t l = JoinedBy l.v l.initial.table l.table (jumps_to l.v.state.now (take l.t-index l.targets))

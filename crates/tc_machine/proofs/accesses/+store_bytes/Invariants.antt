@@ -1,4 +1,0 @@
-use Rattle.tc_machine.proofs.accesses.+store_bytes.Given as goal
-
-abbrev pub decreases-store_bytes : goal.decreases-store_bytes
-decreases-store_bytes l = l.n

@@ -1,7 +1,0 @@
-use Rattle.vd_transfer.proofs.operations.operate_on_own_values.Goals as goal
-
-pub returns-in-Some-arg_in_state-clause-of : goal.returns-in-Some-arg_in_state-clause-of
-returns-in-Some-arg_in_state-clause-of c = rw (rw c.in-Some.is at c.arg_in_state.ensures.arg, rw c.in-Some-arg_in_state.is at c.arg_in_state-in-Some.ensures.arg) at c.write_operation.ensures.cover
-
-pub returns-in-None-arg_in_state-clause-of : goal.returns-in-None-arg_in_state-clause-of
-returns-in-None-arg_in_state-clause-of c = rw (rw c.in-Some.is at c.arg_in_state.ensures.arg) at c.operate_on_built_right.ensures.of
