@@ -9,20 +9,20 @@ use Rattle.value_domain.specs.declared.states.State.{State}
 use Rattle.value_domain.specs.Limits.{Limits}
 use Rattle.value_domain.specs.Values.{IsBelow}
 use Rattle.value_domain.specs.State.{Covers}
-use Rattle.vd_transfer.specs.Registers.{slot, arg_of, register_value_at}
+use Rattle.vd_transfer.specs.Registers.{register_slot, arg_of, register_value_at}
 use Rattle.vd_transfer.specs.EffectsOnStates.{access_of}
-use Rattle.vd_transfer.specs.Soundness.{IsSoundSetting}
+use Rattle.vd_transfer.specs.Soundness.{MeetSoundnessPremises}
 use Rattle.vd_transfer.proofs.SlotLaws.{slot_is}
 use Rattle.vd_transfer.proofs.HoldLaws.{arg_value}
 use Rattle.vd_transfer.proofs.OpLaws.{monotone}
 
-module _ (b : Limits) (p : PlanData) (s t : State) (low : IsSoundSetting b p s) (high : IsSoundSetting b p t) (c : Covers t s) where
-  pub value_grows : (r : ℕ) (o : Option ℕ) → slot r ≡ o → IsBelow (register_value_at p s r o) (register_value_at p t r o)
+module _ (b : Limits) (p : PlanData) (s t : State) (low : MeetSoundnessPremises b p s) (high : MeetSoundnessPremises b p t) (c : Covers t s) where
+  pub value_grows : (r : ℕ) (o : Option ℕ) → register_slot r ≡ o → IsBelow (register_value_at p s r o) (register_value_at p t r o)
   value_grows r None e = λ x m. m
   value_grows r (Some i) e = c.regs i (let within = (slot_is r i e).within in let all = low.regs in omega arith)
 
   pub arg_grows : (y : Arg) → IsBelow (arg_of p s y) (arg_of p t y)
-  arg_grows (Reg r) = value_grows r (slot r) refl
+  arg_grows (Reg r) = value_grows r (register_slot r) refl
   arg_grows (Word w) = λ x m. m
 
   pub access_grows : (base : Arg) (offset : ℕ) (after : Bool) → IsArg base → offset < 2 ^ 32 → IsBelow (access_of b p s base offset after) (access_of b p t base offset after)

@@ -19,22 +19,22 @@ use Rattle.tcd_base.specs.Ranges.{IsInOneRange}
 use Rattle.tc_machine.specs.Safe.{SpellsAt}
 use Rattle.tc_machine.proofs.ShapeWords as machine
 use Rattle.cfg_recover.specs.Code.{IsCode, HasCode, FindsCodeInBytes, FindsCode}
-use Rattle.cfg_recover.specs.HeldBytes.{held_bytes, FindsHeldBytes}
+use Rattle.cfg_recover.specs.HeldBytes.{image_bytes_at, FindsRomBytes}
 
 -- the bytes from x on are these
 abbrev Holds : ImageData → ℕ → List ℕ → Type 0
 Holds image x bs = (i : ℕ) → i < length bs → image_byte image (x + i) ≡ Some (slice_index bs i)
 
 -- bytes that are held are found
-held_from : (image : ImageData) (x : ℕ) (bs : List ℕ) → Holds image x bs → held_bytes image x (length bs) ≡ Some bs
+held_from : (image : ImageData) (x : ℕ) (bs : List ℕ) → Holds image x bs → image_bytes_at image x (length bs) ≡ Some bs
 held_from image x [] h = refl
 held_from image x (b ∷ bs) h =
     let first : image_byte image x ≡ Some b = ap (λ (y : ℕ). image_byte image y) (sym (add-zero x)) ∙ h 0 (omega arith) in
-    let rest : held_bytes image (x + 1) (length bs) ≡ Some bs = held_from image (x + 1) bs (λ i lt. ap (λ (y : ℕ). image_byte image y) (omega arith) ∙ h (suc i) (omega arith)) in
+    let rest : image_bytes_at image (x + 1) (length bs) ≡ Some bs = held_from image (x + 1) bs (λ i lt. ap (λ (y : ℕ). image_byte image y) (omega arith) ∙ h (suc i) (omega arith)) in
     rw (first, rest) refl
 
-held_by_length : (image : ImageData) (x n : ℕ) (bs : List ℕ) → length bs ≡ n → Holds image x bs → held_bytes image x n ≡ Some bs
-held_by_length image x n bs e h = let P : ℕ → Type 0 = λ m. held_bytes image x m ≡ Some bs in subst P e (held_from image x bs h)
+held_by_length : (image : ImageData) (x n : ℕ) (bs : List ℕ) → length bs ≡ n → Holds image x bs → image_bytes_at image x n ≡ Some bs
+held_by_length image x n bs e h = let P : ℕ → Type 0 = λ m. image_bytes_at image x m ≡ Some bs in subst P e (held_from image x bs h)
 
 -- bytes that are found are held
 parts : (o : Option ℕ) (r : Option (List ℕ)) (bs : List ℕ) → option_and_then (λ b. option_map (λ t. b ∷ t) r) o ≡ Some bs → (b : ℕ) × (t : List ℕ) × (o ≡ Some b) × (r ≡ Some t) × (bs ≡ b ∷ t)
@@ -48,11 +48,11 @@ held_next image x b t bs e first rest (suc i) lt =
     let within : i < length t = omega (arith, ap (λ (l : List ℕ). length l) e) in
     ap (λ (y : ℕ). image_byte image y) (omega arith) ∙ rest i within ∙ ap (λ (l : List ℕ). Some (slice_index l (suc i))) (sym e)
 
-held_to : (image : ImageData) (x n : ℕ) (bs : List ℕ) → held_bytes image x n ≡ Some bs → (length bs ≡ n) × Holds image x bs
+held_to : (image : ImageData) (x n : ℕ) (bs : List ℕ) → image_bytes_at image x n ≡ Some bs → (length bs ≡ n) × Holds image x bs
 held_to image x zero [] e = (refl, λ i lt. absurd (omega arith))
 held_to image x zero (b ∷ bs) e = cc
 held_to image x (suc n) bs e =
-    let p = parts (image_byte image x) (held_bytes image (x + 1) n) bs e in
+    let p = parts (image_byte image x) (image_bytes_at image (x + 1) n) bs e in
     let r = held_to image (x + 1) n p.1 p.3 in
     let l : length bs ≡ suc (length p.1) = ap (λ (l : List ℕ). length l) p.4 in
     (omega arith, held_next image x p.0 p.1 bs p.4 p.2 r.1)
@@ -70,7 +70,7 @@ in_one_fewer x n m (r ∷ rs) le (inl w) = inl (w.0, omega arith)
 in_one_fewer x n m (r ∷ rs) le (inr h) = inr (in_one_fewer x n m rs le h)
 
 -- an instruction that they begin with is there
-pub code_found : (image : ImageData) (plan : PlanData) (x m : ℕ) (bs : List ℕ) (inst : InstData) (n : ℕ) → x % 2 ≡ 0 → FindsHeldBytes image plan x m (Some bs) → FindsCodeInBytes bs (Some (inst, n)) → IsCode image plan x (shape_of inst) n
+pub code_found : (image : ImageData) (plan : PlanData) (x m : ℕ) (bs : List ℕ) (inst : InstData) (n : ℕ) → x % 2 ≡ 0 → FindsRomBytes image plan x m (Some bs) → FindsCodeInBytes bs (Some (inst, n)) → IsCode image plan x (shape_of inst) n
 code_found image plan x m bs inst n even at finds =
     let held = held_to image x m bs at.1 in
     let lengths = decode_laws.lengths bs inst n finds in
@@ -101,7 +101,7 @@ some_same o a b e f = cc
 none_some : (o : Option (List ℕ)) (a : List ℕ) → o ≡ None → o ≡ Some a → ⊥
 none_some o a e f = cc
 
-held_of : (image : ImageData) (plan : PlanData) (x n : ℕ) (bytes : List ℕ) (inst : InstData) → SpellsAt image plan x bytes inst → length bytes ≡ n → held_bytes image x n ≡ Some bytes
+held_of : (image : ImageData) (plan : PlanData) (x n : ℕ) (bytes : List ℕ) (inst : InstData) → SpellsAt image plan x bytes inst → length bytes ≡ n → image_bytes_at image x n ≡ Some bytes
 held_of image plan x n bytes inst at e = held_by_length image x n bytes e at.held
 
 in_rom_of : (image : ImageData) (plan : PlanData) (x n : ℕ) (bytes : List ℕ) (inst : InstData) → SpellsAt image plan x bytes inst → length bytes ≡ n → IsInOneRange x n plan.rom
@@ -115,7 +115,7 @@ has_none : (image : ImageData) (plan : PlanData) (x : ℕ) → SpellsNone image 
 has_none image plan x none has = none (has.code).bytes (has.code).inst (has.code).spells
 
 -- if four bytes are there that begin with no instruction, there is none
-none_in_four : (image : ImageData) (plan : PlanData) (x : ℕ) (bs : List ℕ) → FindsHeldBytes image plan x 4 (Some bs) → FindsCodeInBytes bs None → SpellsNone image plan x
+none_in_four : (image : ImageData) (plan : PlanData) (x : ℕ) (bs : List ℕ) → FindsRomBytes image plan x 4 (Some bs) → FindsCodeInBytes bs None → SpellsNone image plan x
 none_in_four image plan x bs at none bytes inst code =
     let held = held_to image x 4 bs at.1 in
     elim (two_or_four bytes inst code.spelled) [
@@ -130,7 +130,7 @@ none_in_four image plan x bs at none bytes inst code =
     ]
 
 -- if no four bytes are there, and two that begin with no instruction, there is none
-none_in_two : (image : ImageData) (plan : PlanData) (x : ℕ) (bs : List ℕ) → FindsHeldBytes image plan x 4 None → FindsHeldBytes image plan x 2 (Some bs) → FindsCodeInBytes bs None → SpellsNone image plan x
+none_in_two : (image : ImageData) (plan : PlanData) (x : ℕ) (bs : List ℕ) → FindsRomBytes image plan x 4 None → FindsRomBytes image plan x 2 (Some bs) → FindsCodeInBytes bs None → SpellsNone image plan x
 none_in_two image plan x bs no_four at none bytes inst code =
     elim (two_or_four bytes inst code.spelled) [
       | inl two ↦
@@ -140,7 +140,7 @@ none_in_two image plan x bs no_four at none bytes inst code =
     ]
 
 -- if neither four nor two bytes are there, there is no instruction
-pub none_there : (image : ImageData) (plan : PlanData) (x : ℕ) → FindsHeldBytes image plan x 4 None → FindsHeldBytes image plan x 2 None → FindsCode image plan x None
+pub none_there : (image : ImageData) (plan : PlanData) (x : ℕ) → FindsRomBytes image plan x 4 None → FindsRomBytes image plan x 2 None → FindsCode image plan x None
 none_there image plan x no_four no_two = has_none image plan x (λ bytes inst code.
     elim (two_or_four bytes inst code.spelled) [
       | inl two ↦ none_some _ bytes (no_two (in_rom_of image plan x 2 bytes inst code two)) (held_of image plan x 2 bytes inst code two)
@@ -148,12 +148,12 @@ none_there image plan x no_four no_two = has_none image plan x (λ bytes inst co
     ])
 
 -- the code at an even address, by four bytes
-pub by_four : (image : ImageData) (plan : PlanData) (x : ℕ) (bs : List ℕ) (found : Option (InstData × ℕ)) → x % 2 ≡ 0 → FindsHeldBytes image plan x 4 (Some bs) → FindsCodeInBytes bs found → FindsCode image plan x found
+pub by_four : (image : ImageData) (plan : PlanData) (x : ℕ) (bs : List ℕ) (found : Option (InstData × ℕ)) → x % 2 ≡ 0 → FindsRomBytes image plan x 4 (Some bs) → FindsCodeInBytes bs found → FindsCode image plan x found
 by_four image plan x bs (Some (inst, n)) even at finds = code_found image plan x 4 bs inst n even at finds
 by_four image plan x bs None even at finds = has_none image plan x (none_in_four image plan x bs at finds)
 
 -- the code at an even address, by two bytes
-pub by_two : (image : ImageData) (plan : PlanData) (x : ℕ) (bs : List ℕ) (found : Option (InstData × ℕ)) → x % 2 ≡ 0 → FindsHeldBytes image plan x 4 None → FindsHeldBytes image plan x 2 (Some bs) → FindsCodeInBytes bs found → FindsCode image plan x found
+pub by_two : (image : ImageData) (plan : PlanData) (x : ℕ) (bs : List ℕ) (found : Option (InstData × ℕ)) → x % 2 ≡ 0 → FindsRomBytes image plan x 4 None → FindsRomBytes image plan x 2 (Some bs) → FindsCodeInBytes bs found → FindsCode image plan x found
 by_two image plan x bs (Some (inst, n)) even no_four at finds = code_found image plan x 2 bs inst n even at finds
 by_two image plan x bs None even no_four at finds = has_none image plan x (none_in_two image plan x bs no_four at finds)
 

@@ -8,17 +8,17 @@ use Rattle.tcd_plan.specs.PlanData.{PlanData}
 use Rattle.tc_isa.specs.declared.shapes.Target.{Target}
 use Rattle.tc_isa.specs.declared.shapes.Shape.{Shape}
 use Rattle.tc_isa.specs.declared.shapes.Shape.TheVariants.{Branch, Call, Jump, Mtcr, Ret, Rfe, Syscall}
-use Rattle.tc_machine.specs.Instructions.{machine_address_ahead}
+use Rattle.tc_machine.specs.Instructions.{wrapping_sum}
 use Rattle.value_domain.specs.declared.states.State.{State}
 use Rattle.value_domain.specs.Limits.{Limits}
 use Rattle.vd_transfer.specs.Branches.{refine_of}
 use Rattle.vd_transfer.specs.EffectsOnStates.{transfer_of}
 use Rattle.depth_cert.specs.declared.keys.Key.{Key}
 use Rattle.depth_cert.specs.declared.points.Exit.{Exit}
-use Rattle.depth_cert.specs.Exits.{exit_of}
-use Rattle.cfg_recover.specs.Entries.{aln_entry, aln_key, call_entry, call_key, irq_entry, irq_key, sys_key, irqs_of}
+use Rattle.depth_cert.specs.Exits.{exit_of_state}
+use Rattle.cfg_recover.specs.Entries.{aln_entry, aln_key, call_entry, call_key, irq_entry, irq_key, sys_key, possible_irqs_of}
 use Rattle.cfg_recover.specs.LocalRules.{targets_of}
-use Rattle.cfg_recover.specs.Duties.{Owed, owed, jump, enter, resume, leave, jump_on, loaded_for_duties, next_duty_of, successor_duties_of, entry_and_return, entry_duties_of, may_be_misaligned, misaligned_entry, misaligned_duties_of, interrupt_duties_of, exit_duties_of, entered_keys}
+use Rattle.cfg_recover.specs.Duties.{Owed, owed, jump, enter, resume, leave, jump_on, value_loaded_by_shape, next_duty_of, successor_duties_of, entry_and_return, entry_duties_of, may_be_misaligned, misaligned_entry, misaligned_duties_of, interrupt_duties_of, exit_duties_of, entered_keys}
 
 -- ---- lists of lists
 pub flat_flat : {A B X : Type 0} (f : B → List X) (h : A → List B) (g : A → List X) → ((x : A) → flat_map f (h x) ≡ g x) → (xs : List A) → flat_map f (flat_map h xs) ≡ flat_map g xs
@@ -55,15 +55,15 @@ module _ {X : Type 0} (f : Owed → List X) where
 
   next_none : ((q : ℕ) (t : State) → f (owed 4 (jump q t)) ≡ []) → (b : Limits) (image : ImageData) (plan : PlanData) (p : ℕ) (s : State) (shape : Shape) (n : ℕ) → flat_map f (next_duty_of b image plan p s shape n) ≡ []
   next_none e b image plan p s shape n =
-      let t : State = transfer_of b plan shape s (loaded_for_duties b image plan s shape) in
-      one_none (owed 4 (jump (machine_address_ahead p n) t)) (e (machine_address_ahead p n) t)
+      let t : State = transfer_of b plan shape s (value_loaded_by_shape b image plan s shape) in
+      one_none (owed 4 (jump (wrapping_sum p n) t)) (e (wrapping_sum p n) t)
 
   pub successors_none : ((q : ℕ) (t : State) → f (owed 4 (jump q t)) ≡ []) → (b : Limits) (image : ImageData) (plan : PlanData) (p : ℕ) (s : State) (shape : Shape) (n : ℕ) → flat_map f (successor_duties_of b image plan p s shape n) ≡ []
   successors_none e b image plan p s (Branch cond x y by lowers) n =
       let o : Bool → Option State = refine_of b plan (Branch cond x y by lowers) s in
-      flat_map-append f (jump_on (machine_address_ahead p n) (o false)) (jump_on (machine_address_ahead p by) (o true))
-      ∙ ap (λ l. l ++ flat_map f (jump_on (machine_address_ahead p by) (o true))) (side_none e (machine_address_ahead p n) (o false))
-      ∙ side_none e (machine_address_ahead p by) (o true)
+      flat_map-append f (jump_on (wrapping_sum p n) (o false)) (jump_on (wrapping_sum p by) (o true))
+      ∙ ap (λ l. l ++ flat_map f (jump_on (wrapping_sum p by) (o true))) (side_none e (wrapping_sum p n) (o false))
+      ∙ side_none e (wrapping_sum p by) (o true)
   successors_none e b image plan p s (Jump to) n =
       let ts : List ℕ = unwrap_or (targets_of plan s p to) [] in
       flat_mapped f (λ t. owed 4 (jump t s)) (λ t. []) (λ t. e t s) ts ∙ flat_none ts
@@ -75,15 +75,15 @@ module _ {X : Type 0} (f : Owed → List X) where
   successors_none e b image plan p s shape n = next_none e b image plan p s shape n
 
   -- the entries of called functions, one for each target
-  pub calls_are : (g : ℕ → List X) (plan : PlanData) (key : Key) (p : ℕ) (s : State) (to : Target) (n : ℕ) → ((t : ℕ) → flat_map f (entry_and_return 5 (call_key key t) (call_entry s) (machine_address_ahead p n)) ≡ g t)
+  pub calls_are : (g : ℕ → List X) (plan : PlanData) (key : Key) (p : ℕ) (s : State) (to : Target) (n : ℕ) → ((t : ℕ) → flat_map f (entry_and_return 5 (call_key key t) (call_entry s) (wrapping_sum p n)) ≡ g t)
       → flat_map f (entry_duties_of plan key p s (Call to) n) ≡ flat_map g (unwrap_or (targets_of plan s p to) [])
-  calls_are g plan key p s to n e = flat_flat f (λ t. entry_and_return 5 (call_key key t) (call_entry s) (machine_address_ahead p n)) g e (unwrap_or (targets_of plan s p to) [])
+  calls_are g plan key p s to n e = flat_flat f (λ t. entry_and_return 5 (call_key key t) (call_entry s) (wrapping_sum p n)) g e (unwrap_or (targets_of plan s p to) [])
 
   pub entries_none : ((k : Key) (t : State) → f (owed 5 (enter k t)) ≡ []) → ((k : Key) (t : State) → f (owed 12 (enter k t)) ≡ []) → ((k : Key) (q : ℕ) → f (owed 4 (resume k q)) ≡ []) → (plan : PlanData) (key : Key) (p : ℕ) (s : State) (shape : Shape) (n : ℕ)
       → flat_map f (entry_duties_of plan key p s shape n) ≡ []
   entries_none a c back plan key p s (Call to) n =
-      calls_are (λ t. []) plan key p s to n (λ t. two_none _ _ (a (call_key key t) (call_entry s)) (back (call_key key t) (machine_address_ahead p n))) ∙ flat_none (unwrap_or (targets_of plan s p to) [])
-  entries_none a c back plan key p s (Syscall tin) n = two_none _ _ (c (sys_key plan key) _) (back (sys_key plan key) (machine_address_ahead p n))
+      calls_are (λ t. []) plan key p s to n (λ t. two_none _ _ (a (call_key key t) (call_entry s)) (back (call_key key t) (wrapping_sum p n))) ∙ flat_none (unwrap_or (targets_of plan s p to) [])
+  entries_none a c back plan key p s (Syscall tin) n = two_none _ _ (c (sys_key plan key) _) (back (sys_key plan key) (wrapping_sum p n))
   entries_none a c back plan key p s shape n = refl
 
   pub misaligned_none : ((k : Key) (t : State) → f (owed 10 (enter k t)) ≡ []) → (b : Limits) (plan : PlanData) (key : Key) (s : State) (shape : Shape) → flat_map f (misaligned_duties_of b plan key s shape) ≡ []
@@ -95,13 +95,13 @@ module _ {X : Type 0} (f : Owed → List X) where
 
   pub interrupts_none : ((k : Key) (t : State) → f (owed 11 (enter k t)) ≡ []) → (plan : PlanData) (key : Key) (s : State) → flat_map f (interrupt_duties_of plan key s) ≡ []
   interrupts_none e plan key s =
-      flat_mapped f (λ p. owed 11 (enter (irq_key plan p) (irq_entry plan key s p))) (λ p. []) (λ p. e (irq_key plan p) (irq_entry plan key s p)) (irqs_of plan s) ∙ flat_none (irqs_of plan s)
+      flat_mapped f (λ p. owed 11 (enter (irq_key plan p) (irq_entry plan key s p))) (λ p. []) (λ p. e (irq_key plan p) (irq_entry plan key s p)) (possible_irqs_of plan s) ∙ flat_none (possible_irqs_of plan s)
 
   pub leavings_none : ((x : Exit) → f (owed 6 (leave x)) ≡ []) → ((x : Exit) → f (owed 7 (leave x)) ≡ []) → (key : Key) (s : State) (shape : Shape) → flat_map f (exit_duties_of key s shape) ≡ []
-  leavings_none a b key s Ret = one_none (owed 6 (leave (exit_of s))) (a (exit_of s))
+  leavings_none a b key s Ret = one_none (owed 6 (leave (exit_of_state s))) (a (exit_of_state s))
   leavings_none a b key s Rfe =
-      elim (key.kind == 3) as (λ t. flat_map f (if t then owed 7 (leave (exit_of s)) ∷ [] else []) ≡ []) [
-        | true ↦ one_none (owed 7 (leave (exit_of s))) (b (exit_of s))
+      elim (key.kind == 3) as (λ t. flat_map f (if t then owed 7 (leave (exit_of_state s)) ∷ [] else []) ≡ []) [
+        | true ↦ one_none (owed 7 (leave (exit_of_state s))) (b (exit_of_state s))
         | false ↦ refl
       ]
   leavings_none a b key s shape = refl

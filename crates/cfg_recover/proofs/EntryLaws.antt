@@ -22,10 +22,10 @@ use Rattle.value_domain.specs.declared.states.State.{State}
 use Rattle.value_domain.specs.Limits.{Limits}
 use Rattle.value_domain.specs.Values.{IsMember, any_val, word_val}
 use Rattle.value_domain.specs.State.{AreBelow, Covers, is_lower_slot}
-use Rattle.vd_transfer.specs.Operations.{value_of}
-use Rattle.vd_transfer.specs.Registers.{slot, reg_of, register_value_at, fixed_value_of, set_reg, is_lower_register, set_arg, is_operand_register}
+use Rattle.vd_transfer.specs.Operations.{operation_value}
+use Rattle.vd_transfer.specs.Registers.{register_slot, reg_of, register_value_at, fixed_register_value, with_reg_value, is_lower_register, with_arg_value, is_same_register}
 use Rattle.vd_transfer.specs.EffectsOnStates.{state_with_increased_base, transfer_of}
-use Rattle.vd_transfer.specs.Branches.{refine_of, state_on_side, with_decremented_counter, side_with_register, side_with_operands}
+use Rattle.vd_transfer.specs.Branches.{refine_of, state_on_side, with_decremented_counter, state_with_narrowed_register, state_with_narrowed_operands}
 use Rattle.vd_transfer.specs.Holding.{Holds}
 use Rattle.vd_transfer.specs.EffectsOnWords.{words_with_register}
 use Rattle.vd_transfer.proofs.RegisterLaws.{length-forgotten}
@@ -33,18 +33,18 @@ use Rattle.vd_transfer.proofs.SlotLaws.{slot_is, not_lower}
 use Rattle.vd_transfer.proofs.HoldLaws.{same_length, holds_set, holds_narrow}
 use Rattle.depth_cert.specs.declared.keys.Key.{Key}
 use Rattle.depth_cert.specs.declared.points.Exit.{Exit}
-use Rattle.cfg_recover.specs.Entries.{entry_stack_of, entry_state_with, start_state, call_entry, irq_entry, aln_entry, sys_entry}
-use Rattle.depth_cert.specs.Exits.{lower_values, exit_of, values_with_lower_from, state_after_exit, ExitCovers}
+use Rattle.cfg_recover.specs.Entries.{entry_stack_of, state_with_stack, start_state, call_entry, irq_entry, aln_entry, sys_entry}
+use Rattle.depth_cert.specs.Exits.{lower_values, exit_of_state, values_after_return_from, state_after_return, ExitCovers}
 
 -- ---- states with the same values, or greater ones
-covered_at : (plan : PlanData) (u s : State) (w r : ℕ) (o : Option ℕ) → o ≡ slot r → length s.regs ≡ 27 → AreBelow s.regs u.regs → IsMember w (register_value_at plan s r o) → IsMember w (register_value_at plan u r o)
+covered_at : (plan : PlanData) (u s : State) (w r : ℕ) (o : Option ℕ) → o ≡ register_slot r → length s.regs ≡ 27 → AreBelow s.regs u.regs → IsMember w (register_value_at plan s r o) → IsMember w (register_value_at plan u r o)
 covered_at plan u s w r None e len below m = m
 covered_at plan u s w r (Some i) e len below m = below i (omega (arith, (slot_is r i (sym e)).within)) w m
 
 -- a state that covers one that holds the words holds them, too
 pub holds_covered : (plan : PlanData) (u s : State) (word : ℕ → ℕ) (ie : Bool) (ccpn : ℕ) → Covers u s → length s.regs ≡ 27 → Holds plan word ie ccpn s → Holds plan word ie ccpn u
 holds_covered plan u s word ie ccpn c len h = record {
-  regs = λ r lt. covered_at plan u s (word r) r (slot r) refl len c.regs (h.regs r lt);
+  regs = λ r lt. covered_at plan u s (word r) r (register_slot r) refl len c.regs (h.regs r lt);
   enabled = λ t. (c.context).0 (h.enabled t);
   priority = omega (arith, (c.context).1, h.priority);
 }
@@ -54,7 +54,7 @@ any_member w h = (omega arith, omega arith, omega arith)
 
 -- A11 may be any word
 a11_any : (plan : PlanData) (t : State) (w : ℕ) → w < 2 ^ 32 → IsMember w (reg_of plan t 27)
-unfolding slot
+unfolding register_slot
 a11_any plan t w small = any_member w small
 
 same_at : (plan : PlanData) (s t : State) (w r : ℕ) (o : Option ℕ) → t.regs ≡ s.regs → IsMember w (register_value_at plan s r o) → IsMember w (register_value_at plan t r o)
@@ -68,7 +68,7 @@ holds_same plan s t word word2 ie ie2 ccpn ccpn2 same enabled priority small oth
   regs = λ r lt.
       elim (cases_eq r 27) [
         | inl a11 ↦ subst (λ n. IsMember (word2 n) (reg_of plan t n)) (sym a11) (a11_any plan t (word2 27) small)
-        | inr other ↦ rw (others r lt other) (same_at plan s t (word r) r (slot r) same (h.regs r lt))
+        | inr other ↦ rw (others r lt other) (same_at plan s t (word r) r (register_slot r) same (h.regs r lt))
       ];
   enabled = enabled;
   priority = priority;
@@ -83,22 +83,22 @@ holds_call plan s word word2 ie ccpn small others h = holds_same plan s (call_en
 some_none : (i : ℕ) → Some i ≡ None → ⊥
 some_none i e = cc
 
-some_slot : (r : ℕ) → r < 32 → r ≢ 16 → r ≢ 17 → r ≢ 24 → r ≢ 25 → r ≢ 27 → slot r ≡ None → ⊥
-unfolding slot
+some_slot : (r : ℕ) → r < 32 → r ≢ 16 → r ≢ 17 → r ≢ 24 → r ≢ 25 → r ≢ 27 → register_slot r ≡ None → ⊥
+unfolding register_slot
 some_slot r lt n16 n17 n24 n25 n27 e =
     elim (cases_lt r 16) [
       | inl dr ↦ some_none r (rw (lt-ltb r 16 dr) at e)
       | inr address ↦ elim (cases_lt r 24) [
         | inl low ↦ some_none (r - 2) (rw (le-ltb r 16 address, le-leb 18 r (omega arith), le-leb r 23 (omega arith)) at e)
         | inr high ↦ elim (cases_eq r 26) [
-          | inl stack ↦ some_none 22 (subst (λ n. slot n ≡ None) stack e)
+          | inl stack ↦ some_none 22 (subst (λ n. register_slot n ≡ None) stack e)
           | inr other ↦ some_none (r - 5) (rw (le-ltb r 16 address, le-leb 18 r (omega arith), lt-leb r 23 (omega arith), ne_eqb r 26 other, le-leb 28 r (omega arith), le-leb r 31 (omega arith)) at e)
         ]
       ]
     ]
 
 -- the registers without a value are A0, A1, A8, A9 and A11
-fixed_cases : (P : ℕ → Type 0) → P 16 → P 17 → P 24 → P 25 → P 27 → (r : ℕ) → r < 32 → slot r ≡ None → P r
+fixed_cases : (P : ℕ → Type 0) → P 16 → P 17 → P 24 → P 25 → P 27 → (r : ℕ) → r < 32 → register_slot r ≡ None → P r
 fixed_cases P a0 a1 a8 a9 a11 r lt e =
     elim (cases_eq r 16) [
       | inl is ↦ subst P (sym is) a0
@@ -119,13 +119,13 @@ fixed_cases P a0 a1 a8 a9 a11 r lt e =
 
 -- the words of A0, A1, A8 and A9 are the plan's
 abbrev pub HasGlobalWords : PlanData → (ℕ → ℕ) → Type 0
-HasGlobalWords plan word = (r : ℕ) → r < 32 → slot r ≡ None → IsMember (word r) (fixed_value_of plan r)
+HasGlobalWords plan word = (r : ℕ) → r < 32 → register_slot r ≡ None → IsMember (word r) (fixed_register_value plan r)
 
 -- they are, if A0 to A9 are as in words that a state holds
 pub globals_stay : (plan : PlanData) (s : State) (word word2 : ℕ → ℕ) (ie : Bool) (ccpn : ℕ) → word2 27 < 2 ^ 32 → ((r : ℕ) → 16 ≤ r → r < 26 → word2 r ≡ word r) → Holds plan word ie ccpn s → HasGlobalWords plan word2
-unfolding slot
+unfolding register_slot
 globals_stay plan s word word2 ie ccpn small same h =
-    fixed_cases (λ r. IsMember (word2 r) (fixed_value_of plan r))
+    fixed_cases (λ r. IsMember (word2 r) (fixed_register_value plan r))
     (rw (same 16 (omega arith) (omega arith)) (h.regs 16 (omega arith)))
     (rw (same 17 (omega arith) (omega arith)) (h.regs 17 (omega arith)))
     (rw (same 24 (omega arith) (omega arith)) (h.regs 24 (omega arith)))
@@ -142,7 +142,7 @@ reg_lt m k r =
 
 globals_start : (plan : PlanData) (m : Machine) → IsMachine m → HasGlobals plan m.a → HasGlobalWords plan (reg m)
 globals_start plan m k same =
-    fixed_cases (λ r. IsMember (reg m r) (fixed_value_of plan r)) (inl (ap (λ l. get_or l 0 0) same)) (inl (ap (λ l. get_or l 1 0) same)) (inl (ap (λ l. get_or l 2 0) same)) (inl (ap (λ l. get_or l 3 0) same))
+    fixed_cases (λ r. IsMember (reg m r) (fixed_register_value plan r)) (inl (ap (λ l. get_or l 0 0) same)) (inl (ap (λ l. get_or l 1 0) same)) (inl (ap (λ l. get_or l 2 0) same)) (inl (ap (λ l. get_or l 3 0) same))
     (any_member (reg m 27) (reg_lt m k 27))
 
 -- ---- entries
@@ -150,7 +150,7 @@ globals_start plan m k same =
 abbrev blank : Bool → ℕ → Bool → State
 blank ie ccpn lower = record { regs = replicate 27 any_val; ie = ie; ccpn = ccpn; lower = lower; locals = record { items = [] } }
 
-blank_at : (plan : PlanData) (t : State) (w r : ℕ) (o : Option ℕ) → t.regs ≡ replicate 27 any_val → o ≡ slot r → w < 2 ^ 32 → (o ≡ None → IsMember w (fixed_value_of plan r)) → IsMember w (register_value_at plan t r o)
+blank_at : (plan : PlanData) (t : State) (w r : ℕ) (o : Option ℕ) → t.regs ≡ replicate 27 any_val → o ≡ register_slot r → w < 2 ^ 32 → (o ≡ None → IsMember w (fixed_register_value plan r)) → IsMember w (register_value_at plan t r o)
 blank_at plan t w r None same e small fixed = fixed refl
 blank_at plan t w r (Some i) same e small fixed =
     let is = slot_is r i (sym e) in
@@ -158,17 +158,17 @@ blank_at plan t w r (Some i) same e small fixed =
 
 -- at an entry: words whose A10 is a member of the stack pointer's value
 pub holds_entry : (plan : PlanData) (word : ℕ → ℕ) (sp : Val) (ie ie2 : Bool) (ccpn ccpn2 : ℕ) (lower : Bool) → (IsTrue ie2 → IsTrue ie) → ccpn ≤ ccpn2 → ((r : ℕ) → r < 32 → word r < 2 ^ 32)
-    → HasGlobalWords plan word → IsMember (word 26) sp → Holds plan word ie2 ccpn2 (entry_state_with sp ie ccpn lower)
+    → HasGlobalWords plan word → IsMember (word 26) sp → Holds plan word ie2 ccpn2 (state_with_stack sp ie ccpn lower)
 holds_entry plan word sp ie ie2 ccpn ccpn2 lower enabled priority small globals m =
     holds_narrow plan (blank ie ccpn lower) word ie2 ccpn2 26 sp (length-replicate 27 any_val) (omega arith) m
     (record {
-      regs = λ r lt. blank_at plan (blank ie ccpn lower) (word r) r (slot r) refl refl (small r lt) (globals r lt);
+      regs = λ r lt. blank_at plan (blank ie ccpn lower) (word r) r (register_slot r) refl refl (small r lt) (globals r lt);
       enabled = enabled;
       priority = priority;
     })
 
-pub entry_length : (sp : Val) (ie : Bool) (ccpn : ℕ) (lower : Bool) → length (entry_state_with sp ie ccpn lower).regs ≡ 27
-entry_length sp ie ccpn lower = same_length (blank ie ccpn lower) sp (slot 26) ∙ length-replicate 27 any_val
+pub entry_length : (sp : Val) (ie : Bool) (ccpn : ℕ) (lower : Bool) → length (state_with_stack sp ie ccpn lower).regs ≡ 27
+entry_length sp ie ccpn lower = same_length (blank ie ccpn lower) sp (register_slot 26) ∙ length-replicate 27 any_val
 
 -- the state at the start holds the registers of a start state of the machine
 pub holds_start : (image : ImageData) (plan : PlanData) (m : Machine) → Starts image plan m → Holds plan (reg m) m.ie m.ccpn (start_state plan)
@@ -192,7 +192,7 @@ module _ (plan : PlanData) (key : Key) (s : State) (word word2 : ℕ → ℕ) (i
   -- at the entry of the handler of misaligned accesses
   pub holds_aln : ((r : ℕ) → r < 32 → word2 r < 2 ^ 32) → ((r : ℕ) → 16 ≤ r → r < 26 → word2 r ≡ word r) → word2 15 ≡ 4 → Holds plan word2 false ccpn (aln_entry plan key s)
   holds_aln small same four =
-      holds_narrow plan (entry_state_with (entry_stack_of plan key s) false s.ccpn true) word2 false ccpn 15 (word_val 4) (entry_length (entry_stack_of plan key s) false s.ccpn true) (omega arith) (inl four)
+      holds_narrow plan (state_with_stack (entry_stack_of plan key s) false s.ccpn true) word2 false ccpn 15 (word_val 4) (entry_length (entry_stack_of plan key s) false s.ccpn true) (omega arith) (inl four)
       (holds_entry plan word2 (entry_stack_of plan key s) false false s.ccpn ccpn true (λ t. t) h.priority small (globals_stay plan s word word2 ie ccpn (small 27 (omega arith)) same h) stack)
 
   sys_word : (tin r : ℕ) → word2 15 ≡ tin → (r ≢ 15 → r ≢ 26 → word2 r ≡ word r) → word2 r ≡ words_with_register (words_with_register word 26 (word2 26)) 15 tin r
@@ -207,23 +207,23 @@ module _ (plan : PlanData) (key : Key) (s : State) (word word2 : ℕ → ℕ) (i
 
   -- at the entry of the handler of system calls
   pub holds_sys : (tin : ℕ) → length s.regs ≡ 27 → word2 27 < 2 ^ 32 → word2 15 ≡ tin → ((r : ℕ) → r < 32 → r ≢ 15 → r ≢ 26 → r ≢ 27 → word2 r ≡ word r) → Holds plan word2 false ccpn (sys_entry plan key s tin)
-  unfolding slot
+  unfolding register_slot
   holds_sys tin len small is same =
-      let t1 = set_reg s 26 (entry_stack_of plan key s) in
-      let t2 = set_reg t1 15 (word_val tin) in
+      let t1 = with_reg_value s 26 (entry_stack_of plan key s) in
+      let t2 = with_reg_value t1 15 (word_val tin) in
       let h1 : Holds plan (words_with_register word 26 (word2 26)) ie ccpn t1 = holds_set plan s word ie ccpn 26 (word2 26) (entry_stack_of plan key s) len refl stack h in
       let h2 : Holds plan (words_with_register (words_with_register word 26 (word2 26)) 15 tin) ie ccpn t2 =
-      holds_set plan t1 (words_with_register word 26 (word2 26)) ie ccpn 15 tin (word_val tin) (same_length s (entry_stack_of plan key s) (slot 26) ∙ len) refl (inl refl) h1
+      holds_set plan t1 (words_with_register word 26 (word2 26)) ie ccpn 15 tin (word_val tin) (same_length s (entry_stack_of plan key s) (register_slot 26) ∙ len) refl (inl refl) h1
       in
       holds_same plan t2 (sys_entry plan key s tin) (words_with_register (words_with_register word 26 (word2 26)) 15 tin) word2 ie false ccpn ccpn refl (λ t. t) h2.priority small
       (λ r lt n27. sys_word tin r is (λ n15 n26. same r lt n15 n26 n27)) h2
 
 pub aln_length : (plan : PlanData) (key : Key) (s : State) → length (aln_entry plan key s).regs ≡ 27
 aln_length plan key s =
-    same_length (entry_state_with (entry_stack_of plan key s) false s.ccpn true) (word_val 4) (slot 15) ∙ entry_length (entry_stack_of plan key s) false s.ccpn true
+    same_length (state_with_stack (entry_stack_of plan key s) false s.ccpn true) (word_val 4) (register_slot 15) ∙ entry_length (entry_stack_of plan key s) false s.ccpn true
 
 pub sys_length : (plan : PlanData) (key : Key) (s : State) (tin : ℕ) → length (sys_entry plan key s tin).regs ≡ length s.regs
-sys_length plan key s tin = same_length (set_reg s 26 (entry_stack_of plan key s)) (word_val tin) (slot 15) ∙ same_length s (entry_stack_of plan key s) (slot 26)
+sys_length plan key s tin = same_length (with_reg_value s 26 (entry_stack_of plan key s)) (word_val tin) (register_slot 15) ∙ same_length s (entry_stack_of plan key s) (register_slot 26)
 
 -- ---- exits
 -- the place of a lower register in an exit's values
@@ -244,12 +244,12 @@ lower_cases r low =
       | inr a ↦ let h = and_parts (leb 18 r) (leb r 23) a in inr (leb-true 18 r h.0, leb-true r 23 h.1)
     ]
 
-slot-d : (r : ℕ) → r < 8 → slot r ≡ Some r
-unfolding slot
+slot-d : (r : ℕ) → r < 8 → register_slot r ≡ Some r
+unfolding register_slot
 slot-d r lt = rw (lt-ltb r 16 (omega arith)) refl
 
-slot-a : (r : ℕ) → 18 ≤ r → r ≤ 23 → slot r ≡ Some (r - 2)
-unfolding slot
+slot-a : (r : ℕ) → 18 ≤ r → r ≤ 23 → register_slot r ≡ Some (r - 2)
+unfolding register_slot
 slot-a r low high = rw (le-ltb r 16 (omega arith), le-leb 18 r low, le-leb r 23 high) refl
 
 module _ (regs : List Val) (len : length regs ≡ 27) where
@@ -288,7 +288,7 @@ lower_small r low =
     ]
 
 -- an exit that covers a state's exit holds the words that the state holds
-pub holds_exit : (plan : PlanData) (s : State) (word : ℕ → ℕ) (ie : Bool) (ccpn : ℕ) (y : Exit) → length s.regs ≡ 27 → ExitCovers y (exit_of s) → Holds plan word ie ccpn s → HoldsExit word ie ccpn y
+pub holds_exit : (plan : PlanData) (s : State) (word : ℕ → ℕ) (ie : Bool) (ccpn : ℕ) (y : Exit) → length s.regs ≡ 27 → ExitCovers y (exit_of_state s) → Holds plan word ie ccpn s → HoldsExit word ie ccpn y
 holds_exit plan s word ie ccpn y len c h = record {
   lower = λ r low.
       let small = lower_small r low in
@@ -299,21 +299,21 @@ holds_exit plan s word ie ccpn y len c h = record {
 
 -- ---- returns
 get_or-with_lower : (k : ℕ) (lower vs : List Val) (i : ℕ) → i < length vs
-    → get_or (values_with_lower_from k lower vs) i any_val ≡ cond (is_lower_slot (k + i)) (get_or lower (cond (ltb (k + i) 8) (k + i) (k + i - 8)) any_val) (get_or vs i any_val)
-unfolding values_with_lower_from
+    → get_or (values_after_return_from k lower vs) i any_val ≡ cond (is_lower_slot (k + i)) (get_or lower (cond (ltb (k + i) 8) (k + i) (k + i - 8)) any_val) (get_or vs i any_val)
+unfolding values_after_return_from
 get_or-with_lower k lower [] i h = absurd (omega arith)
 get_or-with_lower k lower (v ∷ vs) zero h = let e : k ≡ k + zero = omega arith in ap (λ n. cond (is_lower_slot n) (get_or lower (cond (ltb n 8) n (n - 8)) any_val) v) e
 get_or-with_lower k lower (v ∷ vs) (suc i) h =
     let e : k + 1 + i ≡ k + suc i = omega arith in
     get_or-with_lower (k + 1) lower vs i (omega arith) ∙ ap (λ n. cond (is_lower_slot n) (get_or lower (cond (ltb n 8) n (n - 8)) any_val) (get_or vs i any_val)) e
 
-pub with_lower_length : (k : ℕ) (lower vs : List Val) → length (values_with_lower_from k lower vs) ≡ length vs
-unfolding values_with_lower_from
+pub with_lower_length : (k : ℕ) (lower vs : List Val) → length (values_after_return_from k lower vs) ≡ length vs
+unfolding values_after_return_from
 with_lower_length k lower [] = refl
 with_lower_length k lower (v ∷ vs) = ap suc (with_lower_length (k + 1) lower vs)
 
 -- the place of a lower register's value in an exit follows from its place in a state
-exit_place : (r i : ℕ) → is_lower_register r ≡ true → slot r ≡ Some i → cond (ltb i 8) i (i - 8) ≡ lower_place r
+exit_place : (r i : ℕ) → is_lower_register r ≡ true → register_slot r ≡ Some i → cond (ltb i 8) i (i - 8) ≡ lower_place r
 exit_place r i low e =
     elim (lower_cases r low) [
       | inl d ↦ let is : r ≡ i = (let f : Some r ≡ Some i = sym (slot-d r d) ∙ e in cc) in rw (← is, lt-ltb r 8 d) refl
@@ -323,8 +323,8 @@ exit_place r i low e =
     ]
 
 module _ (plan : PlanData) (s : State) (x : Exit) (kind : ℕ) (word : ℕ → ℕ) (len : length s.regs ≡ 27) (upper : (r : ℕ) → r < 32 → is_lower_register r ≡ false → IsMember (word r) (reg_of plan s r)) where
-  after_at : (r : ℕ) (o : Option ℕ) → o ≡ slot r → (is_lower_register r ≡ true → IsMember (word r) (get_or x.lower (lower_place r) any_val)) → (is_lower_register r ≡ false → IsMember (word r) (register_value_at plan s r o)) → (o ≡ None → is_lower_register r ≡ false)
-      → IsMember (word r) (register_value_at plan (state_after_exit s x kind) r o)
+  after_at : (r : ℕ) (o : Option ℕ) → o ≡ register_slot r → (is_lower_register r ≡ true → IsMember (word r) (get_or x.lower (lower_place r) any_val)) → (is_lower_register r ≡ false → IsMember (word r) (register_value_at plan s r o)) → (o ≡ None → is_lower_register r ≡ false)
+      → IsMember (word r) (register_value_at plan (state_after_return s x kind) r o)
   after_at r None e lower high none = high (none refl)
   after_at r (Some i) e lower high none =
       let is = slot_is r i (sym e) in
@@ -335,63 +335,63 @@ module _ (plan : PlanData) (s : State) (x : Exit) (kind : ℕ) (word : ℕ → �
         | inr f ↦ rw f (high f)
       ])
 
-  after_holds : (ie : Bool) (ccpn : ℕ) → ((r : ℕ) → is_lower_register r ≡ true → IsMember (word r) (get_or x.lower (lower_place r) any_val)) → (IsTrue ie → IsTrue (state_after_exit s x kind).ie) → (state_after_exit s x kind).ccpn ≤ ccpn
-      → Holds plan word ie ccpn (state_after_exit s x kind)
+  after_holds : (ie : Bool) (ccpn : ℕ) → ((r : ℕ) → is_lower_register r ≡ true → IsMember (word r) (get_or x.lower (lower_place r) any_val)) → (IsTrue ie → IsTrue (state_after_return s x kind).ie) → (state_after_return s x kind).ccpn ≤ ccpn
+      → Holds plan word ie ccpn (state_after_return s x kind)
   after_holds ie ccpn lower enabled priority = record {
-    regs = λ r lt. after_at r (slot r) refl (lower r) (upper r lt) (not_lower r);
+    regs = λ r lt. after_at r (register_slot r) refl (lower r) (upper r lt) (not_lower r);
     enabled = enabled;
     priority = priority;
   }
 
   -- after a call the lower registers, IE and CCPN are the exit's, the upper registers the caller's
-  pub holds_after_call : (ie : Bool) (ccpn : ℕ) → kind ≡ 1 → HoldsExit word ie ccpn x → Holds plan word ie ccpn (state_after_exit s x kind)
+  pub holds_after_call : (ie : Bool) (ccpn : ℕ) → kind ≡ 1 → HoldsExit word ie ccpn x → Holds plan word ie ccpn (state_after_return s x kind)
   holds_after_call ie ccpn call h = after_holds ie ccpn h.lower (rw (eq-eqb kind 1 call) h.enabled) (rw (eq-eqb kind 1 call) h.priority)
 
   -- after a system call IE and CCPN are the caller's, too
-  pub holds_after_system : (ie ie2 : Bool) (ccpn ccpn2 : ℕ) → kind ≢ 1 → HoldsExit word ie2 ccpn2 x → (IsTrue ie → IsTrue s.ie) → s.ccpn ≤ ccpn → Holds plan word ie ccpn (state_after_exit s x kind)
+  pub holds_after_system : (ie ie2 : Bool) (ccpn ccpn2 : ℕ) → kind ≢ 1 → HoldsExit word ie2 ccpn2 x → (IsTrue ie → IsTrue s.ie) → s.ccpn ≤ ccpn → Holds plan word ie ccpn (state_after_return s x kind)
   holds_after_system ie ie2 ccpn ccpn2 other h enabled priority = after_holds ie ccpn h.lower (rw (ne_eqb kind 1 other) enabled) (rw (ne_eqb kind 1 other) priority)
 
-pub after_length : (s : State) (x : Exit) (kind : ℕ) → length (state_after_exit s x kind).regs ≡ length s.regs
+pub after_length : (s : State) (x : Exit) (kind : ℕ) → length (state_after_return s x kind).regs ≡ length s.regs
 after_length s x kind = with_lower_length 0 x.lower s.regs
 
 -- ---- the number of values of a state
 base_length : (b : Limits) (plan : PlanData) (s : State) (base : Arg) (offset : ℕ) (after : Bool) → length (state_with_increased_base b plan s base offset after).regs ≡ length s.regs
 base_length b plan s (Word w) offset after = refl
 base_length b plan s (Reg r) offset false = refl
-base_length b plan s (Reg r) offset true = same_length s (value_of b Add (reg_of plan s r) (word_val offset)) (slot r)
+base_length b plan s (Reg r) offset true = same_length s (operation_value b Add (reg_of plan s r) (word_val offset)) (register_slot r)
 
 pub transfer_length : (b : Limits) (plan : PlanData) (shape : Shape) (s : State) (loaded : Val) → length (transfer_of b plan shape s loaded).regs ≡ length s.regs
 unfolding transfer_of
-transfer_length b plan (Compute op dst x y) s loaded = same_length s _ (slot dst)
-transfer_length b plan (Scaled dst base index n) s loaded = same_length s _ (slot dst)
-transfer_length b plan (Load dst base offset size signed after) s loaded = same_length (state_with_increased_base b plan s base offset after) loaded (slot dst) ∙ base_length b plan s base offset after
+transfer_length b plan (Compute op dst x y) s loaded = same_length s _ (register_slot dst)
+transfer_length b plan (Scaled dst base index n) s loaded = same_length s _ (register_slot dst)
+transfer_length b plan (Load dst base offset size signed after) s loaded = same_length (state_with_increased_base b plan s base offset after) loaded (register_slot dst) ∙ base_length b plan s base offset after
 transfer_length b plan (Store src base offset size after) s loaded = base_length b plan s base offset after
 transfer_length b plan Rslcx s loaded = length-forgotten 0 s.regs
-transfer_length b plan (Mfcr dst number) s loaded = same_length s any_val (slot dst)
+transfer_length b plan (Mfcr dst number) s loaded = same_length s any_val (register_slot dst)
 transfer_length b plan _ s loaded = refl
 
 -- a state on a side of a branch has as many values as the one before
-with_arg_length : (s : State) (y : Arg) (v : Val) → length (set_arg s y v).regs ≡ length s.regs
-with_arg_length s (Reg r) v = same_length s v (slot r)
+with_arg_length : (s : State) (y : Arg) (v : Val) → length (with_arg_value s y v).regs ≡ length s.regs
+with_arg_length s (Reg r) v = same_length s v (register_slot r)
 with_arg_length s (Word w) v = refl
 
-with_one_length : (s : State) (x : ℕ) (z : Option Val) → IfSome (side_with_register s x z) (λ t. length t.regs ≡ length s.regs)
+with_one_length : (s : State) (x : ℕ) (z : Option Val) → IfSome (state_with_narrowed_register s x z) (λ t. length t.regs ≡ length s.regs)
 with_one_length s x None = tt
-with_one_length s x (Some z) = same_length s z (slot x)
+with_one_length s x (Some z) = same_length s z (register_slot x)
 
-with_two_length : (s : State) (x : ℕ) (y : Arg) (v w : Option Val) → IfSome (side_with_operands s x y v w) (λ t. length t.regs ≡ length s.regs)
+with_two_length : (s : State) (x : ℕ) (y : Arg) (v w : Option Val) → IfSome (state_with_narrowed_operands s x y v w) (λ t. length t.regs ≡ length s.regs)
 with_two_length s x y None w = tt
 with_two_length s x y (Some v) None = tt
-with_two_length s x y (Some v) (Some w) = with_arg_length (set_reg s x v) y w ∙ same_length s v (slot x)
+with_two_length s x y (Some v) (Some w) = with_arg_length (with_reg_value s x v) y w ∙ same_length s v (register_slot x)
 
 lowered_length : (b : Limits) (plan : PlanData) (s : State) (x : ℕ) (lowers : Bool) (o : Option State) → IfSome o (λ t. length t.regs ≡ length s.regs) → IfSome (with_decremented_counter b plan x lowers o) (λ t. length t.regs ≡ length s.regs)
 lowered_length b plan s x lowers None h = tt
 lowered_length b plan s x false (Some t) h = h
-lowered_length b plan s x true (Some t) h = same_length t (value_of b Sub (reg_of plan t x) (word_val 1)) (slot x) ∙ h
+lowered_length b plan s x true (Some t) h = same_length t (operation_value b Sub (reg_of plan t x) (word_val 1)) (register_slot x) ∙ h
 
 refined_length : (b : Limits) (plan : PlanData) (s : State) (test : Cond) (x : ℕ) (y : Arg) (side : Bool) → IfSome (state_on_side b plan test x y s side) (λ t. length t.regs ≡ length s.regs)
 refined_length b plan s test x y side =
-    cond_both (is_operand_register x y) _ _ (λ (o : Option State). IfSome o (λ t. length t.regs ≡ length s.regs)) (λ _. with_one_length s x _) (λ _. with_two_length s x y _ _)
+    cond_both (is_same_register x y) _ _ (λ (o : Option State). IfSome o (λ t. length t.regs ≡ length s.regs)) (λ _. with_one_length s x _) (λ _. with_two_length s x y _ _)
 
 pub refine_length : (b : Limits) (plan : PlanData) (shape : Shape) (s : State) (side : Bool) → IfSome (refine_of b plan shape s side) (λ t. length t.regs ≡ length s.regs)
 unfolding refine_of

@@ -8,19 +8,19 @@ use Rattle.depth_cert.specs.declared.keys.Key.{Key}
 use Rattle.depth_cert.specs.declared.points.Point.{Point}
 use Rattle.depth_cert.specs.Keys.{number_of_key}
 use Rattle.depth_cert.specs.Points.{IsPoint}
-use Rattle.depth_cert.specs.Nodes.{NodeData, IsNode, need_of}
+use Rattle.depth_cert.specs.Nodes.{NodeData, IsNode, need_or_zero}
 use Rattle.depth_cert.specs.Certs.{CertData, IsCert}
 use Rattle.cfg_recover.specs.Entries.{start_key}
-use Rattle.cfg_recover.specs.RulesHoldOrFail.{limits_in, RuleHolds, HoldsAtNode, Accepts, RuleFails, at_start, at_entry, at_point}
+use Rattle.cfg_recover.specs.RulesHoldOrFail.{limits_of_cert, RuleHolds, RulesHoldAtNode, Accepts, RuleFails, at_start, at_entry, at_point}
 use Rattle.cfg_recover.specs.FirstFaultLaws.{IsFaultPlace, start, entry, point, FirstFaultsNameFirstFailures, CertifiedNeedIsOfStart}
 use Rattle.cfg_recover.proofs.DutyRules.{duty_asked}
 
 -- a certificate with a fault isn't accepted
 pub fails_refutes : (image : ImageData) (plan : PlanData) (cert : CertData) (r : ℕ) (k : Key) (p : ℕ) → RuleFails image plan cert r k p → Accepts image plan cert → ⊥
 fails_refutes image plan cert _ _ _ (at_start wrong) accepts = wrong accepts.start
-fails_refutes image plan cert _ _ _ (at_entry node member wrong) accepts = wrong (All-contains (HoldsAtNode image plan cert) cert.nodes node accepts.nodes member).entry
+fails_refutes image plan cert _ _ _ (at_entry node member wrong) accepts = wrong (All-contains (RulesHoldAtNode image plan cert) cert.nodes node accepts.nodes member).entry
 fails_refutes image plan cert _ _ _ (at_point node q r member at wrong) accepts =
-    let holds = All-contains (HoldsAtNode image plan cert) cert.nodes node accepts.nodes member in
+    let holds = All-contains (RulesHoldAtNode image plan cert) cert.nodes node accepts.nodes member in
     wrong (All-contains (λ (p : Point). (r : ℕ) → RuleHolds image plan cert node p r) node.points q holds.points at r)
 
 -- only K2 to K14 ask something of a point
@@ -43,7 +43,7 @@ no_rule image plan cert node q r out =
         };
       };
       covered = λ shape n d alone c e.
-          let asked = duty_asked (limits_in plan cert) image plan node.key q.addr q.state n shape d c in
+          let asked = duty_asked (limits_of_cert plan cert) image plan node.key q.addr q.state n shape d c in
           absurd (other d.rule (omega (arith, asked.0)) (omega (arith, asked.1)) (let f : r ≡ d.rule = omega arith in f));
       needs = λ shape n e. absurd (other 14 (omega arith) (omega arith) e);
     }
@@ -116,4 +116,4 @@ first_faults_say image plan cert r k p small is_cert f =
     }
 
 pub need_says : CertifiedNeedIsOfStart
-need_says image plan cert node found = ap need_of found
+need_says image plan cert node found = ap need_or_zero found

@@ -8,13 +8,13 @@ use Rattle.std.proofs.lemmas.List.Elements.{All-contains, All-more, All-same, at
 use Rattle.std.proofs.lemmas.List.Kept.{AllPairs-from_increasing}
 use Rattle.elf_image.specs.Images.{ImageData}
 use Rattle.tcd_plan.specs.PlanData.{PlanData}
-use Rattle.value_domain.specs.State.{AreValues}
+use Rattle.value_domain.specs.State.{AreInLattice}
 use Rattle.depth_cert.specs.declared.points.Point.{Point}
 use Rattle.depth_cert.specs.Keys.{number_of_key}
-use Rattle.depth_cert.specs.Points.{ArePoints, IsPoint}
+use Rattle.depth_cert.specs.Points.{AreAscendingPoints, IsPoint}
 use Rattle.depth_cert.specs.Nodes.{NodeData, IsNode}
 use Rattle.depth_cert.specs.Certs.{CertData, IsCert}
-use Rattle.cfg_recover.specs.RulesHoldOrFail.{limits_in, Accepts, HoldsAtNode}
+use Rattle.cfg_recover.specs.RulesHoldOrFail.{limits_of_cert, Accepts, RulesHoldAtNode}
 
 -- ---- rising lists
 -- In a list in ascending order, an element is before the one at i, or is that one, or has a greater
@@ -48,10 +48,10 @@ broken b P fails both p = absurd (let f : false ≡ true = sym fails ∙ both.1 
 -- ---- a rule that points keep or break
 module _ (Keeps : Point → Type 0) (node : NodeData) (points : List Point) (same : points ≡ node.points) where
   -- If Keeps holds at all points before this one, no point at which it fails has a lesser address.
-  pub least_point : (i : ℕ) (point other : Point) → ArePoints node.points → i < length points → point ≡ get_or points i point → All Keeps (take i points) → Contains node.points other → (Keeps other → ⊥)
+  pub least_point : (i : ℕ) (point other : Point) → AreAscendingPoints node.points → i < length points → point ≡ get_or points i point → All Keeps (take i points) → Contains node.points other → (Keeps other → ⊥)
       → point.addr ≤ other.addr
   least_point i point other rising lt at before stands wrong =
-      let up = subst ArePoints (sym same) rising in
+      let up = subst AreAscendingPoints (sym same) rising in
       elim (place_of (λ (z : Point). z.addr) points i other point up lt at (subst (λ (l : List Point). Contains l other) (sym same) stands)) [
         | inl earlier ↦ absurd (wrong (All-contains Keeps (take i points) other before earlier))
         | inr later ↦
@@ -95,7 +95,7 @@ address_small cert is_cert node point member stands =
 
 -- ---- values that are accepted
 -- the values of an accepted certificate are of the plan's lattice (K2)
-pub accepted_values : (image : ImageData) (plan : PlanData) (cert : CertData) (node : NodeData) → Accepts image plan cert → Contains cert.nodes node → All (λ (p : Point). AreValues (limits_in plan cert) (p.state).regs) node.points
+pub accepted_values : (image : ImageData) (plan : PlanData) (cert : CertData) (node : NodeData) → Accepts image plan cert → Contains cert.nodes node → All (λ (p : Point). AreInLattice (limits_of_cert plan cert) (p.state).regs) node.points
 accepted_values image plan cert node accepts member i d lt =
-    let holds = All-contains (HoldsAtNode image plan cert) cert.nodes node accepts.nodes member in
+    let holds = All-contains (RulesHoldAtNode image plan cert) cert.nodes node accepts.nodes member in
     (holds.points i d lt 2).values refl

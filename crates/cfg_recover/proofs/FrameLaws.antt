@@ -9,7 +9,7 @@ use Rattle.tc_isa.specs.declared.shapes.Shape.TheVariants.{Call, Ret, Rfe, Sysca
 use Rattle.tc_machine.specs.declared.events.Cause.{Cause}
 use Rattle.tc_machine.specs.declared.events.Event.{Event}
 use Rattle.tc_machine.specs.declared.state.Machine.{Machine}
-use Rattle.tc_machine.specs.Instructions.{machine_address_ahead, is_trapping_instruction}
+use Rattle.tc_machine.specs.Instructions.{wrapping_sum, is_trapping_instruction}
 use Rattle.tc_machine.specs.Fetching.{fetched_instruction, fetched_size}
 use Rattle.tc_machine.specs.Stepping.{is_interrupt_taken, step, run}
 use Rattle.depth_cert.specs.declared.points.Point.{Point}
@@ -19,12 +19,12 @@ use Rattle.depth_cert.specs.Certs.{CertData}
 use Rattle.depth_cert.proofs.KeyLaws.{found_in}
 use Rattle.cfg_recover.specs.Entries.{start_key}
 use Rattle.cfg_recover.specs.Duties.{Owed, duties_of}
-use Rattle.cfg_recover.specs.RulesHoldOrFail.{limits_in}
+use Rattle.cfg_recover.specs.RulesHoldOrFail.{limits_of_cert}
 use Rattle.cfg_recover.specs.MovesAreOwed.{IsInState}
-use Rattle.cfg_recover.specs.Frames.{RunFrame, frames_after_edge, frames_after, frames_from, frames, AreFramesHeld, HoldFrames, IsReturn}
-use Rattle.cfg_recover.specs.EdgesAreOwed.{IsEdgeWayOwed, EdgeOwed, GoesBackToFrame}
+use Rattle.cfg_recover.specs.Frames.{RunFrame, frames_after_edge, frames_after, frames_from, frames, AreFramesHeld, AreAllFramesHeld, IsReturnTo}
+use Rattle.cfg_recover.specs.EdgesAreOwed.{IsEdgeWayOwed, IsEdgeOwedByFrames, GoesBackToFrame}
 use Rattle.cfg_recover.specs.StepEdges.{EdgeWay, to, call, irq, sys, aln, ret, rfe, edge_way_of_shape, edge_way_by_trap, edge_way_in_fetch, edge_way_of_step}
-use Rattle.cfg_recover.specs.EdgeAndFrameLaws.{StepMeetsShape, KeepsFrame, EdgeMatchesStep, EdgesMatchSteps, FramesFollowStep, FramesFollowAllRuns, FramesDescribeMachine, HeldFramesDescribeMachine, IsStepOwed, IsStepOwedByPoint, StepsAreOwedByPoints}
+use Rattle.cfg_recover.specs.EdgeAndFrameLaws.{IsStepOfShape, KeepsFrame, EdgeMatchesStep, EdgesMatchSteps, FramesFollowStep, FramesFollowAllRuns, FramesDescribeMachine, HeldFramesDescribeMachine, IsStepOwed, IsStepOwedByPoint, StepsAreOwedByPoints}
 
 -- ---- edges
 stays_to : (shape : Shape) (q : ℕ) → KeepsFrame shape → edge_way_of_shape shape q ≡ to q
@@ -38,15 +38,15 @@ module _ (m : Machine) (e : Event) where
   interrupted : is_interrupt_taken m e ≡ true → edge_way_of_step m e ≡ irq (step m e).pc
   interrupted t = ap (λ (b : Bool). cond b (irq (step m e).pc) (edge_way_in_fetch m e (fetched_instruction m) (step m e).pc)) t
 
-  met : (shape : Shape) (n : ℕ) → StepMeetsShape m e shape n → edge_way_of_step m e ≡ edge_way_by_trap m e shape (step m e).pc
+  met : (shape : Shape) (n : ℕ) → IsStepOfShape m e shape n → edge_way_of_step m e ≡ edge_way_by_trap m e shape (step m e).pc
   met shape n h =
       ap (λ (b : Bool). cond b (irq (step m e).pc) (edge_way_in_fetch m e (fetched_instruction m) (step m e).pc)) h.free
       ∙ ap (λ (f : Result (Shape × ℕ) Cause). edge_way_in_fetch m e f (step m e).pc) h.there
 
-  trapped : (shape : Shape) (n : ℕ) → StepMeetsShape m e shape n → is_trapping_instruction m e shape ≡ true → edge_way_of_step m e ≡ aln (step m e).pc
+  trapped : (shape : Shape) (n : ℕ) → IsStepOfShape m e shape n → is_trapping_instruction m e shape ≡ true → edge_way_of_step m e ≡ aln (step m e).pc
   trapped shape n h t = met shape n h ∙ ap (λ (b : Bool). cond b (aln (step m e).pc) (edge_way_of_shape shape (step m e).pc)) t
 
-  stayed : (shape : Shape) (n : ℕ) → StepMeetsShape m e shape n → is_trapping_instruction m e shape ≡ false → KeepsFrame shape → edge_way_of_step m e ≡ to (step m e).pc
+  stayed : (shape : Shape) (n : ℕ) → IsStepOfShape m e shape n → is_trapping_instruction m e shape ≡ false → KeepsFrame shape → edge_way_of_step m e ≡ to (step m e).pc
   stayed shape n h t keeps =
       met shape n h ∙ ap (λ (b : Bool). cond b (aln (step m e).pc) (edge_way_of_shape shape (step m e).pc)) t ∙ stays_to shape (step m e).pc keeps
 
@@ -75,13 +75,13 @@ frames_more m [] e fs = refl
 frames_more m (x ∷ es) e fs = frames_more (step m x) es e (frames_after m x fs)
 
 module _ (m : Machine) (e : Event) (f : RunFrame) (older : List RunFrame) where
-  by_way : (w : EdgeWay) → edge_way_of_step m e ≡ w → frames_after m e (f ∷ older) ≡ frames_after_edge m.pc (machine_address_ahead m.pc (fetched_size (fetched_instruction m))) e.irq w (f ∷ older)
-  by_way w h = ap (λ (v : EdgeWay). frames_after_edge m.pc (machine_address_ahead m.pc (fetched_size (fetched_instruction m))) e.irq v (f ∷ older)) h
+  by_way : (w : EdgeWay) → edge_way_of_step m e ≡ w → frames_after m e (f ∷ older) ≡ frames_after_edge m.pc (wrapping_sum m.pc (fetched_size (fetched_instruction m))) e.irq w (f ∷ older)
+  by_way w h = ap (λ (v : EdgeWay). frames_after_edge m.pc (wrapping_sum m.pc (fetched_size (fetched_instruction m))) e.irq v (f ∷ older)) h
 
   -- ways that depend on the instruction's size
-  by_size : (w : EdgeWay) (shape : Shape) (n : ℕ) → edge_way_of_step m e ≡ w → StepMeetsShape m e shape n → frames_after m e (f ∷ older) ≡ frames_after_edge m.pc (machine_address_ahead m.pc n) e.irq w (f ∷ older)
+  by_size : (w : EdgeWay) (shape : Shape) (n : ℕ) → edge_way_of_step m e ≡ w → IsStepOfShape m e shape n → frames_after m e (f ∷ older) ≡ frames_after_edge m.pc (wrapping_sum m.pc n) e.irq w (f ∷ older)
   by_size w shape n h meets =
-      by_way w h ∙ ap (λ (r : Result (Shape × ℕ) Cause). frames_after_edge m.pc (machine_address_ahead m.pc (fetched_size r)) e.irq w (f ∷ older)) meets.there
+      by_way w h ∙ ap (λ (r : Result (Shape × ℕ) Cause). frames_after_edge m.pc (wrapping_sum m.pc (fetched_size r)) e.irq w (f ∷ older)) meets.there
 
   frames_next : FramesFollowStep m e f older (frames_after m e (f ∷ older))
   frames_next = record {
@@ -130,7 +130,7 @@ module _ (plan : PlanData) (cert : CertData) (m : Machine) (f : RunFrame) (fs : 
   at_node None e inside = absurd inside
   at_node (Some node) e inside = at_point node (find_point f.at node.points) e refl inside
 
-held_say : (plan : PlanData) (cert : CertData) (m : Machine) (fs : List RunFrame) → HoldFrames plan cert m fs → FramesDescribeMachine plan cert m fs
+held_say : (plan : PlanData) (cert : CertData) (m : Machine) (fs : List RunFrame) → AreAllFramesHeld plan cert m fs → FramesDescribeMachine plan cert m fs
 held_say plan cert m [] h = absurd h
 held_say plan cert m (f ∷ fs) h = at_node plan cert m f fs h (find_node f.key cert.nodes) refl h.point
 
@@ -138,7 +138,7 @@ pub held_frames_say : HeldFramesDescribeMachine
 held_frames_say image plan cert held m es start fit = held_say plan cert (run m es) (frames image plan m es) (held m es start fit)
 
 -- ---- edges that are owed
-goes_back : (q : ℕ) (f : RunFrame) (older : List RunFrame) → IsReturn q (f ∷ older) → GoesBackToFrame older q
+goes_back : (q : ℕ) (f : RunFrame) (older : List RunFrame) → IsReturnTo q (f ∷ older) → GoesBackToFrame older q
 goes_back q f [] h = absurd h
 goes_back q f (g ∷ rest) h = record { caller = g; rest = rest; are = refl; at = h }
 
@@ -157,7 +157,7 @@ module _ (ds : List Owed) (f : RunFrame) (older : List RunFrame) (m : Machine) (
     stayed = λ shape n h t keeps. owed_by (to (step m e).pc) (stayed m e shape n h t keeps);
   }
 
-edge_says : (image : ImageData) (plan : PlanData) (cert : CertData) (m : Machine) (e : Event) (fs : List RunFrame) → EdgeOwed image plan cert m e fs → IsStepOwedByPoint image plan cert m e fs
+edge_says : (image : ImageData) (plan : PlanData) (cert : CertData) (m : Machine) (e : Event) (fs : List RunFrame) → IsEdgeOwedByFrames image plan cert m e fs → IsStepOwedByPoint image plan cert m e fs
 edge_says image plan cert m e [] h = absurd h
 edge_says image plan cert m e (f ∷ fs) h =
     let there = found_in (λ (p : Point). p.addr == m.pc) (h.node).points h.point h.found in
@@ -173,7 +173,7 @@ edge_says image plan cert m e (f ∷ fs) h =
       shape = h.shape;
       size = h.size;
       code = h.code;
-      owed = step_owed (duties_of (limits_in plan cert) image plan f.key m.pc (h.point).state h.shape h.size) f fs m e h.owed;
+      owed = step_owed (duties_of (limits_of_cert plan cert) image plan f.key m.pc (h.point).state h.shape h.size) f fs m e h.owed;
     }
 
 pub owed_edges_say : StepsAreOwedByPoints

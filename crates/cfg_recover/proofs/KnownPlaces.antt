@@ -10,8 +10,8 @@ use Rattle.std.proofs.lemmas.List.Kept.{AllPairs-from_increasing}
 use Rattle.elf_image.specs.Images.{ImageData}
 use Rattle.tcd_plan.specs.PlanData.{PlanData, IsPlan}
 use Rattle.value_domain.specs.declared.states.State.{State}
-use Rattle.value_domain.specs.State.{Covers, AreValues}
-use Rattle.vd_transfer.specs.Soundness.{IsSoundSetting}
+use Rattle.value_domain.specs.State.{Covers, AreInLattice}
+use Rattle.vd_transfer.specs.Soundness.{MeetSoundnessPremises}
 use Rattle.depth_cert.specs.declared.keys.Key.{Key}
 use Rattle.depth_cert.specs.declared.points.Point.{Point}
 use Rattle.depth_cert.specs.Keys.{cert_flag_byte, number_of_key, is_same_key}
@@ -20,8 +20,8 @@ use Rattle.depth_cert.specs.Nodes.{NodeData, IsNode}
 use Rattle.depth_cert.specs.Certs.{CertData, IsCert}
 use Rattle.depth_cert.specs.Known.{Known, state, leaving, CoversKnown}
 use Rattle.depth_cert.proofs.KeyLaws.{found_in}
-use Rattle.cfg_recover.specs.RulesHoldOrFail.{limits_in, Accepts}
-use Rattle.cfg_recover.specs.Assignments.{point, known_at, known_in, IsBelowAt}
+use Rattle.cfg_recover.specs.RulesHoldOrFail.{limits_of_cert, Accepts}
+use Rattle.cfg_recover.specs.Assignments.{point, known_by_node, assignment_of_cert, IsAssignmentBelow}
 use Rattle.cfg_recover.proofs.PointLaws.{limits_are}
 use Rattle.cfg_recover.proofs.FirstFault.{accepted_values}
 
@@ -106,9 +106,9 @@ module _ (cert : CertData) (is_cert : IsCert cert) where
       find_of (λ (z : Point). eqb z.addr q.addr) node.points q stands (eq-eqb q.addr q.addr refl) (λ z in_it t. one_of (λ (y : Point). y.addr) node.points z q is.rising in_it stands (eqb-true z.addr q.addr t))
 
   -- what is known at a point of a node
-  pub known_there : (node : NodeData) (q : Point) → Contains cert.nodes node → Contains node.points q → known_in cert (point node.key q.addr) ≡ Some (state q.state)
+  pub known_there : (node : NodeData) (q : Point) → Contains cert.nodes node → Contains node.points q → assignment_of_cert cert (point node.key q.addr) ≡ Some (state q.state)
   known_there node q has stands =
-      ap (option_and_then (known_at (point node.key q.addr))) (node_found node has) ∙ ap (option_map (λ (z : Point). state z.state)) (point_found node q has stands)
+      ap (option_and_then (known_by_node (point node.key q.addr))) (node_found node has) ∙ ap (option_map (λ (z : Point). state z.state)) (point_found node q has stands)
 
 -- a point at which this is known
 pub record AtPoint (cert : CertData) (k : Key) (p : ℕ) (s : State) : Type 0 where
@@ -120,9 +120,9 @@ pub record AtPoint (cert : CertData) (k : Key) (p : ℕ) (s : State) : Type 0 wh
   pub addr : place.addr ≡ p
   pub is : place.state ≡ s
 
-pub known_from : (cert : CertData) (k : Key) (p : ℕ) (s : State) → known_in cert (point k p) ≡ Some (state s) → AtPoint cert k p s
+pub known_from : (cert : CertData) (k : Key) (p : ℕ) (s : State) → assignment_of_cert cert (point k p) ≡ Some (state s) → AtPoint cert k p s
 known_from cert k p s e =
-    let a = and_then_some (known_at (point k p)) (find (λ n. is_same_key n.key k) cert.nodes) (state s) e in
+    let a = and_then_some (known_by_node (point k p)) (find (λ n. is_same_key n.key k) cert.nodes) (state s) e in
     let m = map_some (λ (q : Point). state q.state) (find_point p (a.0).points) (state s) a.2 in
     let n = found_in (λ n. is_same_key n.key k) cert.nodes a.0 a.1 in
     let q = found_in (λ (z : Point). eqb z.addr p) (a.0).points m.0 m.1 in
@@ -151,7 +151,7 @@ pub record Above (cert : CertData) (k : Key) (q : Point) : Type 0 where
   pub covers : Covers place.state q.state
 
 -- ---- one certificate below another
-module _ (lower upper : CertData) (low_cert : IsCert lower) (below : IsBelowAt (known_in lower) (known_in upper)) where
+module _ (lower upper : CertData) (low_cert : IsCert lower) (below : IsAssignmentBelow (assignment_of_cert lower) (assignment_of_cert upper)) where
   pub above : (node : NodeData) (q : Point) → Contains lower.nodes node → Contains node.points q → Above upper node.key q
   above node q has stands =
       let c = below (point node.key q.addr) (state q.state) (known_there lower low_cert node q has stands) in
@@ -160,17 +160,17 @@ module _ (lower upper : CertData) (low_cert : IsCert lower) (below : IsBelowAt (
       record { node = a.node; place = a.place; member = a.member; stands = a.stands; key = a.key; addr = a.addr; covers = subst (λ t. Covers t q.state) (sym a.is) o.2 }
 
 -- certificates of one format have the same limits
-pub limits_same : (plan : PlanData) (lower upper : CertData) → lower.version ≡ upper.version → limits_in plan upper ≡ limits_in plan lower
-limits_same plan lower upper same = sym (ap (λ v. limits_in plan (record lower { version = v })) same)
+pub limits_same : (plan : PlanData) (lower upper : CertData) → lower.version ≡ upper.version → limits_of_cert plan upper ≡ limits_of_cert plan lower
+limits_same plan lower upper same = sym (ap (λ v. limits_of_cert plan (record lower { version = v })) same)
 
 -- a state of an accepted certificate is a setting of the plan
 pub setting : (image : ImageData) (plan : PlanData) (cert : CertData) → IsPlan plan → IsCert cert → Accepts image plan cert → (node : NodeData) (q : Point) → Contains cert.nodes node → Contains node.points q
-    → IsSoundSetting (limits_in plan cert) plan q.state
+    → MeetSoundnessPremises (limits_of_cert plan cert) plan q.state
 setting image plan cert ok is accepted node q has stands =
     let in_node = All-contains (IsNode cert.version) cert.nodes node is.nodes has in
     record {
       limits = limits_are plan cert.version;
       plan = ok;
       regs = ((All-contains (IsPoint cert.version) node.points q in_node.points stands).state).regs;
-      values = All-contains (λ (z : Point). AreValues (limits_in plan cert) (z.state).regs) node.points q (accepted_values image plan cert node accepted has) stands;
+      values = All-contains (λ (z : Point). AreInLattice (limits_of_cert plan cert) (z.state).regs) node.points q (accepted_values image plan cert node accepted has) stands;
     }

@@ -15,12 +15,12 @@ use Rattle.value_domain.specs.Limits.{Limits}
 use Rattle.value_domain.specs.Sets.{Among}
 use Rattle.value_domain.specs.Values.{members, IsWellFormed, word_val}
 use Rattle.value_domain.proofs.CoverLaws.{member_same}
-use Rattle.vd_transfer.specs.EffectsOnStates.{address_of}
+use Rattle.vd_transfer.specs.EffectsOnStates.{address_of_access}
 use Rattle.tcd_plan.specs.MappedAddresses.{IsStoreInRange}
 use Rattle.store_ranges.specs.Accesses.{AreAligned, AreStoresInRange, are_aligned}
 use Rattle.depth_cert.specs.declared.keys.Key.{Key}
 use Rattle.cfg_recover.specs.Code.{IsCode}
-use Rattle.cfg_recover.specs.LocalRules.{StoresInRange, MayAccess, LocalRule, LocalHolds, StoresInRangeAt, MayAccessAt}
+use Rattle.cfg_recover.specs.LocalRules.{StoresInRange, MayAccess, LocalRuleHolds, LocalRuleHoldsAtPoint, StoresInRangeAtValue, MayAccessAtValue}
 use Rattle.cfg_recover.specs.LocalFaults.{IsLocalFault, IsLeastLocalFault, IsFaultlessInst}
 use Rattle.cfg_recover.proofs.CodeLaws.{IsCode-one}
 
@@ -47,24 +47,24 @@ allowed_untrapped fields plan t v size well e off is =
     (λ h. inl (same.0 (is.0 h)), λ h. elim h [ inl a ↦ is.1 (same.1 a) | inr on ↦ let none : plan.aln ≡ false = ap (λ (p : PlanData). p.aln) (sym e) ∙ off in cc ])
 
 -- ---- accesses at the address
-stores_same : (b : Limits) (plan : PlanData) (s : State) (shape : Shape) → StoresInRangeAt plan (address_of b plan shape s) shape ↔ StoresInRange b plan s shape
+stores_same : (b : Limits) (plan : PlanData) (s : State) (shape : Shape) → StoresInRangeAtValue plan (address_of_access b plan shape s) shape ↔ StoresInRange b plan s shape
 stores_same b plan s (Store src base offset size after) = (λ h. h, λ h. h)
 stores_same b plan s _ = (λ h. h, λ h. h)
 
-access_same : (b : Limits) (plan : PlanData) (s : State) (shape : Shape) → MayAccessAt plan (address_of b plan shape s) shape ↔ MayAccess b plan s shape
+access_same : (b : Limits) (plan : PlanData) (s : State) (shape : Shape) → MayAccessAtValue plan (address_of_access b plan shape s) shape ↔ MayAccess b plan s shape
 access_same b plan s (Load dst base offset size signed after) = (λ h. h, λ h. h)
 access_same b plan s (Store src base offset size after) = (λ h. h, λ h. h)
 access_same b plan s _ = (λ h. h, λ h. h)
 
-pub StoresInRange-at : (b : Limits) (plan : PlanData) (s : State) (shape : Shape) (at : Val) (t : Bool) → at ≡ address_of b plan shape s → IsTrue t ↔ StoresInRangeAt plan at shape → IsTrue t ↔ StoresInRange b plan s shape
+pub StoresInRange-at : (b : Limits) (plan : PlanData) (s : State) (shape : Shape) (at : Val) (t : Bool) → at ≡ address_of_access b plan shape s → IsTrue t ↔ StoresInRangeAtValue plan at shape → IsTrue t ↔ StoresInRange b plan s shape
 StoresInRange-at b plan s shape at t e is =
-    let there : IsTrue t ↔ StoresInRangeAt plan (address_of b plan shape s) shape = subst (λ (v : Val). IsTrue t ↔ StoresInRangeAt plan v shape) e is in
+    let there : IsTrue t ↔ StoresInRangeAtValue plan (address_of_access b plan shape s) shape = subst (λ (v : Val). IsTrue t ↔ StoresInRangeAtValue plan v shape) e is in
     let same = stores_same b plan s shape in
     (λ h. same.0 (there.0 h), λ h. there.1 (same.1 h))
 
-pub MayAccess-at : (b : Limits) (plan : PlanData) (s : State) (shape : Shape) (at : Val) (t : Bool) → at ≡ address_of b plan shape s → IsTrue t ↔ MayAccessAt plan at shape → IsTrue t ↔ MayAccess b plan s shape
+pub MayAccess-at : (b : Limits) (plan : PlanData) (s : State) (shape : Shape) (at : Val) (t : Bool) → at ≡ address_of_access b plan shape s → IsTrue t ↔ MayAccessAtValue plan at shape → IsTrue t ↔ MayAccess b plan s shape
 MayAccess-at b plan s shape at t e is =
-    let there : IsTrue t ↔ MayAccessAt plan (address_of b plan shape s) shape = subst (λ (v : Val). IsTrue t ↔ MayAccessAt plan v shape) e is in
+    let there : IsTrue t ↔ MayAccessAtValue plan (address_of_access b plan shape s) shape = subst (λ (v : Val). IsTrue t ↔ MayAccessAtValue plan v shape) e is in
     let same = access_same b plan s shape in
     (λ h. same.0 (there.0 h), λ h. there.1 (same.1 h))
 
@@ -88,10 +88,10 @@ ruled_out t is off h = let on : t ≡ true = is.1 h in cc
 
 -- ---- at an address
 -- what holds for the shape that was found there holds there
-pub LocalHolds-found : (b : Limits) (image : ImageData) (plan : PlanData) (key : Key) (p : ℕ) (s : State) (shape : Shape) (n r : ℕ) → IsCode image plan p shape n → LocalRule b plan key p s shape r → LocalHolds b image plan key p s r
+pub LocalHolds-found : (b : Limits) (image : ImageData) (plan : PlanData) (key : Key) (p : ℕ) (s : State) (shape : Shape) (n r : ℕ) → IsCode image plan p shape n → LocalRuleHolds b plan key p s shape r → LocalRuleHoldsAtPoint b image plan key p s r
 LocalHolds-found b image plan key p s shape n r code holds = record {
   code = λ e. record { shape = shape; size = n; code = code };
-  own = λ t m other. subst (λ (x : Shape). LocalRule b plan key p s x r) (IsCode-one image plan p shape t n m code other).0 holds;
+  own = λ t m other. subst (λ (x : Shape). LocalRuleHolds b plan key p s x r) (IsCode-one image plan p shape t n m code other).0 holds;
 }
 
 pub IsLocalFault-broken : (b : Limits) (image : ImageData) (plan : PlanData) (key : Key) (p : ℕ) (s : State) (shape : Shape) (n r : ℕ) → IsCode image plan p shape n → IsLeastLocalFault b plan key p s shape (Some r) → IsLocalFault b image plan key p s r

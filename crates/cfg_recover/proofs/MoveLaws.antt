@@ -3,7 +3,7 @@ use Rattle.std.proofs.Common.{◌≡◌, ℕ, ◌*◌, ◌/◌, ◌%◌, ◌^◌
 use Rattle.std.specs.Prelude.{IfSome, IsSome, IsSomeAnd, Contains}
 use Rattle.std.specs.FinMap as memory_map
 use Rattle.std.proofs.lemmas.Bool.{cases_Bool, and_parts, both_ways, not-true, ltb-true, lt-ltb, eq-eqb, false≢true, cond_both}
-use Rattle.csa_chain.specs.MemoryBytes.{Memory, loaded_number, with_bytes, extend_loaded_bytes}
+use Rattle.csa_chain.specs.MemoryBytes.{Memory, loaded_number, with_bytes, load_result}
 use Rattle.elf_image.specs.Images.{ImageData}
 use Rattle.tcd_plan.specs.PlanData.{PlanData, IsPlan}
 use Rattle.tc_isa.specs.declared.shapes.Arg.{Arg}
@@ -19,10 +19,10 @@ use Rattle.tc_machine.specs.declared.events.Event.{Event}
 use Rattle.tc_machine.specs.declared.events.End.TheVariants.{Running}
 use Rattle.tc_machine.specs.declared.state.Machine.{Machine}
 use Rattle.tc_machine.specs.Machine.{reg, a11, IsMachine, core_register}
-use Rattle.tc_machine.specs.Instructions.{machine_address_ahead, does, access_address, is_trapping_access, target_of}
+use Rattle.tc_machine.specs.Instructions.{wrapping_sum, does, access_address, is_trapping_access, target_of}
 use Rattle.tc_machine.specs.Fetching.{fetched_instruction}
 use Rattle.tc_machine.specs.Stepping.{is_interrupt_taken, load_of_fetched, store_of_fetched, none_if_dead, stored, step}
-use Rattle.tcd_plan.specs.MappedAddresses.{IsInAreas, AnswersLoad, IsStoreInRange}
+use Rattle.tcd_plan.specs.MappedAddresses.{IsInAreas, MayAnswerLoad, IsStoreInRange}
 use Rattle.tc_machine.specs.Safe.{Fits}
 use Rattle.tc_machine.proofs.Steps.{with_event, step_does, stored-is}
 use Rattle.tc_machine.proofs.Stays.{stays_step, irq_lt}
@@ -31,26 +31,26 @@ use Rattle.value_domain.specs.declared.values.Val.{Val}
 use Rattle.value_domain.specs.declared.values.Val.TheVariants.{Set, Span}
 use Rattle.value_domain.specs.declared.states.State.{State}
 use Rattle.value_domain.specs.Limits.{Limits}
-use Rattle.value_domain.specs.Values.{IsMember, IsValue, IsWellFormed, members, word_val}
+use Rattle.value_domain.specs.Values.{IsMember, IsInLattice, IsWellFormed, members, word_val}
 use Rattle.value_domain.proofs.CoverLaws.{among_member, has_step}
 use Rattle.value_domain.proofs.RangeLaws.{one_value}
 use Rattle.value_domain.proofs.SetLaws.{distinct_has}
-use Rattle.vd_transfer.specs.Registers.{slot, reg_of, arg_of, set_reg}
-use Rattle.vd_transfer.specs.EffectsOnStates.{access_of, address_of, transfer_of}
-use Rattle.vd_transfer.specs.EffectsOnWords.{ie_after, word_of, words_after, ccpn_after}
+use Rattle.vd_transfer.specs.Registers.{register_slot, reg_of, arg_of, with_reg_value}
+use Rattle.vd_transfer.specs.EffectsOnStates.{access_of, address_of_access, transfer_of}
+use Rattle.vd_transfer.specs.EffectsOnWords.{ie_after, operand_word, words_after, ccpn_after}
 use Rattle.vd_transfer.specs.Branches.{refine_of}
 use Rattle.vd_transfer.specs.Holding.{Holds}
-use Rattle.vd_transfer.specs.Soundness.{ReadsSoundly, IsSoundSetting}
+use Rattle.vd_transfer.specs.Soundness.{LoadedIsMember, MeetSoundnessPremises}
 use Rattle.vd_transfer.proofs.HoldLaws.{same_length, reg_of-other, reg_of-here, transfer_holds, branch_holds, address_holds, arg_value}
 use Rattle.vd_transfer.proofs.ValueLaws.{value_of_value}
 use Rattle.store_ranges.specs.Loads.{HoldsLoads, load_value_of}
 use Rattle.store_ranges.proofs.Covers.{map_has}
 use Rattle.store_ranges.proofs.Sound.{set_sound, span_sound}
 use Rattle.depth_cert.specs.declared.keys.Key.{Key}
-use Rattle.cfg_recover.specs.Entries.{entry_stack_of, sys_entry, irqs_of}
-use Rattle.cfg_recover.specs.LocalRules.{targets_named_by, targets_of}
+use Rattle.cfg_recover.specs.Entries.{entry_stack_of, sys_entry, possible_irqs_of}
+use Rattle.cfg_recover.specs.LocalRules.{targets_of_value, targets_of}
 use Rattle.store_ranges.specs.Accesses.{are_aligned}
-use Rattle.cfg_recover.specs.Duties.{owed, jump, loaded_for_duties, successor_duties_of, next_duty_of, duties_of}
+use Rattle.cfg_recover.specs.Duties.{owed, jump, value_loaded_by_shape, successor_duties_of, next_duty_of, duties_of}
 use Rattle.cfg_recover.specs.MovesAreOwed.{IsInState, IsAtPoint, MovesTo, IsMoveOwed, JumpsAreOwed, TrapsAreOwed, InterruptsAreOwed, PointStoresAreInRange, CallsAreOwed, SystemCallsAreOwed}
 use Rattle.cfg_recover.proofs.EntryLaws.{reg_lt}
 use Rattle.cfg_recover.proofs.Points.{setting, bounded, writes, fetched_at}
@@ -76,8 +76,8 @@ holds_went plan d a word ie ccpn t same h = record {
   priority = h.priority;
 }
 
-no_a11 : slot 27 ≡ None
-unfolding slot
+no_a11 : register_slot 27 ≡ None
+unfolding register_slot
 no_a11 = refl
 
 moves_to : (image : ImageData) (plan : PlanData) (m n : Machine) (s t : State) (word : ℕ → ℕ) (pc : ℕ) (ie : Bool) (mem : Memory) → m.end ≡ Running → Went m n word pc ie mem → Holds plan word ie m.ccpn t
@@ -117,22 +117,22 @@ module _ {b : Limits} {image : ImageData} {plan : PlanData} {key : Key} {m : Mac
   }
 
   -- the machine goes to the next instruction
-  moved_on : (input : ℕ) (mem : Memory) → GoesOn shape → input < 2 ^ 32 → ReadsSoundly shape input (loaded_for_duties b image plan s shape) → ccpn_after shape m.ccpn ≡ m.ccpn → IsSparing image plan m.mem mem
+  moved_on : (input : ℕ) (mem : Memory) → GoesOn shape → input < 2 ^ 32 → LoadedIsMember shape input (value_loaded_by_shape b image plan s shape) → ccpn_after shape m.ccpn ≡ m.ccpn → IsSparing image plan m.mem mem
       → ((t : State) → successor_duties_of b image plan m.pc t shape n ≡ next_duty_of b image plan m.pc t shape n)
-      → Went m (does m e shape n) (words_after shape input (reg m)) (machine_address_ahead m.pc n) (ie_after shape m.ie) mem → IsMoveOwed b image plan key m e s shape n
+      → Went m (does m e shape n) (words_after shape input (reg m)) (wrapping_sum m.pc n) (ie_after shape m.ie) mem → IsMoveOwed b image plan key m e s shape n
   moved_on input mem goes small reads ccpn sparing next_only w =
-      let read = loaded_for_duties b image plan s shape in
+      let read = value_loaded_by_shape b image plan s shape in
       let t = transfer_of b plan shape s read in
       let h : Holds plan (words_after shape input (reg m)) (ie_after shape m.ie) (ccpn_after shape m.ccpn) t =
       transfer_holds b plan shape s read (reg m) m.ie m.ccpn input (setting at) (bounded at) (writes at) goes.1 small reads at.inside
       in
-      moved_to t (words_after shape input (reg m)) (machine_address_ahead m.pc n) (ie_after shape m.ie) mem w (subst (λ c. Holds plan (words_after shape input (reg m)) (ie_after shape m.ie) c t) ccpn h)
+      moved_to t (words_after shape input (reg m)) (wrapping_sum m.pc n) (ie_after shape m.ie) mem w (subst (λ c. Holds plan (words_after shape input (reg m)) (ie_after shape m.ie) c t) ccpn h)
       (keeps_lower b plan shape s read (reg m) input goes) (keeps_locals b plan shape s read goes) (keeps_valueless shape (reg m) input 27 (writes at) no_a11) sparing
       (duty_listed b image plan key m.pc s n shape _ (next shape next_only))
 
 -- ---- accesses
 -- the value of an address is within the limits
-address_value : (b : Limits) (plan : PlanData) (s : State) (base : Arg) (offset : ℕ) (after : Bool) → IsSoundSetting b plan s → IsArg base → offset < 2 ^ 32 → IsValue b (access_of b plan s base offset after)
+address_value : (b : Limits) (plan : PlanData) (s : State) (base : Arg) (offset : ℕ) (after : Bool) → MeetSoundnessPremises b plan s → IsArg base → offset < 2 ^ 32 → IsInLattice b (access_of b plan s base offset after)
 address_value b plan s base offset true set is small = arg_value b plan s base set is
 address_value b plan s base offset false set is small = value_of_value b Add (arg_of plan s base) (word_val offset) set.limits (arg_value b plan s base set is) (one_value b offset set.limits small)
 
@@ -142,26 +142,26 @@ loads_hold b image plan (Set ws) size signed ok well = set_sound b image plan ws
 loads_hold b image plan (Span lo last step) size signed ok well = span_sound b image plan (Span lo last step) size signed ok well
 
 -- the load at pc is answered by its peripheral
-answered : (plan : PlanData) (m : Machine) (e : Event) (shape : Shape) (n : ℕ) → Fits plan m e → is_interrupt_taken m e ≡ false → fetched_instruction m ≡ Ok (shape, n) → AnswersLoad plan e.input (load_of_fetched m (Ok (shape, n)))
-answered plan m e shape n fits none at = subst (λ f. AnswersLoad plan e.input (load_of_fetched m f)) at (fits.answers none)
+answered : (plan : PlanData) (m : Machine) (e : Event) (shape : Shape) (n : ℕ) → Fits plan m e → is_interrupt_taken m e ≡ false → fetched_instruction m ≡ Ok (shape, n) → MayAnswerLoad plan e.input (load_of_fetched m (Ok (shape, n)))
+answered plan m e shape n fits none at = subst (λ f. MayAnswerLoad plan e.input (load_of_fetched m f)) at (fits.answers none)
 
 module _ {b : Limits} {image : ImageData} {plan : PlanData} {key : Key} {m : Machine} {s : State} {n : ℕ} (base : Arg) (offset size : ℕ) (after : Bool) where
   module _ (dst : ℕ) (signed : Bool) (at : IsAtPoint b image plan key m s (Load dst base offset size signed after) n) where
-    load_value : IsValue b (address_of b plan (Load dst base offset size signed after) s)
-    unfolding address_of
+    load_value : IsInLattice b (address_of_access b plan (Load dst base offset size signed after) s)
+    unfolding address_of_access
     load_value = let is = bounded at in address_value b plan s base offset after (setting at) is.1 is.2
 
-    load_member : IsMember (access_address m base offset after) (address_of b plan (Load dst base offset size signed after) s)
+    load_member : IsMember (access_address m base offset after) (address_of_access b plan (Load dst base offset size signed after) s)
     load_member =
         let is = bounded at in
         rw (address-is m base offset after) (address_holds.load b plan dst base offset size signed after s (reg m) m.ie m.ccpn (setting at) is.1 is.2 at.inside)
 
   module _ (src : ℕ) (at : IsAtPoint b image plan key m s (Store src base offset size after) n) where
-    store_value : IsValue b (address_of b plan (Store src base offset size after) s)
-    unfolding address_of
+    store_value : IsInLattice b (address_of_access b plan (Store src base offset size after) s)
+    unfolding address_of_access
     store_value = let is = bounded at in address_value b plan s base offset after (setting at) is.1 is.2
 
-    store_member : IsMember (access_address m base offset after) (address_of b plan (Store src base offset size after) s)
+    store_member : IsMember (access_address m base offset after) (address_of_access b plan (Store src base offset size after) s)
     store_member =
         let is = bounded at in
         rw (address-is m base offset after) (address_holds.store b plan src base offset size after s (reg m) m.ie m.ccpn (setting at) is.1 is.2 at.inside)
@@ -171,13 +171,13 @@ module _ {b : Limits} {image : ImageData} {plan : PlanData} {key : Key} {m : Mac
     store_in_range = (at.own 9).stores refl (access_address m base offset after) store_member
 
 -- ---- targets
-named_has : (v : Val) (w : ℕ) → IsSome (targets_named_by v) → IsMember w v → Contains (unwrap_or (targets_named_by v) []) (w / 2 * 2)
+named_has : (v : Val) (w : ℕ) → IsSome (targets_of_value v) → IsMember w v → Contains (unwrap_or (targets_of_value v) []) (w / 2 * 2)
 named_has (Set ws) w some m = contains_among _ (w / 2 * 2) (distinct_has (w / 2 * 2) _ (map_has (λ w. w / 2 * 2) w ws m))
 named_has (Span lo last step) w some m = absurd (let f : false ≡ true = some in cc)
 
 -- a jump or a call goes to a known target
 goes_to : (plan : PlanData) (m : Machine) (s : State) (to : Target) → IsSome (targets_of plan s m.pc to) → IsTarget to → IsInState plan m s → Contains (unwrap_or (targets_of plan s m.pc to) []) (target_of m to)
-goes_to plan m s (target.Rel by) some is inside = contains_first (machine_address_ahead m.pc by) []
+goes_to plan m s (target.Rel by) some is inside = contains_first (wrapping_sum m.pc by) []
 goes_to plan m s (target.Abs x) some is inside = contains_first x []
 goes_to plan m s (target.Reg r) some is inside = named_has (reg_of plan s r) (reg m r) some (inside.regs r is)
 
@@ -189,12 +189,12 @@ some_at (Some x) P Q p q = (x, refl, p, q)
 
 -- that side is owed
 owes_side : (b : Limits) (image : ImageData) (plan : PlanData) (key : Key) (p : ℕ) (s : State) (test : Cond) (x : ℕ) (y : Arg) (by : ℕ) (lowers : Bool) (n : ℕ) (side : Bool) (t : State) → refine_of b plan (Branch test x y by lowers) s side ≡ Some t
-    → Contains (duties_of b image plan key p s (Branch test x y by lowers) n) (owed 4 (jump (cond side (machine_address_ahead p by) (machine_address_ahead p n)) t))
+    → Contains (duties_of b image plan key p s (Branch test x y by lowers) n) (owed 4 (jump (cond side (wrapping_sum p by) (wrapping_sum p n)) t))
 owes_side b image plan key p s test x y by lowers n false t e = duty_listed b image plan key p s n _ _ (straight test x y by lowers t e)
 owes_side b image plan key p s test x y by lowers n true t e = duty_listed b image plan key p s n _ _ (branch_taken test x y by lowers t e)
 
 moves_branch : (b : Limits) (image : ImageData) (plan : PlanData) (key : Key) (m : Machine) (e : Event) (s : State) (test : Cond) (x : ℕ) (y : Arg) (by : ℕ) (lowers : Bool) (n : ℕ) (side : Bool)
-    → IsAtPoint b image plan key m s (Branch test x y by lowers) n → taken_of test (reg m x) (word_of (reg m) y) ≡ side → IsMoveOwed b image plan key m e s (Branch test x y by lowers) n
+    → IsAtPoint b image plan key m s (Branch test x y by lowers) n → taken_of test (reg m x) (operand_word (reg m) y) ≡ side → IsMoveOwed b image plan key m e s (Branch test x y by lowers) n
 moves_branch b image plan key m e s test x y by lowers n side at goes =
     let word = words_after (Branch test x y by lowers) 0 (reg m) in
     let is = bounded at in
@@ -203,8 +203,8 @@ moves_branch b image plan key m e s test x y by lowers n side at goes =
     (branch_holds b plan test x y by lowers s side (reg m) m.ie m.ccpn (setting at) is (writes at) at.inside goes)
     (keeps_branch b plan test x y by lowers s side (reg m))
     in
-    moved_to e at t.0 word (cond side (machine_address_ahead m.pc by) (machine_address_ahead m.pc n)) m.ie m.mem
-    (subst (λ u. Went m (does m e (Branch test x y by lowers) n) word (cond u (machine_address_ahead m.pc by) (machine_address_ahead m.pc n)) m.ie m.mem) goes (does-branch m at.machine e n test x y by lowers is.0))
+    moved_to e at t.0 word (cond side (wrapping_sum m.pc by) (wrapping_sum m.pc n)) m.ie m.mem
+    (subst (λ u. Went m (does m e (Branch test x y by lowers) n) word (cond u (wrapping_sum m.pc by) (wrapping_sum m.pc n)) m.ie m.mem) goes (does-branch m at.machine e n test x y by lowers is.0))
     t.2 (t.3).lower (t.3).locals (keeps_valueless (Branch test x y by lowers) (reg m) 0 27 (writes at) no_a11) (same_memory e at)
     (owes_side b image plan key m.pc s test x y by lowers n side t.0 t.1)
 
@@ -233,13 +233,13 @@ moves_in_frame b image plan key m e s (Scaled dst base index j) n at fits none s
 moves_in_frame b image plan key m e s (Load dst base offset size signed after) n at fits none stays quiet =
     let is = bounded at in
     let x = access_address m base offset after in
-    let address = address_of b plan (Load dst base offset size signed after) s in
+    let address = address_of_access b plan (Load dst base offset size signed after) s in
     let small = load_lt m.mem at.machine.bytes signed e.input x size is.3 in
     let member =
     loads_hold b image plan address size signed at.is_plan (load_value base offset size after dst signed at).well m.mem x e.input at.machine.bytes at.memory at.rom fits.input
     (answered plan m e (Load dst base offset size signed after) n fits none (fetched_at at)) (load_member base offset size after dst signed at)
     in
-    moved_on e at (extend_loaded_bytes signed size (loaded_number m.mem e.input x size)) m.mem (tt, tt) small member refl (same_memory e at) (λ t. refl)
+    moved_on e at (load_result signed size (loaded_number m.mem e.input x size)) m.mem (tt, tt) small member refl (same_memory e at) (λ t. refl)
     (does-load m at.machine e n base offset size after is.1 quiet dst signed is.0)
 moves_in_frame b image plan key m e s (Store src base offset size after) n at fits none stays quiet =
     let x = access_address m base offset after in
@@ -252,7 +252,7 @@ moves_in_frame b image plan key m e s (Store src base offset size after) n at fi
     } in
     moved_on e at 0 (with_bytes m.mem x (reg m src) size) (tt, tt) (omega arith) tt refl sparing (λ t. refl) (does-store m at.machine e n base offset size after (bounded at).1 quiet src 0)
 moves_in_frame b image plan key m e s (Branch test x y by lowers) n at fits none stays quiet =
-    moves_branch b image plan key m e s test x y by lowers n (taken_of test (reg m x) (word_of (reg m) y)) at refl
+    moves_branch b image plan key m e s test x y by lowers n (taken_of test (reg m x) (operand_word (reg m) y)) at refl
 moves_in_frame b image plan key m e s (Jump to) n at fits none stays quiet =
     moved_to e at s (reg m) (target_of m to) m.ie m.mem (does-goto m at.machine e n to) at.inside (λ t. (t, λ r low. refl)) refl refl (same_memory e at)
     (duty_listed b image plan key m.pc s n _ _ (jump_target to (target_of m to) (goes_to plan m s to ((at.own 5).targets refl) (bounded at) at.inside)))
@@ -265,7 +265,7 @@ moves_in_frame b image plan key m e s _ n at fits none stays quiet = absurd stay
 
 -- ---- traps
 -- if an access traps at a member, not all members are aligned
-unaligned : (b : Limits) (v : Val) (x size : ℕ) (aln : Bool) → IsValue b v → IsMember x v → (aln && not (eqb (x % size) 0)) ≡ true → not (are_aligned v size) ≡ true
+unaligned : (b : Limits) (v : Val) (x size : ℕ) (aln : Bool) → IsInLattice b v → IsMember x v → (aln && not (eqb (x % size) 0)) ≡ true → not (are_aligned v size) ≡ true
 unaligned b v x size aln value m traps =
     elim (cases_Bool (are_aligned v size)) [
       | inl all ↦
@@ -277,9 +277,9 @@ unaligned b v x size aln value m traps =
 
 pub traps_owed : TrapsAreOwed
 traps_owed b image plan key m e s (Load dst base offset size signed after) n at t =
-    duty_listed b image plan key m.pc s n _ _ (misaligned (Load dst base offset size signed after) (unaligned b (address_of b plan (Load dst base offset size signed after) s) (access_address m base offset after) size e.aln (load_value base offset size after dst signed at) (load_member base offset size after dst signed at) t))
+    duty_listed b image plan key m.pc s n _ _ (misaligned (Load dst base offset size signed after) (unaligned b (address_of_access b plan (Load dst base offset size signed after) s) (access_address m base offset after) size e.aln (load_value base offset size after dst signed at) (load_member base offset size after dst signed at) t))
 traps_owed b image plan key m e s (Store src base offset size after) n at t =
-    duty_listed b image plan key m.pc s n _ _ (misaligned (Store src base offset size after) (unaligned b (address_of b plan (Store src base offset size after) s) (access_address m base offset after) size e.aln (store_value base offset size after src at) (store_member base offset size after src at) t))
+    duty_listed b image plan key m.pc s n _ _ (misaligned (Store src base offset size after) (unaligned b (address_of_access b plan (Store src base offset size after) s) (access_address m base offset after) size e.aln (store_value base offset size after src at) (store_member base offset size after src at) t))
 traps_owed b image plan key m e s shape n at t = absurd (false≢true t)
 
 -- ---- calls
@@ -293,19 +293,19 @@ calls_owed b image plan key m s to n at =
 
 -- ---- system calls
 pub system_calls_owed : SystemCallsAreOwed
-unfolding slot
+unfolding register_slot
 system_calls_owed b image plan key m s tin n at =
     let sp = entry_stack_of plan key s in
-    let t = set_reg s 26 sp in
+    let t = with_reg_value s 26 sp in
     let u = sys_entry plan key s tin in
-    let long : length t.regs ≡ 27 = same_length s sp (slot 26) ∙ at.regs in
+    let long : length t.regs ≡ 27 = same_length s sp (register_slot 26) ∙ at.regs in
     record {
       state = u;
       entered = duty_listed b image plan key m.pc s n _ _ (system tin);
       back = duty_listed b image plan key m.pc s n _ _ (system_back tin);
-      number = reg_of-here plan t 15 (word_val tin) (slot 15) long refl refl;
-      stack = reg_of-other plan t 15 26 (word_val tin) (slot 15) (slot 26) refl refl (λ e. omega arith) ∙ reg_of-here plan s 26 sp (slot 26) at.regs refl refl;
-      others = λ r n15 n26. reg_of-other plan t 15 r (word_val tin) (slot 15) (slot r) refl refl n15 ∙ reg_of-other plan s 26 r sp (slot 26) (slot r) refl refl n26;
+      number = reg_of-here plan t 15 (word_val tin) (register_slot 15) long refl refl;
+      stack = reg_of-other plan t 15 26 (word_val tin) (register_slot 15) (register_slot 26) refl refl (λ e. omega arith) ∙ reg_of-here plan s 26 sp (register_slot 26) at.regs refl refl;
+      others = λ r n15 n26. reg_of-other plan t 15 r (word_val tin) (register_slot 15) (register_slot r) refl refl n15 ∙ reg_of-other plan s 26 r sp (register_slot 26) (register_slot r) refl refl n26;
       enabled = refl;
       priority = refl;
       lower = refl;
@@ -319,7 +319,7 @@ interrupts_owed b image plan key m e s shape n at fits taken =
     let above : m.ccpn < e.irq = ltb-true m.ccpn e.irq on.1 in
     let stated : Contains plan.irqs e.irq = elim fits.irq [ inl none ↦ absurd (omega arith) | inr c ↦ c ] in
     let enabled : s.ie ≡ true = at.inside.enabled on.0 in
-    let reached : Contains (irqs_of plan s) e.irq = rw enabled (contains_filter (ltb s.ccpn) e.irq plan.irqs stated (lt-ltb s.ccpn e.irq (omega (arith, at.inside.priority)))) in
+    let reached : Contains (possible_irqs_of plan s) e.irq = rw enabled (contains_filter (ltb s.ccpn) e.irq plan.irqs stated (lt-ltb s.ccpn e.irq (omega (arith, at.inside.priority)))) in
     duty_listed b image plan key m.pc s n shape _ (interrupt shape e.irq reached)
 
 -- ---- stores

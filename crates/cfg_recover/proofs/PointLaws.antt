@@ -7,7 +7,7 @@ use Rattle.tcd_plan.specs.PlanData.{PlanData}
 use Rattle.tc_isa.specs.declared.shapes.Shape.{Shape}
 use Rattle.value_domain.specs.declared.states.State.{State}
 use Rattle.value_domain.specs.Limits.{AreLimits}
-use Rattle.value_domain.specs.State.{AreValues}
+use Rattle.value_domain.specs.State.{AreInLattice}
 use Rattle.value_domain.specs.VersionLimits.{limits_for}
 use Rattle.depth_cert.specs.declared.keys.Key.{Key}
 use Rattle.depth_cert.specs.declared.points.Point.{Point}
@@ -18,10 +18,10 @@ use Rattle.depth_cert.specs.Certs.{CertData, IsCert}
 use Rattle.depth_cert.proofs.KeyLaws.{found_in, one_number}
 use Rattle.cfg_recover.specs.Code.{IsCode, HasCode}
 use Rattle.cfg_recover.specs.Entries.{start_key}
-use Rattle.cfg_recover.specs.LocalRules.{LocalRule}
+use Rattle.cfg_recover.specs.LocalRules.{LocalRuleHolds}
 use Rattle.cfg_recover.specs.LocalFaults.{IsFaultless}
 use Rattle.cfg_recover.specs.Duties.{Owed, duties_of}
-use Rattle.cfg_recover.specs.RulesHoldOrFail.{limits_in, IsDutyMet, EntryNeedRuleHolds, RuleHolds, NeedRuleHolds, HoldsAtNode, Accepts}
+use Rattle.cfg_recover.specs.RulesHoldOrFail.{limits_of_cert, IsDutyMet, EntryNeedRuleHolds, RuleHolds, NeedRuleHolds, RulesHoldAtNode, Accepts}
 
 -- ---- limits
 pub limits_are : (plan : PlanData) (version : ℕ) → AreLimits (limits_for plan version)
@@ -35,14 +35,14 @@ limits_are plan version =
 -- ---- points
 -- what a point of a node owes
 abbrev pub duties_at : ImageData → PlanData → CertData → NodeData → ℕ → State → Shape → ℕ → List Owed
-duties_at image plan cert node p s shape n = duties_of (limits_in plan cert) image plan node.key p s shape n
+duties_at image plan cert node p s shape n = duties_of (limits_of_cert plan cert) image plan node.key p s shape n
 
 -- what the rules ask at a point of a node
 pub record PointHolds (image : ImageData) (plan : PlanData) (cert : CertData) (node : NodeData) (p : ℕ) (s : State) (shape : Shape) (size : ℕ) : Type 0 where
   pub code : IsCode image plan p shape size
   pub regs : length s.regs ≡ 27
-  pub values : AreValues (limits_in plan cert) s.regs
-  pub own : (r : ℕ) → LocalRule (limits_in plan cert) plan node.key p s shape r
+  pub values : AreInLattice (limits_of_cert plan cert) s.regs
+  pub own : (r : ℕ) → LocalRuleHolds (limits_of_cert plan cert) plan node.key p s shape r
   pub met : (d : Owed) → Contains (duties_at image plan cert node p s shape size) d → IsDutyMet cert node s d.duty
   pub locals : length s.locals.items ≤ node.need
   pub entered : (d : Owed) → Contains (duties_at image plan cert node p s shape size) d → EntryNeedRuleHolds cert node s d.duty
@@ -64,16 +64,16 @@ module _ (image : ImageData) (plan : PlanData) (cert : CertData) (is_cert : IsCe
   pub node_is : (node : NodeData) → Stands cert node → IsNode cert.version node
   node_is node stands = All-contains (IsNode cert.version) cert.nodes node is_cert.nodes (stands_in node stands)
 
-  rules_of_node : (node : NodeData) → Stands cert node → HoldsAtNode image plan cert node
-  rules_of_node node stands = All-contains (HoldsAtNode image plan cert) cert.nodes node accepted.nodes (stands_in node stands)
+  rules_of_node : (node : NodeData) → Stands cert node → RulesHoldAtNode image plan cert node
+  rules_of_node node stands = All-contains (RulesHoldAtNode image plan cert) cert.nodes node accepted.nodes (stands_in node stands)
 
   rules_at_point : (node : NodeData) (point : Point) → Stands cert node → Contains node.points point → PointRules image plan cert node point.addr point.state
   rules_at_point node point stands there =
       let all : (r : ℕ) → RuleHolds image plan cert node point r = All-contains (λ p. (r : ℕ) → RuleHolds image plan cert node p r) node.points point (rules_of_node node stands).points there in
-      let values : AreValues (limits_in plan cert) (point.state).regs = (all 2).values refl in
-      let faultless : IsFaultless (limits_in plan cert) image plan node.key point.addr point.state = λ r. (all r).own values in
+      let values : AreInLattice (limits_of_cert plan cert) (point.state).regs = (all 2).values refl in
+      let faultless : IsFaultless (limits_of_cert plan cert) image plan node.key point.addr point.state = λ r. (all r).own values in
       let has : HasCode image plan point.addr = (faultless 3).code refl in
-      let needs : NeedRuleHolds image plan cert node point (duties_of (limits_in plan cert) image plan node.key point.addr point.state has.shape has.size) = (all 14).needs has.shape has.size refl (record { values = values; faultless = faultless; code = has.code }) in
+      let needs : NeedRuleHolds image plan cert node point (duties_of (limits_of_cert plan cert) image plan node.key point.addr point.state has.shape has.size) = (all 14).needs has.shape has.size refl (record { values = values; faultless = faultless; code = has.code }) in
       let is : IsPoint cert.version point = All-contains (IsPoint cert.version) node.points point (node_is node stands).points there in
       record {
         shape = has.shape;

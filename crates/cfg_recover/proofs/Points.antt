@@ -11,21 +11,21 @@ use Rattle.tc_isa.proofs.ShapeBounds.{shape_is}
 use Rattle.tc_machine.specs.declared.events.Event.{Event}
 use Rattle.tc_machine.specs.declared.state.Machine.{Machine}
 use Rattle.tc_machine.specs.Machine.{a11, if_running}
-use Rattle.tc_machine.specs.Instructions.{machine_address_ahead, with_pc_advanced, does, misaligned_access_trap, is_trapping_instruction}
-use Rattle.tc_machine.specs.Handlers.{trap}
+use Rattle.tc_machine.specs.Instructions.{wrapping_sum, with_pc_advanced, does, misaligned_access_trap, is_trapping_instruction}
+use Rattle.tc_machine.specs.Handlers.{after_trap}
 use Rattle.tc_machine.specs.SavesAndRestores.{save, restore}
 use Rattle.tc_machine.specs.Fetching.{fetched_instruction}
 use Rattle.tc_machine.proofs.Fetched.{fetched-is}
 use Rattle.value_domain.specs.declared.states.State.{State}
 use Rattle.value_domain.specs.Limits.{Limits}
 use Rattle.vd_transfer.specs.Registers.{WritesNoFixedRegister}
-use Rattle.vd_transfer.specs.Soundness.{IsSoundSetting}
+use Rattle.vd_transfer.specs.Soundness.{MeetSoundnessPremises}
 use Rattle.depth_cert.specs.declared.keys.Key.{Key}
 use Rattle.cfg_recover.specs.MovesAreOwed.{IsAtPoint}
 
 module _ {b : Limits} {image : ImageData} {plan : PlanData} {key : Key} {m : Machine} {s : State} {shape : Shape} {n : ℕ} (at : IsAtPoint b image plan key m s shape n) where
   -- the premises of the laws of effects
-  pub setting : IsSoundSetting b plan s
+  pub setting : MeetSoundnessPremises b plan s
   setting = record { limits = at.limits; plan = at.is_plan; regs = at.regs; values = at.values }
 
   pub bounded : IsShape shape
@@ -58,7 +58,7 @@ module _ (m : Machine) (e : Event) (n : ℕ) where
   unfolding does
   does-bisr c = refl
 
-  pub does-syscall : (tin : ℕ) → does m e (Syscall tin) n ≡ trap m 6 tin (machine_address_ahead m.pc n)
+  pub does-syscall : (tin : ℕ) → does m e (Syscall tin) n ≡ after_trap m 6 tin (wrapping_sum m.pc n)
   unfolding does
   does-syscall tin = refl
 

@@ -5,7 +5,7 @@ use Rattle.tcd_plan.specs.PlanData.{PlanData}
 use Rattle.value_domain.specs.Limits.{Limits}
 use Rattle.depth_cert.specs.declared.keys.Key.{Key}
 use Rattle.cfg_recover.specs.Assignments.{Assignment, Derived}
-use Rattle.cfg_recover.specs.CertRefusals.{IsFaultInAssignment, own, locals, IsRefusalFault, derived, limits, IsRefusalWith, fault, recursion, need, HasRefusalReason, by_rule, by_locals, by_limits, by_recursion, by_need}
+use Rattle.cfg_recover.specs.CertRefusals.{IsFaultInAssignment, own, locals, IsRefusalFault, derived, limits, IsRefusalWithLimits, fault, recursion, need, HasRefusalReason, by_rule, by_locals, by_limits, by_recursion, by_need}
 use Rattle.cfg_recover.specs.RefusalLaws.{RefusalsHaveReasons}
 
 module _ (b : Limits) (image : ImageData) (plan : PlanData) where
@@ -17,7 +17,7 @@ module _ (b : Limits) (image : ImageData) (plan : PlanData) where
   any_fault_says _ _ _ (derived a r k p d h) = fault_says a r k p d h
   any_fault_says _ _ _ (limits k p h) = by_limits h.before h.after refl h.derived h.within h.adds h.joins h.more
 
-  refusal_says : (r : ℕ) (k : Key) (p : ℕ) → IsRefusalWith b image plan r k p → HasRefusalReason b image plan r k p
+  refusal_says : (r : ℕ) (k : Key) (p : ℕ) → IsRefusalWithLimits b image plan r k p → HasRefusalReason b image plan r k p
   refusal_says _ _ _ (fault r k p h) = any_fault_says r k p h
   refusal_says _ _ _ (recursion a k p least h) = by_recursion a h.recurs.before h.recurs.into refl least h.recurs.enters h.recurs.back h.first
   refusal_says _ _ _ (need a least many) = by_need a refl refl refl least many.ends many.above

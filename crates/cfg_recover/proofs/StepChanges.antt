@@ -10,7 +10,7 @@ use Rattle.value_domain.specs.declared.states.State.{State}
 use Rattle.value_domain.specs.Limits.{Limits}
 use Rattle.value_domain.specs.Values.{any_val}
 use Rattle.vd_transfer.specs.EffectsOnStates.{transfer_of}
-use Rattle.cfg_recover.specs.Duties.{loaded_for_duties}
+use Rattle.cfg_recover.specs.Duties.{value_loaded_by_shape}
 
 -- an instruction that isn't a load
 abbrev pub LoadsNone : Shape → Type 0
@@ -22,11 +22,11 @@ unfolding transfer_of
 writes_none b p s (Load dst base offset size signed after) v w other = absurd (other dst base offset size signed after refl)
 writes_none b p s _ v w other = refl
 
-pub any_loaded : (b : Limits) (image : ImageData) (p : PlanData) (s : State) (shape : Shape) → LoadsNone shape → any_val ≡ loaded_for_duties b image p s shape
+pub any_loaded : (b : Limits) (image : ImageData) (p : PlanData) (s : State) (shape : Shape) → LoadsNone shape → any_val ≡ value_loaded_by_shape b image p s shape
 any_loaded b image p s (Load dst base offset size signed after) other = absurd (other dst base offset size signed after refl)
 any_loaded b image p s _ other = refl
 
 -- an instruction that changes nothing keeps the state
-pub nothing_keeps : (b : Limits) (image : ImageData) (p : PlanData) (s : State) (shape : Shape) → shape ≡ Nothing → s ≡ transfer_of b p shape s (loaded_for_duties b image p s shape)
+pub nothing_keeps : (b : Limits) (image : ImageData) (p : PlanData) (s : State) (shape : Shape) → shape ≡ Nothing → s ≡ transfer_of b p shape s (value_loaded_by_shape b image p s shape)
 unfolding transfer_of
-nothing_keeps b image p s shape is = subst (λ (x : Shape). s ≡ transfer_of b p x s (loaded_for_duties b image p s x)) (sym is) refl
+nothing_keeps b image p s shape is = subst (λ (x : Shape). s ≡ transfer_of b p x s (value_loaded_by_shape b image p s x)) (sym is) refl

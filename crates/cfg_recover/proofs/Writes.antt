@@ -7,7 +7,7 @@ use Rattle.csa_chain.proofs.MemoryLaws.{get-with_bytes_other, is_mapped-with_byt
 use Rattle.elf_image.specs.Images.{ImageData}
 use Rattle.tcd_base.specs.declared.range.Range.{Range}
 use Rattle.tcd_plan.specs.declared.plans.Device.{Device}
-use Rattle.tcd_plan.specs.PlanData.{PlanData, IsPlan, are_all_ranges_apart, areas_range}
+use Rattle.tcd_plan.specs.PlanData.{PlanData, IsPlan, are_all_ranges_disjoint, areas_range}
 use Rattle.tcd_base.specs.Ranges.{IsWithinRange, IsInOneRange}
 use Rattle.tcd_plan.specs.MappedAddresses.{IsInAreas, IsStoreInRange}
 use Rattle.tc_mem.specs.PlanMemory.{HoldsRom, IsPlanMemory}
@@ -23,8 +23,8 @@ module _ (plan : PlanData) (ok : IsPlan plan) where
   -- no address at which a store is allowed is in rom
   unwritten_rom : (y : ℕ) → IsInOneRange y 1 plan.ram ⊎ IsInOneRange y 1 devices → IsInOneRange y 1 plan.rom → ⊥
   unwritten_rom y at rom =
-      let apart : are_all_ranges_apart (plan.rom ++ (plan.ram ++ (devices ++ areas_range plan ∷ []))) ≡ true =
-      sym (ap are_all_ranges_apart (append_assoc (plan.rom ++ plan.ram) devices (areas_range plan ∷ []) ∙ append_assoc plan.rom plan.ram (devices ++ areas_range plan ∷ []))) ∙ ok.apart
+      let apart : are_all_ranges_disjoint (plan.rom ++ (plan.ram ++ (devices ++ areas_range plan ∷ []))) ≡ true =
+      sym (ap are_all_ranges_disjoint (append_assoc (plan.rom ++ plan.ram) devices (areas_range plan ∷ []) ∙ append_assoc plan.rom plan.ram (devices ++ areas_range plan ∷ []))) ∙ ok.apart
       in
       all_apart-before y plan.rom (plan.ram ++ (devices ++ areas_range plan ∷ [])) apart rom
       (elim at [

@@ -13,7 +13,7 @@ use Rattle.depth_cert.specs.Nodes.{NodeData}
 use Rattle.depth_cert.specs.Certs.{CertData}
 use Rattle.cfg_recover.specs.Code.{IsCode}
 use Rattle.cfg_recover.specs.Entries.{start_key, start_state}
-use Rattle.depth_cert.specs.Exits.{state_after_exit}
+use Rattle.depth_cert.specs.Exits.{state_after_return}
 use Rattle.cfg_recover.specs.LocalFaults.{IsFaultless}
 use Rattle.cfg_recover.specs.Duties.{Duty, jump, enter, resume, leave, Owed, duties_of}
 use Rattle.depth_cert.specs.Known.{CoversKnown, Known, joined_known, leaving, state}
@@ -36,39 +36,39 @@ is_same_place (exit k) (point j q) = false
 
 -- what is known at a place of an assignment, a point or an exit, by a certificate's node of that
 -- frame
-abbrev pub known_at : Place → NodeData → Option Known
-known_at (point k p) n = option_map (λ q. state q.state) (find_point p n.points)
-known_at (exit k) n = option_map leaving n.exit
+abbrev pub known_by_node : Place → NodeData → Option Known
+known_by_node (point k p) n = option_map (λ q. state q.state) (find_point p n.points)
+known_by_node (exit k) n = option_map leaving n.exit
 
 -- the frame of a place
-abbrev pub frame_of_place : Place → Key
-frame_of_place (point k p) = k
-frame_of_place (exit k) = k
+abbrev pub key_of_place : Place → Key
+key_of_place (point k p) = k
+key_of_place (exit k) = k
 
 -- what a certificate states at a place
-abbrev pub known_in : CertData → Assignment
-known_in cert y = option_and_then (known_at y) (find (λ n. is_same_key n.key (frame_of_place y)) cert.nodes)
+abbrev pub assignment_of_cert : CertData → Assignment
+assignment_of_cert cert y = option_and_then (known_by_node y) (find (λ n. is_same_key n.key (key_of_place y)) cert.nodes)
 
 -- the assignment has something at this place, and that covers v
-pub record CoversAt (a : Assignment) (y : Place) (v : Known) : Type 0 where
+pub record AssignmentCovers (a : Assignment) (y : Place) (v : Known) : Type 0 where
   pub known : Known
   pub at : a y ≡ Some known
   pub covers : CoversKnown known v
 
 -- the upper assignment covers everything that this assignment has, place by place
-abbrev pub IsBelowAt : Assignment → Assignment → Type 0
-IsBelowAt a upper = (y : Place) (v : Known) → a y ≡ Some v → CoversAt upper y v
+abbrev pub IsAssignmentBelow : Assignment → Assignment → Type 0
+IsAssignmentBelow a upper = (y : Place) (v : Known) → a y ≡ Some v → AssignmentCovers upper y v
 
 -- the least that covers both what an assignment has at a place, if anything, and this; none for
 -- states with different numbers of locals
-abbrev pub raised_at_place : Limits → Option Known → Known → Option Known
-raised_at_place b None v = Some v
-raised_at_place b (Some w) v = joined_known b w v
+abbrev pub joined_at_place : Limits → Option Known → Known → Option Known
+joined_at_place b None v = Some v
+joined_at_place b (Some w) v = joined_known b w v
 
 -- the place of an assignment where a frame goes on after one that it entered, and the state that
 -- must be known there, by that one's exit; nothing while no exit is known
 abbrev pub asked_by_resume : Key → State → Key → ℕ → Option Known → Option (Place × Known)
-asked_by_resume key s k q (Some (leaving x)) = Some (point key q, state (state_after_exit s x k.kind))
+asked_by_resume key s k q (Some (leaving x)) = Some (point key q, state (state_after_return s x k.kind))
 asked_by_resume key s k q (Some (state t)) = None
 asked_by_resume key s k q None = None
 
@@ -106,29 +106,29 @@ pub record Joins (b : Limits) (image : ImageData) (plan : PlanData) (a after : A
   pub value : Known
   pub asks : AsksFor b image plan a y value
   pub known : Known
-  pub raises : raised_at_place b (a y) value ≡ Some known
+  pub raises : joined_at_place b (a y) value ≡ Some known
   pub is : (x : Place) → after x ≡ (if is_same_place x y then Some known else a x)
 
 -- the place where a run starts
-abbrev pub first_place : ImageData → PlanData → Place
-first_place image plan = point (start_key image plan) image.entry
+abbrev pub start_place : ImageData → PlanData → Place
+start_place image plan = point (start_key image plan) image.entry
 
 -- an assignment of what is known at places is derived from the start point alone, by steps that
 -- join in what duties of points ask for
 pub data Derived (b : Limits) (image : ImageData) (plan : PlanData) : Assignment → Type 0 where
   begins :
-      (a : Assignment) → ((x : Place) → a x ≡ (if is_same_place x (first_place image plan) then Some (state (start_state plan)) else None))
+      (a : Assignment) → ((x : Place) → a x ≡ (if is_same_place x (start_place image plan) then Some (state (start_state plan)) else None))
       → Derived b image plan a
   joins : (a after : Assignment) (y : Place) → Derived b image plan a → Joins b image plan a after y → Derived b image plan after
 
 -- the assignment covers the start state and all that duties ask for
 pub record Closed (b : Limits) (image : ImageData) (plan : PlanData) (a : Assignment) : Type 0 where
-  pub start : CoversAt a (first_place image plan) (state (start_state plan))
-  pub duties : (y : Place) (v : Known) → AsksFor b image plan a y v → CoversAt a y v
+  pub start : AssignmentCovers a (start_place image plan) (state (start_state plan))
+  pub duties : (y : Place) (v : Known) → AsksFor b image plan a y v → AssignmentCovers a y v
 
 -- no known point of the assignment has a fault of its own
-abbrev pub AllFaultless : Limits → ImageData → PlanData → Assignment → Type 0
-AllFaultless b image plan a = (k : Key) (p : ℕ) (s : State) → a (point k p) ≡ Some (state s) → IsFaultless b image plan k p s
+abbrev pub ArePointsFaultless : Limits → ImageData → PlanData → Assignment → Type 0
+ArePointsFaultless b image plan a = (k : Key) (p : ℕ) (s : State) → a (point k p) ≡ Some (state s) → IsFaultless b image plan k p s
 
 -- in an assignment, the point p of frame k has this state and no fault of its own, and one of its
 -- duties is to enter the frame t

@@ -6,7 +6,7 @@ use Rattle.elf_image.specs.Images.{ImageData}
 use Rattle.tcd_plan.specs.PlanData.{PlanData}
 use Rattle.value_domain.specs.declared.states.State.{State}
 use Rattle.value_domain.specs.Limits.{Limits}
-use Rattle.value_domain.specs.State.{joined_states}
+use Rattle.value_domain.specs.State.{state_join_if_any}
 use Rattle.value_domain.specs.VersionLimits.{limits_for}
 use Rattle.depth_cert.specs.declared.keys.Key.{Key}
 use Rattle.depth_cert.specs.Keys.{number_of_key, is_same_key}
@@ -17,7 +17,7 @@ use Rattle.depth_cert.specs.Known.{state}
 
 -- ---- limits
 -- the assignment has places of more than 2,048 frames, a limit past which a certificate is refused
-pub record HasManyNodes (a : Assignment) : Type 0 where
+pub record HasTooManyNodes (a : Assignment) : Type 0 where
   pub keys : List Key
   pub distinct : IsDistinct is_same_key keys
   pub stand : (k : Key) → Contains keys k → (y : Place) × IsSome (a y) × ((y ≡ exit k) ⊎ ((p : ℕ) × (y ≡ point k p)))
@@ -25,7 +25,7 @@ pub record HasManyNodes (a : Assignment) : Type 0 where
 
 -- a reason to refuse a certificate: the assignment knows more than 65,536 points, which is past the
 -- limit
-pub record HasManyPoints (a : Assignment) : Type 0 where
+pub record HasTooManyPoints (a : Assignment) : Type 0 where
   pub places : List Place
   pub distinct : IsDistinct is_same_place places
   pub stand : (y : Place) → Contains places y → IsSome (a y) × ((k : Key) × (p : ℕ) × (y ≡ point k p))
@@ -33,11 +33,11 @@ pub record HasManyPoints (a : Assignment) : Type 0 where
 
 -- a limit is passed
 abbrev pub IsPastCertLimits : Assignment → Type 0
-IsPastCertLimits a = HasManyNodes a ⊎ HasManyPoints a
+IsPastCertLimits a = HasTooManyNodes a ⊎ HasTooManyPoints a
 
 -- why no certificate can be made: one step of a derivation takes an assignment past a limit of
 -- certificates, by the point that it adds
-pub record PassesCertLimit (b : Limits) (image : ImageData) (plan : PlanData) (k : Key) (p : ℕ) : Type 0 where
+pub record ExceedsCertLimit (b : Limits) (image : ImageData) (plan : PlanData) (k : Key) (p : ℕ) : Type 0 where
   pub before : Assignment
   pub after : Assignment
   pub derived : Derived b image plan before
@@ -51,13 +51,13 @@ pub record PassesCertLimit (b : Limits) (image : ImageData) (plan : PlanData) (k
 pub data IsFaultInAssignment (b : Limits) (image : ImageData) (plan : PlanData) (a : Assignment) : ℕ → Key → ℕ → Type 0 where
   own : (r : ℕ) (k : Key) (p : ℕ) (s : State) → a (point k p) ≡ Some (state s) → IsLocalFault b image plan k p s r → IsFaultInAssignment b image plan a r k p
   locals :
-      (k : Key) (p : ℕ) (s t : State) → a (point k p) ≡ Some (state s) → AsksFor b image plan a (point k p) (state t) → joined_states b s t ≡ None
+      (k : Key) (p : ℕ) (s t : State) → a (point k p) ≡ Some (state s) → AsksFor b image plan a (point k p) (state t) → state_join_if_any b s t ≡ None
       → IsFaultInAssignment b image plan a 8 k p
 
 -- a fault of a derived assignment; number 15 is for the limits
 pub data IsRefusalFault (b : Limits) (image : ImageData) (plan : PlanData) : ℕ → Key → ℕ → Type 0 where
   derived : (a : Assignment) (r : ℕ) (k : Key) (p : ℕ) → Derived b image plan a → IsFaultInAssignment b image plan a r k p → IsRefusalFault b image plan r k p
-  limits : (k : Key) (p : ℕ) → PassesCertLimit b image plan k p → IsRefusalFault b image plan 15 k p
+  limits : (k : Key) (p : ℕ) → ExceedsCertLimit b image plan k p → IsRefusalFault b image plan 15 k p
 
 -- a certificate isn't refused by a fault: this is the least assignment, derived and closed, and
 -- only recursion or too great a need can still be a reason to refuse
@@ -70,50 +70,50 @@ pub record IsLeastAssignment (b : Limits) (image : ImageData) (plan : PlanData) 
 
 -- numbers of areas, for a refusal by too great a need: they suffice at each point of an assignment
 -- for the locals, and at each entry also for one more and the entered frame's number
-pub record MeetsNeeds (b : Limits) (image : ImageData) (plan : PlanData) (a : Assignment) (need : Key → ℕ) : Type 0 where
+pub record AreSufficientNeeds (b : Limits) (image : ImageData) (plan : PlanData) (a : Assignment) (need : Key → ℕ) : Type 0 where
   pub locals : (k : Key) (p : ℕ) (s : State) → a (point k p) ≡ Some (state s) → length s.locals.items ≤ need k
   pub entered : (k : Key) (p : ℕ) (s : State) (t : Key) → EntersInAssignment b image plan a k p s t → length s.locals.items + 1 + need t ≤ need k
 
 -- the frame j is reached from the frame k by entries that the assignment's points owe, none or more
-pub data Reaches (b : Limits) (image : ImageData) (plan : PlanData) (a : Assignment) (j : Key) : Key → Type 0 where
-  here : Reaches b image plan a j j
-  by_entry : (k : Key) (p : ℕ) (s : State) (t : Key) → EntersInAssignment b image plan a k p s t → Reaches b image plan a j t → Reaches b image plan a j k
+pub data IsFrameReachedFrom (b : Limits) (image : ImageData) (plan : PlanData) (a : Assignment) (j : Key) : Key → Type 0 where
+  here : IsFrameReachedFrom b image plan a j j
+  by_entry : (k : Key) (p : ℕ) (s : State) (t : Key) → EntersInAssignment b image plan a k p s t → IsFrameReachedFrom b image plan a j t → IsFrameReachedFrom b image plan a j k
 
 -- a reason to refuse a certificate: in the assignment, the point p of frame k enters a frame from
 -- which k is reached again
-pub record Recurs (b : Limits) (image : ImageData) (plan : PlanData) (a : Assignment) (k : Key) (p : ℕ) : Type 0 where
+pub record EntersRecursion (b : Limits) (image : ImageData) (plan : PlanData) (a : Assignment) (k : Key) (p : ℕ) : Type 0 where
   pub before : State
   pub into : Key
   pub enters : EntersInAssignment b image plan a k p before into
-  pub back : Reaches b image plan a k into
+  pub back : IsFrameReachedFrom b image plan a k into
 
 -- points are ordered by key, then address
-abbrev pub refused_point_number : Key → ℕ → ℕ
-refused_point_number k p = number_of_key k * 2 ^ 32 + p
+abbrev pub point_order_number : Key → ℕ → ℕ
+point_order_number k p = number_of_key k * 2 ^ 32 + p
 
 -- a reason to refuse a certificate, by K14: this is the first point that enters a frame from which
 -- its own is reached again
 pub record IsRefusedRecursion (b : Limits) (image : ImageData) (plan : PlanData) (a : Assignment) (k : Key) (p : ℕ) : Type 0 where
-  pub recurs : Recurs b image plan a k p
-  pub first : (j : Key) (q : ℕ) → Recurs b image plan a j q → refused_point_number k p ≤ refused_point_number j q
+  pub recurs : EntersRecursion b image plan a k p
+  pub first : (j : Key) (q : ℕ) → EntersRecursion b image plan a j q → point_order_number k p ≤ point_order_number j q
 
 -- ---- the refusal
 -- No frame is reached from itself. Whatever numbers meet the needs, the start's is above the areas
 -- without the reserve.
 pub record IsRefusedNeed (b : Limits) (image : ImageData) (plan : PlanData) (a : Assignment) : Type 0 where
-  pub ends : (k : Key) (p : ℕ) → Recurs b image plan a k p → ⊥
-  pub above : (need : Key → ℕ) → MeetsNeeds b image plan a need → plan.areas - plan.reserve < need (start_key image plan)
+  pub ends : (k : Key) (p : ℕ) → EntersRecursion b image plan a k p → ⊥
+  pub above : (need : Key → ℕ) → AreSufficientNeeds b image plan a need → plan.areas - plan.reserve < need (start_key image plan)
 
 -- with these limits, a certificate is refused: by a fault of a derived assignment or, if there is
 -- none, by K14 at the least one's first recursion, or at the start if its need is too great
-pub data IsRefusalWith (b : Limits) (image : ImageData) (plan : PlanData) : ℕ → Key → ℕ → Type 0 where
-  fault : (r : ℕ) (k : Key) (p : ℕ) → IsRefusalFault b image plan r k p → IsRefusalWith b image plan r k p
-  recursion : (a : Assignment) (k : Key) (p : ℕ) → IsLeastAssignment b image plan a → IsRefusedRecursion b image plan a k p → IsRefusalWith b image plan 14 k p
-  need : (a : Assignment) → IsLeastAssignment b image plan a → IsRefusedNeed b image plan a → IsRefusalWith b image plan 14 (start_key image plan) image.entry
+pub data IsRefusalWithLimits (b : Limits) (image : ImageData) (plan : PlanData) : ℕ → Key → ℕ → Type 0 where
+  fault : (r : ℕ) (k : Key) (p : ℕ) → IsRefusalFault b image plan r k p → IsRefusalWithLimits b image plan r k p
+  recursion : (a : Assignment) (k : Key) (p : ℕ) → IsLeastAssignment b image plan a → IsRefusedRecursion b image plan a k p → IsRefusalWithLimits b image plan 14 k p
+  need : (a : Assignment) → IsLeastAssignment b image plan a → IsRefusedNeed b image plan a → IsRefusalWithLimits b image plan 14 (start_key image plan) image.entry
 
 -- a refusal to make a certificate of this format
 abbrev pub IsRefusal : ImageData → PlanData → ℕ → ℕ → Key → ℕ → Type 0
-IsRefusal image plan version = IsRefusalWith (limits_for plan version) image plan
+IsRefusal image plan version = IsRefusalWithLimits (limits_for plan version) image plan
 
 -- The printed rule and place, one of five:
 -- - The rule's own part fails at this very point, for a state that was derived for it.
@@ -129,15 +129,15 @@ pub data HasRefusalReason (b : Limits) (image : ImageData) (plan : PlanData) (r 
       → HasRefusalReason b image plan r k p
   by_locals :
       (a : Assignment) (s t : State) → r ≡ 8 → Derived b image plan a → a (point k p) ≡ Some (state s) → AsksFor b image plan a (point k p) (state t)
-      → joined_states b s t ≡ None → HasRefusalReason b image plan r k p
+      → state_join_if_any b s t ≡ None → HasRefusalReason b image plan r k p
   by_limits :
       (before after : Assignment) → r ≡ 15 → Derived b image plan before → (IsPastCertLimits before → ⊥) → before (point k p) ≡ None
       → Joins b image plan before after (point k p) → IsPastCertLimits after → HasRefusalReason b image plan r k p
   by_recursion :
-      (a : Assignment) (s : State) (into : Key) → r ≡ 14 → IsLeastAssignment b image plan a → EntersInAssignment b image plan a k p s into → Reaches b image plan a k into
-      → ((j : Key) (q : ℕ) → Recurs b image plan a j q → refused_point_number k p ≤ refused_point_number j q) → HasRefusalReason b image plan r k p
+      (a : Assignment) (s : State) (into : Key) → r ≡ 14 → IsLeastAssignment b image plan a → EntersInAssignment b image plan a k p s into → IsFrameReachedFrom b image plan a k into
+      → ((j : Key) (q : ℕ) → EntersRecursion b image plan a j q → point_order_number k p ≤ point_order_number j q) → HasRefusalReason b image plan r k p
   by_need :
       (a : Assignment) → r ≡ 14 → k ≡ start_key image plan → p ≡ image.entry → IsLeastAssignment b image plan a
-      → ((j : Key) (q : ℕ) → Recurs b image plan a j q → ⊥)
-      → ((need : Key → ℕ) → MeetsNeeds b image plan a need → plan.areas - plan.reserve < need (start_key image plan))
+      → ((j : Key) (q : ℕ) → EntersRecursion b image plan a j q → ⊥)
+      → ((need : Key → ℕ) → AreSufficientNeeds b image plan a need → plan.areas - plan.reserve < need (start_key image plan))
       → HasRefusalReason b image plan r k p

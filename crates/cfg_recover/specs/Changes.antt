@@ -6,24 +6,24 @@ use Rattle.value_domain.specs.declared.states.State.{State}
 use Rattle.vd_transfer.specs.declared.change.Base.TheVariants.{Any}
 use Rattle.vd_transfer.specs.declared.change.Change.{Change}
 use Rattle.value_domain.specs.Values.{word_val}
-use Rattle.vd_transfer.specs.Changes.{identity_change_of, no_put, put_of_register}
+use Rattle.vd_transfer.specs.Changes.{identity_change_of, no_write, register_write}
 
 -- a called function begins with its caller's values and without locals
-abbrev pub call_change : State → Change
-call_change s = record (identity_change_of s) { lower = false; locals = record { items = [] } }
+abbrev pub call_entry_change : State → Change
+call_entry_change s = record (identity_change_of s) { lower = false; locals = record { items = [] } }
 
 -- A system call's handler begins with the caller's values, except A10 (register 26) and D15, which
 -- has the number of the call.
-abbrev pub system_change : Val → ℕ → State → Change
-system_change sp tin s = record (call_change s) { first = put_of_register 26 sp; second = put_of_register 15 (word_val tin); ie = false }
+abbrev pub sys_entry_change : Val → ℕ → State → Change
+sys_entry_change sp tin s = record (call_entry_change s) { first = register_write 26 sp; second = register_write 15 (word_val tin); ie = false }
 
 -- an interrupt's handler begins with unknown values, except A10
-abbrev pub handler_change : Val → ℕ → Change
-handler_change sp ccpn = record {
+abbrev pub handler_entry_change : Val → ℕ → Change
+handler_entry_change sp ccpn = record {
   base = Any;
-  first = put_of_register 26 sp;
-  second = no_put;
-  third = no_put;
+  first = register_write 26 sp;
+  second = no_write;
+  third = no_write;
   ie = false;
   ccpn = ccpn;
   lower = true;
@@ -32,5 +32,5 @@ handler_change sp ccpn = record {
 
 -- the handler of misaligned accesses begins with unknown values, except A10 and the trap's number 4
 -- in D15
-abbrev pub misaligned_change : Val → ℕ → Change
-misaligned_change sp ccpn = record (handler_change sp ccpn) { second = put_of_register 15 (word_val 4) }
+abbrev pub aln_entry_change : Val → ℕ → Change
+aln_entry_change sp ccpn = record (handler_entry_change sp ccpn) { second = register_write 15 (word_val 4) }

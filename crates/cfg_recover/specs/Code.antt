@@ -40,11 +40,11 @@ FindsCode image plan p None = HasCode image plan p → ⊥
 
 -- the answer is the shape and the size of the instruction at an address of the image; none only if
 -- there is none
-abbrev pub LocatesCode : ImageData → PlanData → ℕ → Option Located → Type 0
-LocatesCode image plan p (Some found) = IsCode image plan p found.shape found.size
-LocatesCode image plan p None = HasCode image plan p → ⊥
+abbrev pub FindsShapeAndSize : ImageData → PlanData → ℕ → Option Located → Type 0
+FindsShapeAndSize image plan p (Some found) = IsCode image plan p found.shape found.size
+FindsShapeAndSize image plan p None = HasCode image plan p → ⊥
 
 -- the shape and the size of an instruction that was decoded, if one was
-abbrev pub located_code_of : Result (InstData × ℕ) DecodeErr → Option Located
-located_code_of (Ok (inst, n)) = Some (record { shape = shape_of inst; size = n })
-located_code_of (Err e) = None
+abbrev pub shape_and_size_of : Result (InstData × ℕ) DecodeErr → Option Located
+shape_and_size_of (Ok (inst, n)) = Some (record { shape = shape_of inst; size = n })
+shape_and_size_of (Err e) = None

@@ -7,18 +7,18 @@ use Rattle.elf_image.specs.Images.{ImageData}
 use Rattle.tcd_plan.specs.PlanData.{PlanData}
 use Rattle.tc_isa.specs.declared.shapes.Shape.{Shape}
 use Rattle.tc_isa.specs.declared.shapes.Shape.TheVariants.{Load, Store, Branch, Jump, Call, Ret, Rfe, Syscall, Mtcr}
-use Rattle.tc_machine.specs.Instructions.{machine_address_ahead}
+use Rattle.tc_machine.specs.Instructions.{wrapping_sum}
 use Rattle.value_domain.specs.declared.values.Val.{Val}
 use Rattle.value_domain.specs.declared.states.State.{State}
 use Rattle.value_domain.specs.Limits.{Limits}
 use Rattle.value_domain.specs.Values.{any_val}
-use Rattle.vd_transfer.specs.EffectsOnStates.{transfer_of, address_of}
+use Rattle.vd_transfer.specs.EffectsOnStates.{transfer_of, address_of_access}
 use Rattle.vd_transfer.specs.Branches.{refine_of}
 use Rattle.store_ranges.specs.Loads.{load_value_of}
 use Rattle.depth_cert.specs.declared.keys.Key.{Key}
 use Rattle.depth_cert.specs.declared.points.Exit.{Exit}
-use Rattle.cfg_recover.specs.Entries.{call_key, irq_key, sys_key, aln_key, call_entry, irq_entry, sys_entry, aln_entry, irqs_of}
-use Rattle.depth_cert.specs.Exits.{exit_of}
+use Rattle.cfg_recover.specs.Entries.{call_key, irq_key, sys_key, aln_key, call_entry, irq_entry, sys_entry, aln_entry, possible_irqs_of}
+use Rattle.depth_cert.specs.Exits.{exit_of_state}
 use Rattle.cfg_recover.specs.LocalRules.{targets_of}
 use Rattle.store_ranges.specs.Accesses.{are_aligned}
 
@@ -44,10 +44,10 @@ abbrev pub owed : ℕ → Duty → Owed
 owed rule duty = record { rule = rule; duty = duty }
 
 -- the value that a load gets in this state of a point; any word for other instructions
-abbrev pub loaded_for_duties : Limits → ImageData → PlanData → State → Shape → Val
-loaded_for_duties b image plan s (Load dst base offset size signed after) =
-    load_value_of b image plan (address_of b plan (Load dst base offset size signed after) s) size signed
-loaded_for_duties b image plan s _ = any_val
+abbrev pub value_loaded_by_shape : Limits → ImageData → PlanData → State → Shape → Val
+value_loaded_by_shape b image plan s (Load dst base offset size signed after) =
+    load_value_of b image plan (address_of_access b plan (Load dst base offset size signed after) s) size signed
+value_loaded_by_shape b image plan s _ = any_val
 
 -- the duties of a point to jump to each of these addresses with this state (K4)
 abbrev pub jumps_to : State → List ℕ → List Owed
@@ -61,13 +61,13 @@ jump_on q (Some s) = owed 4 (jump q s) ∷ []
 -- what a point owes by an instruction that goes on to the next one in its frame: the duty to jump
 -- there, with the state after this one
 abbrev pub next_duty_of : Limits → ImageData → PlanData → ℕ → State → Shape → ℕ → List Owed
-next_duty_of b image plan p s shape n = owed 4 (jump (machine_address_ahead p n) (transfer_of b plan shape s (loaded_for_duties b image plan s shape))) ∷ []
+next_duty_of b image plan p s shape n = owed 4 (jump (wrapping_sum p n) (transfer_of b plan shape s (value_loaded_by_shape b image plan s shape))) ∷ []
 
 -- the duties of a point to jump to its successors in the same frame (K4), without the one after a
 -- call or a system call
 abbrev pub successor_duties_of : Limits → ImageData → PlanData → ℕ → State → Shape → ℕ → List Owed
 successor_duties_of b image plan p s (Branch cond x y by lowers) n =
-    jump_on (machine_address_ahead p n) (refine_of b plan (Branch cond x y by lowers) s false) ++ jump_on (machine_address_ahead p by) (refine_of b plan (Branch cond x y by lowers) s true)
+    jump_on (wrapping_sum p n) (refine_of b plan (Branch cond x y by lowers) s false) ++ jump_on (wrapping_sum p by) (refine_of b plan (Branch cond x y by lowers) s true)
 successor_duties_of b image plan p s (Jump to) n = jumps_to s (unwrap_or (targets_of plan s p to) [])
 successor_duties_of b image plan p s (Call to) n = []
 successor_duties_of b image plan p s Ret n = []
@@ -84,8 +84,8 @@ entry_and_return rule key s back = owed rule (enter key s) ∷ owed 4 (resume ke
 -- what a point owes by a call or a system call: the entries of the called frames (K5 and K12), and
 -- the returns from them
 abbrev pub entry_duties_of : PlanData → Key → ℕ → State → Shape → ℕ → List Owed
-entry_duties_of plan key p s (Call to) n = flat_map (λ t. entry_and_return 5 (call_key key t) (call_entry s) (machine_address_ahead p n)) (unwrap_or (targets_of plan s p to) [])
-entry_duties_of plan key p s (Syscall tin) n = entry_and_return 12 (sys_key plan key) (sys_entry plan key s tin) (machine_address_ahead p n)
+entry_duties_of plan key p s (Call to) n = flat_map (λ t. entry_and_return 5 (call_key key t) (call_entry s) (wrapping_sum p n)) (unwrap_or (targets_of plan s p to) [])
+entry_duties_of plan key p s (Syscall tin) n = entry_and_return 12 (sys_key plan key) (sys_entry plan key s tin) (wrapping_sum p n)
 entry_duties_of plan key p s _ n = []
 
 -- a duty of a point, and the rule that asks for it: to enter the handler of misaligned accesses, by
@@ -96,8 +96,8 @@ misaligned_entry plan key s = owed 10 (enter (aln_key plan key) (aln_entry plan 
 -- whether the access of an instruction may be misaligned: some address is no multiple of the size.
 -- Only loads and stores have an address.
 abbrev pub may_be_misaligned : Limits → PlanData → State → Shape → Bool
-may_be_misaligned b plan s (Load dst base offset size signed after) = not (are_aligned (address_of b plan (Load dst base offset size signed after) s) size)
-may_be_misaligned b plan s (Store src base offset size after) = not (are_aligned (address_of b plan (Store src base offset size after) s) size)
+may_be_misaligned b plan s (Load dst base offset size signed after) = not (are_aligned (address_of_access b plan (Load dst base offset size signed after) s) size)
+may_be_misaligned b plan s (Store src base offset size after) = not (are_aligned (address_of_access b plan (Store src base offset size after) s) size)
 may_be_misaligned b plan s _ = false
 
 -- what a point owes by its access: the entry of the handler of misaligned accesses, if the access
@@ -108,13 +108,13 @@ misaligned_duties_of b plan key s shape = if may_be_misaligned b plan s shape th
 -- what a point owes by interrupts: the duties to enter the handlers of those that may be taken,
 -- which K11 asks for
 abbrev pub interrupt_duties_of : PlanData → Key → State → List Owed
-interrupt_duties_of plan key s = map (λ p. owed 11 (enter (irq_key plan p) (irq_entry plan key s p))) (irqs_of plan s)
+interrupt_duties_of plan key s = map (λ p. owed 11 (enter (irq_key plan p) (irq_entry plan key s p))) (possible_irqs_of plan s)
 
 -- what a point owes by leaving its frame: the duty of the exit of a function by RET (K6), or of the
 -- handler of system calls by RFE (K7)
 abbrev pub exit_duties_of : Key → State → Shape → List Owed
-exit_duties_of key s Ret = owed 6 (leave (exit_of s)) ∷ []
-exit_duties_of key s Rfe = if key.kind == sys_kind then owed 7 (leave (exit_of s)) ∷ [] else []
+exit_duties_of key s Ret = owed 6 (leave (exit_of_state s)) ∷ []
+exit_duties_of key s Rfe = if key.kind == sys_kind then owed 7 (leave (exit_of_state s)) ∷ [] else []
 exit_duties_of key s _ = []
 
 -- All that a point of a node with this key owes, by its address p, its state, and the shape and the

@@ -10,7 +10,7 @@ use Rattle.tc_isa.specs.declared.shapes.Shape.TheVariants.{Load, Store, Call, Re
 use Rattle.tc_machine.specs.declared.events.Event.{Event}
 use Rattle.tc_machine.specs.declared.state.Machine.{Machine}
 use Rattle.tc_machine.specs.Machine.{reg, is_interrupt_stack_used}
-use Rattle.tc_machine.specs.Instructions.{machine_address_ahead, access_address, is_trapping_instruction}
+use Rattle.tc_machine.specs.Instructions.{wrapping_sum, access_address, is_trapping_instruction}
 use Rattle.tc_machine.specs.Fetching.{fetched_instruction}
 use Rattle.tc_machine.specs.Stepping.{is_interrupt_taken, step, run}
 use Rattle.tc_machine.specs.Safe.{Fits, AllFit}
@@ -23,15 +23,15 @@ use Rattle.depth_cert.specs.Nodes.{NodeData, find_node}
 use Rattle.depth_cert.specs.Certs.{CertData}
 use Rattle.cfg_recover.specs.Code.{IsCode}
 use Rattle.cfg_recover.specs.Duties.{Owed, jump, duties_of}
-use Rattle.cfg_recover.specs.RulesHoldOrFail.{limits_in}
-use Rattle.cfg_recover.specs.Frames.{RunFrame, frames, entered_frame_at, frame_going_on, HoldFrames}
-use Rattle.cfg_recover.specs.EdgesAreOwed.{EdgesOwed, OwesEntryAt, GoesBackToFrame}
+use Rattle.cfg_recover.specs.RulesHoldOrFail.{limits_of_cert}
+use Rattle.cfg_recover.specs.Frames.{RunFrame, frames, entered_frame_at, frame_going_on, AreAllFramesHeld}
+use Rattle.cfg_recover.specs.EdgesAreOwed.{EdgesOwed, OwesEntryOfFields, GoesBackToFrame}
 use Rattle.cfg_recover.specs.StepEdges.{to, call, irq, sys, aln, ret, rfe, edge_way_of_step, edge_of_step}
 
 -- ---- steps
 -- a step of which the laws of edges and frames speak by its instruction: no interrupt is taken in
 -- it, and the instruction at pc has this shape and n bytes
-pub record StepMeetsShape (m : Machine) (e : Event) (shape : Shape) (n : ℕ) : Type 0 where
+pub record IsStepOfShape (m : Machine) (e : Event) (shape : Shape) (n : ℕ) : Type 0 where
   pub free : is_interrupt_taken m e ≡ false
   pub there : fetched_instruction m ≡ Ok (shape, n)
 
@@ -56,12 +56,12 @@ pub record EdgeMatchesStep (m : Machine) (e : Event) : Type 0 where
   pub at : (edge_of_step m e).at ≡ m.pc
   pub same : (edge_of_step m e).way ≡ edge_way_of_step m e
   pub interrupted : is_interrupt_taken m e ≡ true → edge_way_of_step m e ≡ irq (step m e).pc
-  pub misaligned : (shape : Shape) (n : ℕ) → StepMeetsShape m e shape n → is_trapping_instruction m e shape ≡ true → edge_way_of_step m e ≡ aln (step m e).pc
-  pub called : (x : Target) (n : ℕ) → StepMeetsShape m e (Call x) n → edge_way_of_step m e ≡ call (step m e).pc
-  pub system : (tin n : ℕ) → StepMeetsShape m e (Syscall tin) n → edge_way_of_step m e ≡ sys (step m e).pc
-  pub returned : (n : ℕ) → StepMeetsShape m e Ret n → edge_way_of_step m e ≡ ret
-  pub resumed : (n : ℕ) → StepMeetsShape m e Rfe n → edge_way_of_step m e ≡ rfe
-  pub stayed : (shape : Shape) (n : ℕ) → StepMeetsShape m e shape n → is_trapping_instruction m e shape ≡ false → KeepsFrame shape → edge_way_of_step m e ≡ to (step m e).pc
+  pub misaligned : (shape : Shape) (n : ℕ) → IsStepOfShape m e shape n → is_trapping_instruction m e shape ≡ true → edge_way_of_step m e ≡ aln (step m e).pc
+  pub called : (x : Target) (n : ℕ) → IsStepOfShape m e (Call x) n → edge_way_of_step m e ≡ call (step m e).pc
+  pub system : (tin n : ℕ) → IsStepOfShape m e (Syscall tin) n → edge_way_of_step m e ≡ sys (step m e).pc
+  pub returned : (n : ℕ) → IsStepOfShape m e Ret n → edge_way_of_step m e ≡ ret
+  pub resumed : (n : ℕ) → IsStepOfShape m e Rfe n → edge_way_of_step m e ≡ rfe
+  pub stayed : (shape : Shape) (n : ℕ) → IsStepOfShape m e shape n → is_trapping_instruction m e shape ≡ false → KeepsFrame shape → edge_way_of_step m e ≡ to (step m e).pc
 
 -- the law of edges: what the edge of a step is, at every step of every machine
 abbrev pub EdgesMatchSteps : Type 0
@@ -74,18 +74,18 @@ EdgesMatchSteps = (m : Machine) (e : Event) → EdgeMatchesStep m e
 pub record FramesFollowStep (m : Machine) (e : Event) (f : RunFrame) (older next : List RunFrame) : Type 0 where
   pub interrupted : is_interrupt_taken m e ≡ true → next ≡ entered_frame_at 2 (step m e).pc e.irq true ∷ frame_going_on f m.pc ∷ older
   pub misaligned :
-      (shape : Shape) (n : ℕ) → StepMeetsShape m e shape n → is_trapping_instruction m e shape ≡ true
+      (shape : Shape) (n : ℕ) → IsStepOfShape m e shape n → is_trapping_instruction m e shape ≡ true
       → next ≡ entered_frame_at 4 (step m e).pc (f.key).prio true ∷ frame_going_on f m.pc ∷ older
   pub called :
-      (x : Target) (n : ℕ) → StepMeetsShape m e (Call x) n
-      → next ≡ entered_frame_at 1 (step m e).pc (f.key).prio (f.key).is ∷ frame_going_on f (machine_address_ahead m.pc n) ∷ older
+      (x : Target) (n : ℕ) → IsStepOfShape m e (Call x) n
+      → next ≡ entered_frame_at 1 (step m e).pc (f.key).prio (f.key).is ∷ frame_going_on f (wrapping_sum m.pc n) ∷ older
   pub system :
-      (tin n : ℕ) → StepMeetsShape m e (Syscall tin) n
-      → next ≡ entered_frame_at 3 (step m e).pc (f.key).prio true ∷ frame_going_on f (machine_address_ahead m.pc n) ∷ older
-  pub returned : (n : ℕ) → StepMeetsShape m e Ret n → next ≡ older
-  pub resumed : (n : ℕ) → StepMeetsShape m e Rfe n → next ≡ older
+      (tin n : ℕ) → IsStepOfShape m e (Syscall tin) n
+      → next ≡ entered_frame_at 3 (step m e).pc (f.key).prio true ∷ frame_going_on f (wrapping_sum m.pc n) ∷ older
+  pub returned : (n : ℕ) → IsStepOfShape m e Ret n → next ≡ older
+  pub resumed : (n : ℕ) → IsStepOfShape m e Rfe n → next ≡ older
   pub stayed :
-      (shape : Shape) (n : ℕ) → StepMeetsShape m e shape n → is_trapping_instruction m e shape ≡ false → KeepsFrame shape
+      (shape : Shape) (n : ℕ) → IsStepOfShape m e shape n → is_trapping_instruction m e shape ≡ false → KeepsFrame shape
       → next ≡ frame_going_on f (step m e).pc ∷ older
 
 -- At the start there is one frame, of the start's key, and each event of a run makes the next
@@ -121,7 +121,7 @@ pub record FramesDescribeMachine (plan : PlanData) (cert : CertData) (m : Machin
 
 -- the frames are held in every run from every start state
 abbrev pub FramesHeld : ImageData → PlanData → CertData → Type 0
-FramesHeld image plan cert = (m : Machine) (es : List Event) → Starts image plan m → AllFit plan m es → HoldFrames plan cert (run m es) (frames image plan m es)
+FramesHeld image plan cert = (m : Machine) (es : List Event) → Starts image plan m → AllFit plan m es → AreAllFramesHeld plan cert (run m es) (frames image plan m es)
 
 -- at each boundary of every run from every start state
 abbrev pub HeldFramesDescribeMachine : Type 0
@@ -135,14 +135,14 @@ HeldFramesDescribeMachine =
 -- the law of owed edges, by kinds of steps: the newest frame's point owes the entry of a handler or
 -- of a called frame, or a jump in the frame; RET and RFE go back to the frame before
 pub record IsStepOwed (ds : List Owed) (newest : RunFrame) (older : List RunFrame) (m : Machine) (e : Event) : Type 0 where
-  pub interrupted : is_interrupt_taken m e ≡ true → OwesEntryAt ds 11 2 (step m e).pc e.irq true
-  pub misaligned : (shape : Shape) (n : ℕ) → StepMeetsShape m e shape n → is_trapping_instruction m e shape ≡ true → OwesEntryAt ds 10 4 (step m e).pc (newest.key).prio true
-  pub called : (x : Target) (n : ℕ) → StepMeetsShape m e (Call x) n → OwesEntryAt ds 5 1 (step m e).pc (newest.key).prio (newest.key).is
-  pub system : (tin n : ℕ) → StepMeetsShape m e (Syscall tin) n → OwesEntryAt ds 12 3 (step m e).pc (newest.key).prio true
-  pub returned : (n : ℕ) → StepMeetsShape m e Ret n → GoesBackToFrame older (step m e).pc
-  pub resumed : (n : ℕ) → StepMeetsShape m e Rfe n → GoesBackToFrame older (step m e).pc
+  pub interrupted : is_interrupt_taken m e ≡ true → OwesEntryOfFields ds 11 2 (step m e).pc e.irq true
+  pub misaligned : (shape : Shape) (n : ℕ) → IsStepOfShape m e shape n → is_trapping_instruction m e shape ≡ true → OwesEntryOfFields ds 10 4 (step m e).pc (newest.key).prio true
+  pub called : (x : Target) (n : ℕ) → IsStepOfShape m e (Call x) n → OwesEntryOfFields ds 5 1 (step m e).pc (newest.key).prio (newest.key).is
+  pub system : (tin n : ℕ) → IsStepOfShape m e (Syscall tin) n → OwesEntryOfFields ds 12 3 (step m e).pc (newest.key).prio true
+  pub returned : (n : ℕ) → IsStepOfShape m e Ret n → GoesBackToFrame older (step m e).pc
+  pub resumed : (n : ℕ) → IsStepOfShape m e Rfe n → GoesBackToFrame older (step m e).pc
   pub stayed :
-      (shape : Shape) (n : ℕ) → StepMeetsShape m e shape n → is_trapping_instruction m e shape ≡ false → KeepsFrame shape
+      (shape : Shape) (n : ℕ) → IsStepOfShape m e shape n → is_trapping_instruction m e shape ≡ false → KeepsFrame shape
       → (t : State) × Contains ds (record { rule = 4; duty = jump (step m e).pc t })
 
 -- the law of owed edges at one step: the newest frame's node has a point at pc, the image has an
@@ -159,7 +159,7 @@ pub record IsStepOwedByPoint (image : ImageData) (plan : PlanData) (cert : CertD
   pub shape : Shape
   pub size : ℕ
   pub code : IsCode image plan m.pc shape size
-  pub owed : IsStepOwed (duties_of (limits_in plan cert) image plan newest.key m.pc point.state shape size) newest older m e
+  pub owed : IsStepOwed (duties_of (limits_of_cert plan cert) image plan newest.key m.pc point.state shape size) newest older m e
 
 -- one of the laws of edges and frames: if edges are owed, each step of every run from every start
 -- state is owed by the newest frame's point, or goes back to the frame before

@@ -17,9 +17,9 @@ use Rattle.depth_cert.specs.Certs.{CertData}
 use Rattle.cfg_recover.specs.Code.{IsCode}
 use Rattle.cfg_recover.specs.Entries.{call_key, handler_key}
 use Rattle.cfg_recover.specs.Duties.{Owed, duties_of, enter, owed, jump}
-use Rattle.cfg_recover.specs.RulesHoldOrFail.{limits_in}
+use Rattle.cfg_recover.specs.RulesHoldOrFail.{limits_of_cert}
 use Rattle.cfg_recover.specs.StepEdges.{EdgeWay, aln, call, irq, ret, rfe, sys, to, edge_way_of_step}
-use Rattle.cfg_recover.specs.Frames.{RunFrame, frames, IsReturn}
+use Rattle.cfg_recover.specs.Frames.{RunFrame, frames, IsReturnTo}
 use Rattle.value_domain.specs.declared.states.State.{State}
 
 -- an edge inside a frame is owed: among these duties of a point is one to jump to this address,
@@ -40,8 +40,8 @@ IsEdgeWayOwed ds key prio fs q (call x) = OwesEntry ds 5 (call_key key x)
 IsEdgeWayOwed ds key prio fs q (irq x) = OwesEntry ds 11 (handler_key 2 x prio)
 IsEdgeWayOwed ds key prio fs q (sys x) = OwesEntry ds 12 (handler_key 3 x key.prio)
 IsEdgeWayOwed ds key prio fs q (aln x) = OwesEntry ds 10 (handler_key 4 x key.prio)
-IsEdgeWayOwed ds key prio fs q ret = IsReturn q fs
-IsEdgeWayOwed ds key prio fs q rfe = IsReturn q fs
+IsEdgeWayOwed ds key prio fs q ret = IsReturnTo q fs
+IsEdgeWayOwed ds key prio fs q rfe = IsReturnTo q fs
 
 -- the point of the newest frame, its instruction, and the step's way among its duties
 pub record IsEdgeOwed (image : ImageData) (plan : PlanData) (cert : CertData) (m : Machine) (e : Event) (f : RunFrame) (fs : List RunFrame) : Type 0 where
@@ -52,23 +52,23 @@ pub record IsEdgeOwed (image : ImageData) (plan : PlanData) (cert : CertData) (m
   pub shape : Shape
   pub size : ℕ
   pub code : IsCode image plan m.pc shape size
-  pub owed : IsEdgeWayOwed (duties_of (limits_in plan cert) image plan f.key m.pc point.state shape size) f.key e.irq (f ∷ fs) (step m e).pc (edge_way_of_step m e)
+  pub owed : IsEdgeWayOwed (duties_of (limits_of_cert plan cert) image plan f.key m.pc point.state shape size) f.key e.irq (f ∷ fs) (step m e).pc (edge_way_of_step m e)
 
 -- there is a newest frame, and the step's edge is among its duties or is the return
-abbrev pub EdgeOwed : ImageData → PlanData → CertData → Machine → Event → List RunFrame → Type 0
-EdgeOwed image plan cert m e [] = ⊥
-EdgeOwed image plan cert m e (f ∷ fs) = IsEdgeOwed image plan cert m e f fs
+abbrev pub IsEdgeOwedByFrames : ImageData → PlanData → CertData → Machine → Event → List RunFrame → Type 0
+IsEdgeOwedByFrames image plan cert m e [] = ⊥
+IsEdgeOwedByFrames image plan cert m e (f ∷ fs) = IsEdgeOwed image plan cert m e f fs
 
 -- the edge of each step of every run from every start state is owed
 abbrev pub EdgesOwed : ImageData → PlanData → CertData → Type 0
 EdgesOwed image plan cert =
     (m : Machine) (es : List Event) (e : Event) → Starts image plan m → AllFit plan m es → Fits plan (run m es) e
-    → EdgeOwed image plan cert (run m es) e (frames image plan m es)
+    → IsEdgeOwedByFrames image plan cert (run m es) e (frames image plan m es)
 
 -- an edge into a frame is owed: among these duties of a point is one to enter a frame whose key has
 -- these parts, by this rule and with some state
-abbrev pub OwesEntryAt : List Owed → ℕ → ℕ → ℕ → ℕ → Bool → Type 0
-OwesEntryAt ds rule kind entry prio is =
+abbrev pub OwesEntryOfFields : List Owed → ℕ → ℕ → ℕ → ℕ → Bool → Type 0
+OwesEntryOfFields ds rule kind entry prio is =
     (t : State) × Contains ds (record { rule = rule; duty = enter (record { kind = kind; entry = entry; prio = prio; is = is }) t })
 
 -- an edge by RET or RFE, which needs no duty: there is an older frame, and the return goes back to

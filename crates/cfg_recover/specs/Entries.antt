@@ -7,7 +7,7 @@ use Rattle.tcd_plan.specs.PlanData.{PlanData}
 use Rattle.value_domain.specs.declared.values.Val.{Val}
 use Rattle.value_domain.specs.declared.states.State.{State}
 use Rattle.value_domain.specs.Values.{any_val, word_val}
-use Rattle.vd_transfer.specs.Registers.{reg_of, set_reg}
+use Rattle.vd_transfer.specs.Registers.{reg_of, with_reg_value}
 use Rattle.depth_cert.specs.declared.keys.Key.{Key}
 
 -- ---- keys: kind 0 is the start, 1 a call, 2 an interrupt, 3 a system call, 4 a misaligned access
@@ -41,14 +41,14 @@ abbrev pub entry_stack_of : PlanData → Key → State → Val
 entry_stack_of plan key s = if key.is then reg_of plan s 26 else word_val plan.isp
 
 -- a state without locals in which only A10 is known
-abbrev pub entry_state_with : Val → Bool → ℕ → Bool → State
-entry_state_with sp ie ccpn lower =
-    set_reg (record { regs = replicate 27 any_val; ie = ie; ccpn = ccpn; lower = lower; locals = record { items = [] } }) 26 sp
+abbrev pub state_with_stack : Val → Bool → ℕ → Bool → State
+state_with_stack sp ie ccpn lower =
+    with_reg_value (record { regs = replicate 27 any_val; ie = ie; ccpn = ccpn; lower = lower; locals = record { items = [] } }) 26 sp
 
 -- the state at the entry of the start frame, in which only A10, IE and CCPN are known, from the
 -- plan
 abbrev pub start_state : PlanData → State
-start_state plan = entry_state_with (word_val plan.sp) plan.start_ie plan.start_ccpn false
+start_state plan = state_with_stack (word_val plan.sp) plan.start_ie plan.start_ccpn false
 
 -- at the entry of a called function: the caller's state, without its locals
 abbrev pub call_entry : State → State
@@ -57,17 +57,17 @@ call_entry s = record s { lower = false; locals = record { items = [] } }
 -- At the entry of the handler of interrupt p, interrupts are off, and the lower registers are the
 -- entry's.
 abbrev pub irq_entry : PlanData → Key → State → ℕ → State
-irq_entry plan key s p = entry_state_with (entry_stack_of plan key s) false p true
+irq_entry plan key s p = state_with_stack (entry_stack_of plan key s) false p true
 
 -- At the entry of the handler of misaligned accesses, D15 has the trap's number 4, too.
 abbrev pub aln_entry : PlanData → Key → State → State
-aln_entry plan key s = set_reg (entry_state_with (entry_stack_of plan key s) false s.ccpn true) 15 (word_val 4)
+aln_entry plan key s = with_reg_value (state_with_stack (entry_stack_of plan key s) false s.ccpn true) 15 (word_val 4)
 
 -- At the entry of the handler of system calls, the state is the caller's. D15 has the number of the
 -- call.
 abbrev pub sys_entry : PlanData → Key → State → ℕ → State
 sys_entry plan key s tin =
-    record (set_reg (set_reg s 26 (entry_stack_of plan key s)) 15 (word_val tin)) { ie = false; lower = false; locals = record { items = [] } }
+    record (with_reg_value (with_reg_value s 26 (entry_stack_of plan key s)) 15 (word_val tin)) { ie = false; lower = false; locals = record { items = [] } }
 
 -- ---- handlers
 -- the key of a handler of an interrupt or a trap
@@ -76,12 +76,12 @@ handler_key kind entry prio = record { kind = kind; entry = entry; prio = prio; 
 
 -- The interrupts that may be taken: if interrupts may be enabled, each interrupt of the plan above
 -- the lower bound of CCPN.
-abbrev pub irqs_of : PlanData → State → List ℕ
-irqs_of plan s = if s.ie then filter (λ p. nat_lt s.ccpn p) plan.irqs else []
+abbrev pub possible_irqs_of : PlanData → State → List ℕ
+possible_irqs_of plan s = if s.ie then filter (λ p. nat_lt s.ccpn p) plan.irqs else []
 
 -- the stack pointer of a handler, from A10 of the frame that it interrupts
-abbrev pub entry_stack_with : PlanData → Key → Val → Val
-entry_stack_with plan key sp = if key.is then sp else word_val plan.isp
+abbrev pub entry_stack_from_a10 : PlanData → Key → Val → Val
+entry_stack_from_a10 plan key sp = if key.is then sp else word_val plan.isp
 
 -- the key of a frame that is entered at an address: by a call it runs on its caller's stack, in any
 -- other way on the interrupt stack; its priority is that of the frame that enters it

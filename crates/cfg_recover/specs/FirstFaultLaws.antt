@@ -8,21 +8,21 @@ use Rattle.depth_cert.specs.declared.points.Point.{Point}
 use Rattle.depth_cert.specs.Keys.{number_of_key}
 use Rattle.depth_cert.specs.Nodes.{NodeData, find_node}
 use Rattle.depth_cert.specs.Certs.{CertData, IsCert}
-use Rattle.cfg_recover.specs.RulesHoldOrFail.{Accepts, RuleHolds, HoldsAtStart, HoldsAtEntry, IsFirstFault, certified_need, limits_in}
+use Rattle.cfg_recover.specs.RulesHoldOrFail.{Accepts, RuleHolds, StartRuleHolds, EntryRuleHolds, IsFirstFault, certified_need, limits_of_cert}
 
 -- a place that a first fault may name since a rule fails there: the start's entry for K1, a node's
 -- entry for K2, or a point of a node
 pub data IsFaultPlace (image : ImageData) (plan : PlanData) (cert : CertData) : ℕ → Key → ℕ → Type 0 where
-  start : (HoldsAtStart image plan cert → ⊥) → IsFaultPlace image plan cert 1 (record { kind = 0; entry = image.entry; prio = 0; is = plan.start_is }) image.entry
-  entry : (node : NodeData) → Contains cert.nodes node → (HoldsAtEntry (limits_in plan cert) node → ⊥) → IsFaultPlace image plan cert 2 node.key (node.key).entry
+  start : (StartRuleHolds image plan cert → ⊥) → IsFaultPlace image plan cert 1 (record { kind = 0; entry = image.entry; prio = 0; is = plan.start_is }) image.entry
+  entry : (node : NodeData) → Contains cert.nodes node → (EntryRuleHolds (limits_of_cert plan cert) node → ⊥) → IsFaultPlace image plan cert 2 node.key (node.key).entry
   point :
       (node : NodeData) (point : Point) (r : ℕ) → Contains cert.nodes node → Contains node.points point
       → (RuleHolds image plan cert node point r → ⊥) → IsFaultPlace image plan cert r node.key point.addr
 
 -- the order in which the first fault is the first: one is before another, or equal to it, by key
 -- (kind, entry, prio, is), then by address, then by rule
-abbrev pub IsFaultBefore : ℕ → Key → ℕ → ℕ → Key → ℕ → Type 0
-IsFaultBefore r k p q j x =
+abbrev pub IsFaultNotAfter : ℕ → Key → ℕ → ℕ → Key → ℕ → Type 0
+IsFaultNotAfter r k p q j x =
     (number_of_key k < number_of_key j) ⊎ (number_of_key k ≡ number_of_key j) × ((p < x) ⊎ (p ≡ x) × (r ≤ q))
 
 -- The printed rule is 1 to 14 and the printed address is a word. They name a place where that rule
@@ -33,8 +33,8 @@ pub record FirstFaultNamesFirstFailure (image : ImageData) (plan : PlanData) (ce
   pub addr : p < 2 ^ 32
   pub one : r ≡ 1 → (k ≡ record { kind = 0; entry = image.entry; prio = 0; is = plan.start_is }) × (p ≡ image.entry)
   pub place : IsFaultPlace image plan cert r k p
-  pub start : (r ≡ 1) ⊎ HoldsAtStart image plan cert
-  pub first : (q : ℕ) (j : Key) (x : ℕ) → IsFaultPlace image plan cert q j x → (r ≡ 1) ⊎ IsFaultBefore r k p q j x
+  pub start : (r ≡ 1) ⊎ StartRuleHolds image plan cert
+  pub first : (q : ℕ) (j : Key) (x : ℕ) → IsFaultPlace image plan cert q j x → (r ≡ 1) ⊎ IsFaultNotAfter r k p q j x
   pub refuted : Accepts image plan cert → ⊥
 
 -- of each first fault of a certificate

@@ -16,7 +16,7 @@ use Rattle.cfg_recover.specs.declared.flow_types.Leave.TheVariants.{Stays, Ret, 
 use Rattle.cfg_recover.specs.declared.flow_types.Flow.{Flow}
 use Rattle.cfg_recover.specs.Code.{IsCode}
 use Rattle.cfg_recover.specs.Entries.{irq_key, irq_entry, entered_key}
-use Rattle.depth_cert.specs.Exits.{exit_of}
+use Rattle.depth_cert.specs.Exits.{exit_of_state}
 use Rattle.cfg_recover.specs.LocalFaults.{IsFaultless}
 use Rattle.cfg_recover.specs.Duties.{Owed, owed, enter, resume, leave, jumps_to, duties_of}
 
@@ -55,8 +55,8 @@ duties_of_irqs plan entry irqs = map (λ p. owed 11 (enter (irq_key plan p) (rec
 -- the handler of system calls by RFE (K7); otherwise it is empty
 abbrev pub duties_of_leaving : Key → State → Leave → List Owed
 duties_of_leaving key s Stays = []
-duties_of_leaving key s Ret = owed 6 (leave (exit_of s)) ∷ []
-duties_of_leaving key s Rfe = if key.kind == sys_kind then owed 7 (leave (exit_of s)) ∷ [] else []
+duties_of_leaving key s Ret = owed 6 (leave (exit_of_state s)) ∷ []
+duties_of_leaving key s Rfe = if key.kind == sys_kind then owed 7 (leave (exit_of_state s)) ∷ [] else []
 
 -- the duties of a point with this key and state, as the Flow has them
 abbrev pub duties_of_flow : PlanData → Key → State → Flow → List Owed

@@ -1,22 +1,22 @@
 -- The values of the states in a Flow.
 use Rattle.std.specs.Prelude.{All, IfSome, Option}
 use Rattle.value_domain.specs.Limits.{Limits}
-use Rattle.value_domain.specs.State.{AreValues}
+use Rattle.value_domain.specs.State.{AreInLattice}
 use Rattle.cfg_recover.specs.declared.flow_types.Jump.{Jump}
 use Rattle.cfg_recover.specs.declared.flow_types.Enter.{Enter}
 use Rattle.cfg_recover.specs.declared.flow_types.Flow.{Flow}
 
 -- the state of a jump in a Flow has values of the plan's lattice
 abbrev pub JumpHasValues : Limits → Option Jump → Type 0
-JumpHasValues b jump = IfSome jump (λ j. AreValues b (j.state).regs)
+JumpHasValues b jump = IfSome jump (λ j. AreInLattice b (j.state).regs)
 
 -- the state of an entry in a Flow has values of the plan's lattice
 abbrev pub EntryHasValues : Limits → Option Enter → Type 0
-EntryHasValues b entry = IfSome entry (λ e. AreValues b (e.state).regs)
+EntryHasValues b entry = IfSome entry (λ e. AreInLattice b (e.state).regs)
 
 -- each state in a Flow has values of the plan's lattice
 pub record FlowHasValues (b : Limits) (f : Flow) : Type 0 where
   pub jumps : All (JumpHasValues b) f.jumps
   pub enter : EntryHasValues b f.enter
   pub misaligned : EntryHasValues b f.aln
-  pub interrupts : AreValues b (f.irq_entry).regs
+  pub interrupts : AreInLattice b (f.irq_entry).regs

@@ -5,7 +5,7 @@ use Rattle.tcd_plan.specs.PlanData.{PlanData}
 use Rattle.tc_machine.specs.declared.events.Event.{Event}
 use Rattle.tc_machine.specs.declared.state.Machine.{Machine}
 use Rattle.tc_machine.specs.Machine.{is_interrupt_stack_used}
-use Rattle.tc_machine.specs.Instructions.{machine_address_ahead}
+use Rattle.tc_machine.specs.Instructions.{wrapping_sum}
 use Rattle.tc_machine.specs.Fetching.{fetched_instruction, fetched_size}
 use Rattle.tc_machine.specs.Stepping.{step}
 use Rattle.depth_cert.specs.declared.keys.Key.{Key}
@@ -23,35 +23,35 @@ pub record RunFrame : Type 0 where
   pub at : ℕ
 
 -- the frames of a run, the newest of which goes on at an address
-abbrev pub frames_at : ℕ → List RunFrame → List RunFrame
-frames_at q [] = []
-frames_at q (f ∷ fs) = record { key = f.key; at = q } ∷ fs
+abbrev pub frames_after_jump : ℕ → List RunFrame → List RunFrame
+frames_after_jump q [] = []
+frames_after_jump q (f ∷ fs) = record { key = f.key; at = q } ∷ fs
 
 -- The newest frame will go on at `back`, and enters a frame at q. The new frame's key follows from
 -- the newest one's.
-abbrev pub frames_entered : (Key → Key) → ℕ → ℕ → List RunFrame → List RunFrame
-frames_entered key back q [] = []
-frames_entered key back q (f ∷ fs) = record { key = key f.key; at = q } ∷ record { key = f.key; at = back } ∷ fs
+abbrev pub frames_after_entry : (Key → Key) → ℕ → ℕ → List RunFrame → List RunFrame
+frames_after_entry key back q [] = []
+frames_after_entry key back q (f ∷ fs) = record { key = key f.key; at = q } ∷ record { key = f.key; at = back } ∷ fs
 
 -- the frames of a run after the newest one ended
-abbrev pub frames_left : List RunFrame → List RunFrame
-frames_left [] = []
-frames_left (f ∷ fs) = fs
+abbrev pub frames_after_return : List RunFrame → List RunFrame
+frames_after_return [] = []
+frames_after_return (f ∷ fs) = fs
 
 -- the frames of a run after a step from p, the newest first: a call and a system call return to the
 -- next instruction, an interrupt and a misaligned access to p itself
 abbrev pub frames_after_edge : ℕ → ℕ → ℕ → EdgeWay → List RunFrame → List RunFrame
-frames_after_edge p next prio (to q) fs = frames_at q fs
-frames_after_edge p next prio (call q) fs = frames_entered (λ k. call_key k q) next q fs
-frames_after_edge p next prio (irq q) fs = frames_entered (λ k. handler_key 2 q prio) p q fs
-frames_after_edge p next prio (sys q) fs = frames_entered (λ k. handler_key 3 q k.prio) next q fs
-frames_after_edge p next prio (aln q) fs = frames_entered (λ k. handler_key 4 q k.prio) p q fs
-frames_after_edge p next prio ret fs = frames_left fs
-frames_after_edge p next prio rfe fs = frames_left fs
+frames_after_edge p next prio (to q) fs = frames_after_jump q fs
+frames_after_edge p next prio (call q) fs = frames_after_entry (λ k. call_key k q) next q fs
+frames_after_edge p next prio (irq q) fs = frames_after_entry (λ k. handler_key 2 q prio) p q fs
+frames_after_edge p next prio (sys q) fs = frames_after_entry (λ k. handler_key 3 q k.prio) next q fs
+frames_after_edge p next prio (aln q) fs = frames_after_entry (λ k. handler_key 4 q k.prio) p q fs
+frames_after_edge p next prio ret fs = frames_after_return fs
+frames_after_edge p next prio rfe fs = frames_after_return fs
 
 -- the frames of a run after one step of the machine
 abbrev pub frames_after : Machine → Event → List RunFrame → List RunFrame
-frames_after m e fs = frames_after_edge m.pc (machine_address_ahead m.pc (fetched_size (fetched_instruction m))) e.irq (edge_way_of_step m e) fs
+frames_after m e fs = frames_after_edge m.pc (wrapping_sum m.pc (fetched_size (fetched_instruction m))) e.irq (edge_way_of_step m e) fs
 
 -- the frames after the steps of a run, from those before it
 abbrev pub frames_from : Machine → List Event → List RunFrame → List RunFrame
@@ -78,9 +78,9 @@ pub record AreFramesHeld (plan : PlanData) (cert : CertData) (m : Machine) (f : 
 
 -- the frames of a run are held: there is a newest one, at pc, with PSW.IS in its key and at a point
 -- that holds the machine, and each frame has a node in the certificate
-abbrev pub HoldFrames : PlanData → CertData → Machine → List RunFrame → Type 0
-HoldFrames plan cert m [] = ⊥
-HoldFrames plan cert m (f ∷ fs) = AreFramesHeld plan cert m f fs
+abbrev pub AreAllFramesHeld : PlanData → CertData → Machine → List RunFrame → Type 0
+AreAllFramesHeld plan cert m [] = ⊥
+AreAllFramesHeld plan cert m (f ∷ fs) = AreFramesHeld plan cert m f fs
 
 -- the frame that is entered at an address: kind 1 by a call, 2 by an interrupt, 3 by a system call,
 -- 4 by a misaligned access
@@ -92,7 +92,7 @@ abbrev pub frame_going_on : RunFrame → ℕ → RunFrame
 frame_going_on f at = record { key = f.key; at = at }
 
 -- a return to q: the frame before the newest one goes on at this address
-abbrev pub IsReturn : ℕ → List RunFrame → Type 0
-IsReturn q [] = ⊥
-IsReturn q (f ∷ []) = ⊥
-IsReturn q (f ∷ g ∷ fs) = g.at ≡ q
+abbrev pub IsReturnTo : ℕ → List RunFrame → Type 0
+IsReturnTo q [] = ⊥
+IsReturnTo q (f ∷ []) = ⊥
+IsReturnTo q (f ∷ g ∷ fs) = g.at ≡ q

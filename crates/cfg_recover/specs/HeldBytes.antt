@@ -6,9 +6,9 @@ use Rattle.tcd_plan.specs.PlanData.{PlanData}
 use Rattle.tcd_base.specs.Ranges.{IsInOneRange}
 
 -- the image's n bytes from x on, if segments hold them all
-abbrev pub held_bytes : ImageData → ℕ → ℕ → Option (List ℕ)
-held_bytes image x zero = Some []
-held_bytes image x (suc n) = option_and_then (λ b. option_map (λ bs. b ∷ bs) (held_bytes image (x + 1) n)) (image_byte image x)
+abbrev pub image_bytes_at : ImageData → ℕ → ℕ → Option (List ℕ)
+image_bytes_at image x zero = Some []
+image_bytes_at image x (suc n) = option_and_then (λ b. option_map (λ bs. b ∷ bs) (image_bytes_at image (x + 1) n)) (image_byte image x)
 
 -- bytes of code that an image holds at an address, within one segment: the segment has these bytes
 -- from the address x on
@@ -18,6 +18,6 @@ SegmentHoldsBytes s x (b ∷ bs) = (s.at ≤ x) × (slice_get s.bytes (x - s.at)
 
 -- the answer is the image's n bytes at x, if one rom range has them and segments hold them; else
 -- none
-abbrev pub FindsHeldBytes : ImageData → PlanData → ℕ → ℕ → Option (List ℕ) → Type 0
-FindsHeldBytes image plan x n (Some bytes) = IsInOneRange x n plan.rom × (held_bytes image x n ≡ Some bytes)
-FindsHeldBytes image plan x n None = IsInOneRange x n plan.rom → held_bytes image x n ≡ None
+abbrev pub FindsRomBytes : ImageData → PlanData → ℕ → ℕ → Option (List ℕ) → Type 0
+FindsRomBytes image plan x n (Some bytes) = IsInOneRange x n plan.rom × (image_bytes_at image x n ≡ Some bytes)
+FindsRomBytes image plan x n None = IsInOneRange x n plan.rom → image_bytes_at image x n ≡ None

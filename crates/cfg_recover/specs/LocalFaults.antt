@@ -9,24 +9,24 @@ use Rattle.value_domain.specs.declared.states.State.{State}
 use Rattle.value_domain.specs.Limits.{Limits}
 use Rattle.depth_cert.specs.declared.keys.Key.{Key}
 use Rattle.cfg_recover.specs.Code.{IsCode}
-use Rattle.cfg_recover.specs.LocalRules.{StoresInRange, MayAccess, LocalRule, LocalHolds}
+use Rattle.cfg_recover.specs.LocalRules.{StoresInRange, MayAccess, LocalRuleHolds, LocalRuleHoldsAtPoint}
 use Rattle.tc_isa.specs.InBounds.{IsShape}
 use Rattle.cfg_recover.specs.declared.local_rules.Located.{Located}
 
 -- The own part of this rule fails for the shape, and that of each lesser one holds; if there is no
 -- such rule, all hold.
 abbrev pub IsLeastLocalFault : Limits → PlanData → Key → ℕ → State → Shape → Option ℕ → Type 0
-IsLeastLocalFault b plan key p s shape (Some r) = (LocalRule b plan key p s shape r → ⊥) × ((q : ℕ) → q < r → LocalRule b plan key p s shape q)
-IsLeastLocalFault b plan key p s shape None = (r : ℕ) → LocalRule b plan key p s shape r
+IsLeastLocalFault b plan key p s shape (Some r) = (LocalRuleHolds b plan key p s shape r → ⊥) × ((q : ℕ) → q < r → LocalRuleHolds b plan key p s shape q)
+IsLeastLocalFault b plan key p s shape None = (r : ℕ) → LocalRuleHolds b plan key p s shape r
 
 -- r is the least rule whose own part fails at the point p
 pub record IsLocalFault (b : Limits) (image : ImageData) (plan : PlanData) (key : Key) (p : ℕ) (s : State) (r : ℕ) : Type 0 where
-  pub fails : LocalHolds b image plan key p s r → ⊥
-  pub least : (q : ℕ) → q < r → LocalHolds b image plan key p s q
+  pub fails : LocalRuleHoldsAtPoint b image plan key p s r → ⊥
+  pub least : (q : ℕ) → q < r → LocalRuleHoldsAtPoint b image plan key p s q
 
 -- no rule's own part fails at the point p with this state
 abbrev pub IsFaultless : Limits → ImageData → PlanData → Key → ℕ → State → Type 0
-IsFaultless b image plan key p s = (r : ℕ) → LocalHolds b image plan key p s r
+IsFaultless b image plan key p s = (r : ℕ) → LocalRuleHoldsAtPoint b image plan key p s r
 
 -- this instruction of so many bytes is at the point p, and no rule's own part fails there
 pub record IsFaultlessInst (b : Limits) (image : ImageData) (plan : PlanData) (key : Key) (p : ℕ) (s : State) (found : InstData × ℕ) : Type 0 where

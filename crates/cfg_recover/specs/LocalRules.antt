@@ -8,14 +8,14 @@ use Rattle.tc_isa.specs.declared.shapes.Target.{Target}
 use Rattle.tc_isa.specs.declared.shapes.Target.TheVariants as target
 use Rattle.tc_isa.specs.declared.shapes.Shape.{Shape}
 use Rattle.tc_isa.specs.declared.shapes.Shape.TheVariants.{Load, Store, Jump, Call, Ret, Rfe, Syscall}
-use Rattle.tc_machine.specs.Instructions.{machine_address_ahead}
+use Rattle.tc_machine.specs.Instructions.{wrapping_sum}
 use Rattle.value_domain.specs.declared.values.Val.{Val}
 use Rattle.value_domain.specs.declared.values.Val.TheVariants.{Set, Span}
 use Rattle.value_domain.specs.declared.states.State.{State}
 use Rattle.value_domain.specs.Limits.{Limits}
 use Rattle.value_domain.specs.Sets.{sorted_set_of}
 use Rattle.vd_transfer.specs.Registers.{reg_of, WritesNoFixedRegister}
-use Rattle.vd_transfer.specs.EffectsOnStates.{address_of, EffectHasRoom}
+use Rattle.vd_transfer.specs.EffectsOnStates.{address_of_access, LocalsFitInstruction}
 use Rattle.store_ranges.specs.Accesses.{AreStoresInRange, are_aligned}
 use Rattle.depth_cert.specs.declared.keys.Key.{Key}
 use Rattle.cfg_recover.specs.Code.{IsCode, HasCode}
@@ -23,20 +23,20 @@ use Rattle.cfg_recover.specs.Code.{IsCode, HasCode}
 -- ---- targets
 -- the targets of a jump or a call by register, which K5's own part asks to be known: the words of
 -- the register's value with bit 0 cleared, ascending, each once; none for a span
-abbrev pub targets_named_by : Val → Option (List ℕ)
-targets_named_by (Set ws) = Some (sorted_set_of (map (λ w. w / 2 * 2) ws))
-targets_named_by (Span lo last step) = None
+abbrev pub targets_of_value : Val → Option (List ℕ)
+targets_of_value (Set ws) = Some (sorted_set_of (map (λ w. w / 2 * 2) ws))
+targets_of_value (Span lo last step) = None
 
 -- the targets of a jump or a call at p, which K5's own part asks to be known
 abbrev pub targets_of : PlanData → State → ℕ → Target → Option (List ℕ)
-targets_of plan s p (target.Rel by) = Some (machine_address_ahead p by ∷ [])
+targets_of plan s p (target.Rel by) = Some (wrapping_sum p by ∷ [])
 targets_of plan s p (target.Abs x) = Some (x ∷ [])
-targets_of plan s p (target.Reg r) = targets_named_by (reg_of plan s r)
+targets_of plan s p (target.Reg r) = targets_of_value (reg_of plan s r)
 
 -- a target that K5's own part knows without any register: the only one of a jump or a call at p;
 -- none if it goes by a register
 abbrev pub direct_target : ℕ → Target → Option ℕ
-direct_target p (target.Rel by) = Some (machine_address_ahead p by)
+direct_target p (target.Rel by) = Some (wrapping_sum p by)
 direct_target p (target.Abs x) = Some x
 direct_target p (target.Reg r) = None
 
@@ -63,16 +63,16 @@ MayReturnFromException key s _ = Unit {0}
 -- K9's own part, for an instruction of this shape at a point: each possible store is in one ram
 -- range or one peripheral range as a whole, and doesn't pass 2^32
 abbrev pub StoresInRange : Limits → PlanData → State → Shape → Type 0
-StoresInRange b plan s (Store src base offset size after) = AreStoresInRange plan (address_of b plan (Store src base offset size after) s) size
+StoresInRange b plan s (Store src base offset size after) = AreStoresInRange plan (address_of_access b plan (Store src base offset size after) s) size
 StoresInRange b plan s _ = Unit {0}
 
 -- K10: each possible address is a multiple of the size, or the plan states the trap of misaligned
 -- accesses.
 abbrev pub MayAccess : Limits → PlanData → State → Shape → Type 0
 MayAccess b plan s (Load dst base offset size signed after) =
-    (are_aligned (address_of b plan (Load dst base offset size signed after) s) size ≡ true) ⊎ (plan.aln ≡ true)
+    (are_aligned (address_of_access b plan (Load dst base offset size signed after) s) size ≡ true) ⊎ (plan.aln ≡ true)
 MayAccess b plan s (Store src base offset size after) =
-    (are_aligned (address_of b plan (Store src base offset size after) s) size ≡ true) ⊎ (plan.aln ≡ true)
+    (are_aligned (address_of_access b plan (Store src base offset size after) s) size ≡ true) ⊎ (plan.aln ≡ true)
 MayAccess b plan s _ = Unit {0}
 
 -- K12: the plan states the trap of system calls
@@ -83,11 +83,11 @@ MayCallSystem plan _ = Unit {0}
 -- The own part of rule r at an instruction of this shape. K8: a lower context is saved only if
 -- there is room for a local, and restored only if there is one. K13: the instruction isn't MTCR,
 -- and writes none of A0, A1, A8, A9 and A11.
-pub record LocalRule (b : Limits) (plan : PlanData) (key : Key) (p : ℕ) (s : State) (shape : Shape) (r : ℕ) : Type 0 where
+pub record LocalRuleHolds (b : Limits) (plan : PlanData) (key : Key) (p : ℕ) (s : State) (shape : Shape) (r : ℕ) : Type 0 where
   pub targets : r ≡ 5 → HasKnownTargets plan s p shape
   pub returns : r ≡ 6 → MayReturn key s shape
   pub exceptions : r ≡ 7 → MayReturnFromException key s shape
-  pub room : r ≡ 8 → EffectHasRoom b shape s
+  pub room : r ≡ 8 → LocalsFitInstruction b shape s
   pub stores : r ≡ 9 → StoresInRange b plan s shape
   pub accesses : r ≡ 10 → MayAccess b plan s shape
   pub system : r ≡ 12 → MayCallSystem plan shape
@@ -95,21 +95,21 @@ pub record LocalRule (b : Limits) (plan : PlanData) (key : Key) (p : ℕ) (s : S
 
 -- The own part of rule r holds at the point p of a node with this key and state. K3: there is an
 -- instruction.
-pub record LocalHolds (b : Limits) (image : ImageData) (plan : PlanData) (key : Key) (p : ℕ) (s : State) (r : ℕ) : Type 0 where
+pub record LocalRuleHoldsAtPoint (b : Limits) (image : ImageData) (plan : PlanData) (key : Key) (p : ℕ) (s : State) (r : ℕ) : Type 0 where
   pub code : r ≡ 3 → HasCode image plan p
-  pub own : (shape : Shape) (n : ℕ) → IsCode image plan p shape n → LocalRule b plan key p s shape r
+  pub own : (shape : Shape) (n : ℕ) → IsCode image plan p shape n → LocalRuleHolds b plan key p s shape r
 
 -- ---- K9 and K10, by the addresses of the access
 
 -- what K9 asks of a point's instruction alone, by the addresses of its access: each possible store
 -- is in one ram range or one peripheral range as a whole, and doesn't pass 2^32
-abbrev pub StoresInRangeAt : PlanData → Val → Shape → Type 0
-StoresInRangeAt plan at (Store src base offset size after) = AreStoresInRange plan at size
-StoresInRangeAt plan at _ = Unit {0}
+abbrev pub StoresInRangeAtValue : PlanData → Val → Shape → Type 0
+StoresInRangeAtValue plan at (Store src base offset size after) = AreStoresInRange plan at size
+StoresInRangeAtValue plan at _ = Unit {0}
 
 -- the own part of K10, by the addresses of the access: each is a multiple of the size, or the plan
 -- states the trap of misaligned accesses
-abbrev pub MayAccessAt : PlanData → Val → Shape → Type 0
-MayAccessAt plan at (Load dst base offset size signed after) = (are_aligned at size ≡ true) ⊎ (plan.aln ≡ true)
-MayAccessAt plan at (Store src base offset size after) = (are_aligned at size ≡ true) ⊎ (plan.aln ≡ true)
-MayAccessAt plan at _ = Unit {0}
+abbrev pub MayAccessAtValue : PlanData → Val → Shape → Type 0
+MayAccessAtValue plan at (Load dst base offset size signed after) = (are_aligned at size ≡ true) ⊎ (plan.aln ≡ true)
+MayAccessAtValue plan at (Store src base offset size after) = (are_aligned at size ≡ true) ⊎ (plan.aln ≡ true)
+MayAccessAtValue plan at _ = Unit {0}

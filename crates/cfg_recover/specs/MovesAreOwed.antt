@@ -9,20 +9,20 @@ use Rattle.tc_machine.specs.declared.events.Event.{Event}
 use Rattle.tc_machine.specs.declared.events.End.TheVariants.{Running}
 use Rattle.tc_machine.specs.declared.state.Machine.{Machine}
 use Rattle.tc_machine.specs.Machine.{reg, a11, IsMachine}
-use Rattle.tc_machine.specs.Instructions.{machine_address_ahead, does, is_trapping_instruction, target_of}
+use Rattle.tc_machine.specs.Instructions.{wrapping_sum, does, is_trapping_instruction, target_of}
 use Rattle.tc_machine.specs.Stepping.{is_interrupt_taken, stored}
 use Rattle.tcd_plan.specs.MappedAddresses.{IsInAreas, IsStoreInRange}
 use Rattle.tc_machine.specs.Safe.{Fits}
 use Rattle.value_domain.specs.declared.states.State.{State}
 use Rattle.value_domain.specs.Limits.{Limits, AreLimits}
-use Rattle.value_domain.specs.State.{AreValues}
+use Rattle.value_domain.specs.State.{AreInLattice}
 use Rattle.vd_transfer.specs.Registers.{reg_of, is_lower_register}
 use Rattle.value_domain.specs.Values.{word_val}
 use Rattle.vd_transfer.specs.Holding.{Holds}
 use Rattle.depth_cert.specs.declared.keys.Key.{Key}
 use Rattle.cfg_recover.specs.Code.{IsCode}
 use Rattle.cfg_recover.specs.Entries.{irq_key, aln_key, irq_entry, aln_entry, call_key, call_entry}
-use Rattle.cfg_recover.specs.LocalRules.{LocalRule}
+use Rattle.cfg_recover.specs.LocalRules.{LocalRuleHolds}
 use Rattle.cfg_recover.specs.Duties.{owed, jump, enter, resume, duties_of}
 use Rattle.tc_mem.specs.PlanMemory.{HoldsRom, IsPlanMemory}
 use Rattle.tc_isa.specs.declared.shapes.Target.{Target}
@@ -42,9 +42,9 @@ pub record IsAtPoint (b : Limits) (image : ImageData) (plan : PlanData) (key : K
   pub memory : IsPlanMemory plan m.mem
   pub rom : HoldsRom image plan m.mem
   pub code : IsCode image plan m.pc shape n
-  pub own : (r : ℕ) → LocalRule b plan key m.pc s shape r
+  pub own : (r : ℕ) → LocalRuleHolds b plan key m.pc s shape r
   pub regs : length s.regs ≡ 27
-  pub values : AreValues b s.regs
+  pub values : AreInLattice b s.regs
   pub inside : IsInState plan m s
 
 -- a move in a frame, from machine m and state s to n and t: save areas, context list, PSW and A11
@@ -76,23 +76,23 @@ pub record IsMoveOwed (b : Limits) (image : ImageData) (plan : PlanData) (key : 
 
 -- an instruction of this shape makes a move that is owed as a jump: it stays in its frame, and
 -- keeps the contexts as they are
-abbrev pub StaysInFrame : Shape → Type 0
-StaysInFrame (Call target) = ⊥
-StaysInFrame Ret = ⊥
-StaysInFrame Rfe = ⊥
-StaysInFrame Svlcx = ⊥
-StaysInFrame Rslcx = ⊥
-StaysInFrame (Bisr c) = ⊥
-StaysInFrame (Syscall tin) = ⊥
-StaysInFrame (Mtcr src number) = ⊥
-StaysInFrame _ = Unit {0}
+abbrev pub KeepsFrameAndContexts : Shape → Type 0
+KeepsFrameAndContexts (Call target) = ⊥
+KeepsFrameAndContexts Ret = ⊥
+KeepsFrameAndContexts Rfe = ⊥
+KeepsFrameAndContexts Svlcx = ⊥
+KeepsFrameAndContexts Rslcx = ⊥
+KeepsFrameAndContexts (Bisr c) = ⊥
+KeepsFrameAndContexts (Syscall tin) = ⊥
+KeepsFrameAndContexts (Mtcr src number) = ⊥
+KeepsFrameAndContexts _ = Unit {0}
 
 -- a law of moves: each step inside a frame, without an interrupt or a trap, is a jump that the
 -- point owes
 abbrev pub JumpsAreOwed : Type 0
 JumpsAreOwed =
     (b : Limits) (image : ImageData) (plan : PlanData) (key : Key) (m : Machine) (e : Event) (s : State) (shape : Shape) (n : ℕ)
-    → IsAtPoint b image plan key m s shape n → Fits plan m e → is_interrupt_taken m e ≡ false → StaysInFrame shape → is_trapping_instruction m e shape ≡ false
+    → IsAtPoint b image plan key m s shape n → Fits plan m e → is_interrupt_taken m e ≡ false → KeepsFrameAndContexts shape → is_trapping_instruction m e shape ≡ false
     → IsMoveOwed b image plan key m e s shape n
 
 -- a law of moves: each point whose access traps owes the entry of the handler of misaligned
@@ -105,15 +105,15 @@ TrapsAreOwed =
 
 -- the key of the handler to which a machine moves by a system call: its entry is BTV with class 6
 -- in bits 7:5, its priority the calling frame's, and it runs on the interrupt stack
-abbrev pub owed_system_handler : PlanData → Key → Key
-owed_system_handler plan key = record { kind = 3; entry = bit_or plan.btv (6 * 2 ^ 5); prio = key.prio; is = true }
+abbrev pub owed_sys_key : PlanData → Key → Key
+owed_sys_key plan key = record { kind = 3; entry = bit_or plan.btv (6 * 2 ^ 5); prio = key.prio; is = true }
 
 -- a law of moves: a point with a system call owes the entry of its handler (K12), where D15, A10,
 -- IE, `lower` and the locals are set and the rest stays, and the return (K4)
 pub record IsSystemCallOwed (b : Limits) (image : ImageData) (plan : PlanData) (key : Key) (m : Machine) (s : State) (tin n : ℕ) : Type 0 where
   pub state : State
-  pub entered : Contains (duties_of b image plan key m.pc s (Syscall tin) n) (owed 12 (enter (owed_system_handler plan key) state))
-  pub back : Contains (duties_of b image plan key m.pc s (Syscall tin) n) (owed 4 (resume (owed_system_handler plan key) (machine_address_ahead m.pc n)))
+  pub entered : Contains (duties_of b image plan key m.pc s (Syscall tin) n) (owed 12 (enter (owed_sys_key plan key) state))
+  pub back : Contains (duties_of b image plan key m.pc s (Syscall tin) n) (owed 4 (resume (owed_sys_key plan key) (wrapping_sum m.pc n)))
   pub number : reg_of plan state 15 ≡ word_val tin
   pub stack : reg_of plan state 26 ≡ (if key.is then reg_of plan s 26 else word_val plan.isp)
   pub others : (r : ℕ) → r ≢ 15 → r ≢ 26 → reg_of plan state r ≡ reg_of plan s r
@@ -139,7 +139,7 @@ PointStoresAreInRange =
 -- (K4)
 pub record IsCallOwed (b : Limits) (image : ImageData) (plan : PlanData) (key : Key) (m : Machine) (s : State) (to : Target) (n : ℕ) : Type 0 where
   pub entered : Contains (duties_of b image plan key m.pc s (Call to) n) (owed 5 (enter (call_key key (target_of m to)) (call_entry s)))
-  pub back : Contains (duties_of b image plan key m.pc s (Call to) n) (owed 4 (resume (call_key key (target_of m to)) (machine_address_ahead m.pc n)))
+  pub back : Contains (duties_of b image plan key m.pc s (Call to) n) (owed 4 (resume (call_key key (target_of m to)) (wrapping_sum m.pc n)))
 
 -- a law of moves: each point with a call owes the entry where the machine goes, and the return
 abbrev pub CallsAreOwed : Type 0

@@ -5,9 +5,9 @@ use Rattle.elf_image.specs.Images.{ImageData}
 use Rattle.tcd_plan.specs.PlanData.{PlanData}
 use Rattle.value_domain.specs.Limits.{Limits}
 use Rattle.depth_cert.specs.declared.keys.Key.{Key}
-use Rattle.cfg_recover.specs.CertRefusals.{IsRefusalWith, HasRefusalReason}
+use Rattle.cfg_recover.specs.CertRefusals.{IsRefusalWithLimits, HasRefusalReason}
 
 -- of each refusal
 abbrev pub RefusalsHaveReasons : Type 0
 RefusalsHaveReasons =
-    (b : Limits) (image : ImageData) (plan : PlanData) (r : ℕ) (k : Key) (p : ℕ) → IsRefusalWith b image plan r k p → HasRefusalReason b image plan r k p
+    (b : Limits) (image : ImageData) (plan : PlanData) (r : ℕ) (k : Key) (p : ℕ) → IsRefusalWithLimits b image plan r k p → HasRefusalReason b image plan r k p

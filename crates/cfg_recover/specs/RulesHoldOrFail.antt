@@ -5,24 +5,24 @@ use Rattle.tcd_plan.specs.PlanData.{PlanData}
 use Rattle.tc_isa.specs.declared.shapes.Shape.{Shape}
 use Rattle.value_domain.specs.declared.states.State.{State}
 use Rattle.value_domain.specs.Limits.{Limits}
-use Rattle.value_domain.specs.State.{Covers, AreValues}
+use Rattle.value_domain.specs.State.{Covers, AreInLattice}
 use Rattle.value_domain.specs.VersionLimits.{limits_for}
 use Rattle.depth_cert.specs.declared.keys.Key.{Key}
 use Rattle.depth_cert.specs.declared.points.Point.{Point}
 use Rattle.depth_cert.specs.Keys.{number_of_key}
 use Rattle.depth_cert.specs.Points.{find_point}
-use Rattle.depth_cert.specs.Nodes.{NodeData, need_of, find_node}
+use Rattle.depth_cert.specs.Nodes.{NodeData, need_or_zero, find_node}
 use Rattle.depth_cert.specs.Certs.{CertData}
 use Rattle.cfg_recover.specs.Code.{IsCode}
 use Rattle.cfg_recover.specs.Entries.{start_key, start_state}
-use Rattle.depth_cert.specs.Exits.{state_after_exit, ExitCovers}
-use Rattle.cfg_recover.specs.LocalRules.{LocalHolds}
+use Rattle.depth_cert.specs.Exits.{state_after_return, ExitCovers}
+use Rattle.cfg_recover.specs.LocalRules.{LocalRuleHoldsAtPoint}
 use Rattle.cfg_recover.specs.LocalFaults.{IsFaultless}
 use Rattle.cfg_recover.specs.Duties.{Duty, jump, enter, resume, leave, Owed, duties_of}
 
 -- the limits with which the rules hold or fail: those of the plan and of the certificate's format
-abbrev pub limits_in : PlanData → CertData → Limits
-limits_in plan cert = limits_for plan cert.version
+abbrev pub limits_of_cert : PlanData → CertData → Limits
+limits_of_cert plan cert = limits_for plan cert.version
 
 -- ---- points that cover a state, and duties that are met
 -- what a rule of certificates asks for, and fails without: the node has a point at this address,
@@ -35,7 +35,7 @@ HasCoveringPoint node q s = IsSomeAnd (find_point q node.points) (λ p. Covers p
 abbrev pub IsDutyMet : CertData → NodeData → State → Duty → Type 0
 IsDutyMet cert node s (jump q t) = HasCoveringPoint node q t
 IsDutyMet cert node s (enter k t) = IsSomeAnd (find_node k cert.nodes) (λ n. HasCoveringPoint n k.entry t)
-IsDutyMet cert node s (resume k q) = IfSome (find_node k cert.nodes) (λ n. IfSome n.exit (λ x. HasCoveringPoint node q (state_after_exit s x k.kind)))
+IsDutyMet cert node s (resume k q) = IfSome (find_node k cert.nodes) (λ n. IfSome n.exit (λ x. HasCoveringPoint node q (state_after_return s x k.kind)))
 IsDutyMet cert node s (leave x) = IsSomeAnd node.exit (λ y. ExitCovers y x)
 
 -- ---- needs
@@ -56,57 +56,57 @@ pub record NeedRuleHolds (image : ImageData) (plan : PlanData) (cert : CertData)
 -- A point that has no fault by itself: its values are of the plan's lattice, and no rule's own part
 -- fails there. This is its instruction.
 pub record IsLocallyFaultless (image : ImageData) (plan : PlanData) (cert : CertData) (node : NodeData) (point : Point) (shape : Shape) (n : ℕ) : Type 0 where
-  pub values : AreValues (limits_in plan cert) (point.state).regs
-  pub faultless : IsFaultless (limits_in plan cert) image plan node.key point.addr point.state
+  pub values : AreInLattice (limits_of_cert plan cert) (point.state).regs
+  pub faultless : IsFaultless (limits_of_cert plan cert) image plan node.key point.addr point.state
   pub code : IsCode image plan point.addr shape n
 
 -- the duties of a certificate's point, by its instruction
-abbrev pub owed_at : ImageData → PlanData → CertData → NodeData → Point → Shape → ℕ → List Owed
-owed_at image plan cert node point shape n = duties_of (limits_in plan cert) image plan node.key point.addr point.state shape n
+abbrev pub duties_at_point : ImageData → PlanData → CertData → NodeData → Point → Shape → ℕ → List Owed
+duties_at_point image plan cert node point shape n = duties_of (limits_of_cert plan cert) image plan node.key point.addr point.state shape n
 
 -- rule r of certificates holds at a point, else it fails there. A value outside the plan's lattice
 -- fails K2 alone; where a rule's own part fails, nothing is asked of other points or needs
 pub record RuleHolds (image : ImageData) (plan : PlanData) (cert : CertData) (node : NodeData) (point : Point) (r : ℕ) : Type 0 where
-  pub values : r ≡ 2 → AreValues (limits_in plan cert) (point.state).regs
-  pub own : AreValues (limits_in plan cert) (point.state).regs → LocalHolds (limits_in plan cert) image plan node.key point.addr point.state r
+  pub values : r ≡ 2 → AreInLattice (limits_of_cert plan cert) (point.state).regs
+  pub own : AreInLattice (limits_of_cert plan cert) (point.state).regs → LocalRuleHoldsAtPoint (limits_of_cert plan cert) image plan node.key point.addr point.state r
   pub covered :
-      (shape : Shape) (n : ℕ) (d : Owed) → IsLocallyFaultless image plan cert node point shape n → Contains (owed_at image plan cert node point shape n) d → d.rule ≡ r
+      (shape : Shape) (n : ℕ) (d : Owed) → IsLocallyFaultless image plan cert node point shape n → Contains (duties_at_point image plan cert node point shape n) d → d.rule ≡ r
       → IsDutyMet cert node point.state d.duty
   pub needs :
       (shape : Shape) (n : ℕ) → r ≡ 14 → IsLocallyFaultless image plan cert node point shape n
-      → NeedRuleHolds image plan cert node point (owed_at image plan cert node point shape n)
+      → NeedRuleHolds image plan cert node point (duties_at_point image plan cert node point shape n)
 
 -- K1 holds: the certificate has a node of the start frame, and its point at the entry covers the
 -- start state
-abbrev pub HoldsAtStart : ImageData → PlanData → CertData → Type 0
-HoldsAtStart image plan cert = IsSomeAnd (find_node (start_key image plan) cert.nodes) (λ n. HasCoveringPoint n image.entry (start_state plan))
+abbrev pub StartRuleHolds : ImageData → PlanData → CertData → Type 0
+StartRuleHolds image plan cert = IsSomeAnd (find_node (start_key image plan) cert.nodes) (λ n. HasCoveringPoint n image.entry (start_state plan))
 
 -- K2 holds at a node's entry, else it fails: there is a point, and the values of the exit, if the
 -- node has one, are of the plan's lattice
-pub record HoldsAtEntry (b : Limits) (node : NodeData) : Type 0 where
+pub record EntryRuleHolds (b : Limits) (node : NodeData) : Type 0 where
   pub point : IsSome (find_point (node.key).entry node.points)
-  pub exit : IfSome node.exit (λ x. AreValues b x.lower)
+  pub exit : IfSome node.exit (λ x. AreInLattice b x.lower)
 
 -- a rule fails in a certificate, at a key and an address: K1 at the start, K2 at a node's entry, or
 -- a rule at a point
 pub data RuleFails (image : ImageData) (plan : PlanData) (cert : CertData) : ℕ → Key → ℕ → Type 0 where
-  at_start : (HoldsAtStart image plan cert → ⊥) → RuleFails image plan cert 1 (start_key image plan) image.entry
-  at_entry : (node : NodeData) → Contains cert.nodes node → (HoldsAtEntry (limits_in plan cert) node → ⊥) → RuleFails image plan cert 2 node.key (node.key).entry
+  at_start : (StartRuleHolds image plan cert → ⊥) → RuleFails image plan cert 1 (start_key image plan) image.entry
+  at_entry : (node : NodeData) → Contains cert.nodes node → (EntryRuleHolds (limits_of_cert plan cert) node → ⊥) → RuleFails image plan cert 2 node.key (node.key).entry
   at_point :
       (node : NodeData) (point : Point) (r : ℕ) → Contains cert.nodes node → Contains node.points point → (RuleHolds image plan cert node point r → ⊥)
       → RuleFails image plan cert r node.key point.addr
 
 -- all rules of certificates hold at a node, and none fails: K2 at its entry, and each rule at each
 -- point
-pub record HoldsAtNode (image : ImageData) (plan : PlanData) (cert : CertData) (node : NodeData) : Type 0 where
-  pub entry : HoldsAtEntry (limits_in plan cert) node
+pub record RulesHoldAtNode (image : ImageData) (plan : PlanData) (cert : CertData) (node : NodeData) : Type 0 where
+  pub entry : EntryRuleHolds (limits_of_cert plan cert) node
   pub points : All (λ p. (r : ℕ) → RuleHolds image plan cert node p r) node.points
 
 -- all rules hold in a certificate, so that it is accepted: K1 at the start, K2 at the entry of each
 -- node, and each rule at each point
 pub record Accepts (image : ImageData) (plan : PlanData) (cert : CertData) : Type 0 where
-  pub start : HoldsAtStart image plan cert
-  pub nodes : All (HoldsAtNode image plan cert) cert.nodes
+  pub start : StartRuleHolds image plan cert
+  pub nodes : All (RulesHoldAtNode image plan cert) cert.nodes
 
 -- ---- the first fault
 -- a rule that fails in a certificate, as a number: by key, then by address, then by rule; if K1
@@ -118,10 +118,10 @@ fault_number r k p = (number_of_key k * 2 ^ 32 + p) * 2 ^ 4 + r
 -- it holds, the first is the least by key, address and rule
 pub record IsFirstFault (image : ImageData) (plan : PlanData) (cert : CertData) (r : ℕ) (k : Key) (p : ℕ) : Type 0 where
   pub fails : RuleFails image plan cert r k p
-  pub start : (r ≡ 1) ⊎ HoldsAtStart image plan cert
+  pub start : (r ≡ 1) ⊎ StartRuleHolds image plan cert
   pub least : (q : ℕ) (j : Key) (x : ℕ) → RuleFails image plan cert q j x → (r ≡ 1) ⊎ (fault_number r k p ≤ fault_number q j x)
 
 -- the need that is certified if the rules hold in a certificate: that of its node of the start
 -- frame, 0 without one
 abbrev pub certified_need : ImageData → PlanData → CertData → ℕ
-certified_need image plan cert = need_of (find_node (start_key image plan) cert.nodes)
+certified_need image plan cert = need_or_zero (find_node (start_key image plan) cert.nodes)

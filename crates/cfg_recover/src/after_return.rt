@@ -2,7 +2,7 @@
 ghost use Rattle.std.specs.Prelude.{◌≡◌, ◌==◌, ◌-◌, ◌<◌, nat_lt, if◌then◌else◌, slice_index_or};
 ghost use Rattle.value_domain.specs.Values.{any_val};
 ghost use Rattle.value_domain.specs.State as states;
-ghost use Rattle.depth_cert.specs.Exits.{state_after_exit, values_with_lower_from};
+ghost use Rattle.depth_cert.specs.Exits.{state_after_return, values_after_return_from};
 
 use depth_cert::{CALL, Exit};
 use value_domain::{State, Val, copy_locals};
@@ -10,7 +10,7 @@ use value_domain::{State, Val, copy_locals};
 /// Returns the abstract state of a caller after a return by `exit` from a call (`kind` is CALL) or
 /// a system call (SYS). Lower registers are the exit's; `kind` settles IE and CCPN.
 pub fn after(s: &State, exit: &Exit, kind: u8) -> State
-    ensures { result ≡ state_after_exit s.now exit.now kind }
+    ensures { result ≡ state_after_return s.now exit.now kind }
 {
     State {
         regs: regs_after_return(&s.regs, &exit.lower),
@@ -24,7 +24,7 @@ pub fn after(s: &State, exit: &Exit, kind: u8) -> State
 /// Returns a caller's register values after a return: those of the lower registers are the exit's,
 /// all others stay.
 fn regs_after_return(regs: &[Val; 27], lower: &[Val; 14]) -> [Val; 27]
-    ensures { result ≡ values_with_lower_from 0 lower.now regs.now }
+    ensures { result ≡ values_after_return_from 0 lower.now regs.now }
 {
     let mut out = std::array::from_fn(|_| Val::any());
     for (i, v) in regs.iter().enumerate() {

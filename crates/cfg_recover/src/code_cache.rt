@@ -4,8 +4,8 @@ ghost use Rattle.std.specs.Coded.{Coded-set};
 ghost use Rattle.elf_image.specs.Images.{image_byte};
 ghost use Rattle.tc_isa.specs.InBounds.{IsShape};
 ghost use Rattle.tc_encode.specs.Decoding.{decoded_of};
-ghost use Rattle.cfg_recover.specs.Code.{LocatesCode, located_code_of};
-ghost use Rattle.cfg_recover.specs.KnownCodes.{located_code_in, IsKnownCode};
+ghost use Rattle.cfg_recover.specs.Code.{FindsShapeAndSize, shape_and_size_of};
+ghost use Rattle.cfg_recover.specs.KnownCodes.{shape_and_size_of_word, IsDecodedWord};
 
 use crate::decoded_inst::decode_at;
 use crate::local_rules::Located;
@@ -29,7 +29,7 @@ pub struct KnownCodes {
 pub(crate) struct KnownCode {
     word: u32,
     found: Option<Located>,
-    ghost known: { IsKnownCode word found } by { Coded-set found-code found (located_code_in word) },
+    ghost known: { IsDecodedWord word found } by { Coded-set found-code found (shape_and_size_of_word word) },
 }
 
 impl KnownCodes {
@@ -46,7 +46,7 @@ impl KnownCodes {
     /// that is in the cache isn't decoded again.
     #[inline(always)]
     pub fn locate(&mut self, image: &Image, plan: &Plan, addr: u32) -> Option<Located>
-        ensures code { LocatesCode image.now plan.now addr result }
+        ensures code { FindsShapeAndSize image.now plan.now addr result }
         ensures shape { IfSome result (λ found. IsShape found.shape) }
     {
         if addr % 2 == 1 {
@@ -104,7 +104,7 @@ fn decode_word(word: u32) -> KnownCode
 /// instruction of two bytes has a word of these alone.
 #[inline(always)]
 fn code_cache_word(bytes: [u8; 4]) -> u32
-    ensures { located_code_in result ≡ located_code_of (decoded_of bytes) }
+    ensures { shape_and_size_of_word result ≡ shape_and_size_of (decoded_of bytes) }
 {
     code_bytes_below_256(&bytes);
     let word = u32::from_le_bytes(bytes);

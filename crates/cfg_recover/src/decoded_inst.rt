@@ -1,7 +1,7 @@
 // An instruction and its address.
 ghost use Rattle.std.specs.Prelude.{◌<◌, Some, IfSome};
 ghost use Rattle.tc_isa.specs.InBounds.{IsShape};
-ghost use Rattle.cfg_recover.specs.Code.{LocatesCode};
+ghost use Rattle.cfg_recover.specs.Code.{FindsShapeAndSize};
 
 use crate::local_rules::Located;
 use crate::rom_code::code_at;
@@ -21,7 +21,7 @@ pub(crate) struct InstAt<'a> {
 /// instruction there.
 #[inline(never)]
 pub(crate) fn decode_at(image: &Image, plan: &Plan, addr: u32) -> Option<Located>
-    ensures code { LocatesCode image.now plan.now addr result }
+    ensures code { FindsShapeAndSize image.now plan.now addr result }
     ensures shape { IfSome result (λ found. IsShape found.shape) }
 {
     let (inst, size) = code_at(image, plan, addr)?;

@@ -2,8 +2,8 @@
 ghost use Rattle.std.specs.Prelude.{◌≡◌, ◌++◌, ◌∷◌, [], ℕ, OnOk, not};
 ghost use Rattle.std.specs.List.{flat_map};
 ghost use Rattle.tc_isa.specs.InBounds.{IsShape, IsShapeAccessSize};
-ghost use Rattle.value_domain.specs.State.{AreValues};
-ghost use Rattle.vd_transfer.specs.EffectsOnStates.{address_of};
+ghost use Rattle.value_domain.specs.State.{AreInLattice};
+ghost use Rattle.vd_transfer.specs.EffectsOnStates.{address_of_access};
 ghost use Rattle.store_ranges.specs.Accesses.{are_aligned};
 ghost use Rattle.cfg_recover.specs.Entries.{call_key};
 ghost use Rattle.cfg_recover.specs.Duties.{entered_keys, entry_duties_of};
@@ -50,7 +50,7 @@ pub fn push_entered_keys(
 #[inline(always)]
 pub fn may_be_misaligned(b: &Bounds, plan: &Plan, s: &State, shape: Shape) -> bool
     requires shape { IsShape shape }
-    requires values { AreValues b.now s.now.regs }
+    requires values { AreInLattice b.now s.now.regs }
     ensures { result ≡ duties.may_be_misaligned b.now plan.now s.now shape }
 {
     match shape {
@@ -65,9 +65,9 @@ pub fn may_be_misaligned(b: &Bounds, plan: &Plan, s: &State, shape: Shape) -> bo
 #[inline(never)]
 fn has_misaligned_address(b: &Bounds, plan: &Plan, s: &State, shape: Shape, size: u8) -> bool
     requires shape { IsShape shape }
-    requires values { AreValues b.now s.now.regs }
+    requires values { AreInLattice b.now s.now.regs }
     requires size { IsShapeAccessSize size }
-    ensures { result ≡ not (are_aligned (address_of b.now plan.now shape s.now) size) }
+    ensures { result ≡ not (are_aligned (address_of_access b.now plan.now shape s.now) size) }
 {
     let _most_words = b.most_words();
     let at = address_by_shape(b, plan, shape, s);

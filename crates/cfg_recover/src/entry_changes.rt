@@ -1,11 +1,11 @@
 // How the entry of a frame changes the state of the point that enters it.
 ghost use Rattle.std.specs.Prelude.{◌≡◌, false, true};
-ghost use Rattle.value_domain.specs.Values.{IsValue, word_val};
-ghost use Rattle.value_domain.specs.State.{AreValues};
+ghost use Rattle.value_domain.specs.Values.{IsInLattice, word_val};
+ghost use Rattle.value_domain.specs.State.{AreInLattice};
 ghost use Rattle.vd_transfer.specs.Changes.{state_after};
 ghost use Rattle.cfg_recover.specs.Changes as changes;
 ghost use Rattle.cfg_recover.specs.Entries as entries;
-ghost use Rattle.cfg_recover.specs.Entries.{entry_stack_of, entry_state_with, aln_entry, sys_entry};
+ghost use Rattle.cfg_recover.specs.Entries.{entry_stack_of, state_with_stack, aln_entry, sys_entry};
 
 use arrayvec::ArrayVec;
 use depth_cert::Key;
@@ -22,10 +22,10 @@ const ALN_TIN: u32 = 4;
 /// Returns the change from a caller's abstract state to that at the entry of the called function:
 /// no locals, and `lower` is false.
 pub fn call_entry_change(b: &Bounds, s: &State) -> Change
-    requires { AreValues b.now s.now.regs }
-    ensures change { result ≡ changes.call_change s.now }
+    requires { AreInLattice b.now s.now.regs }
+    ensures change { result ≡ changes.call_entry_change s.now }
     ensures entry { state_after s.now result ≡ entries.call_entry s.now }
-    ensures values { AreValues b.now (state_after s.now result).regs }
+    ensures values { AreInLattice b.now (state_after s.now result).regs }
 {
     let mut c = identity_change(s);
     c.lower = false;
@@ -36,9 +36,9 @@ pub fn call_entry_change(b: &Bounds, s: &State) -> Change
 /// Returns the change from a point's abstract state to that at the entry of the handler of system
 /// calls, for SYSCALL `tin`.
 pub fn sys_entry_change(b: &Bounds, plan: &Plan, key: &Key, s: &State, tin: u8) -> Change
-    requires { AreValues b.now s.now.regs }
+    requires { AreInLattice b.now s.now.regs }
     ensures entry { state_after s.now result ≡ sys_entry plan.now key.now s.now tin }
-    ensures values { AreValues b.now (state_after s.now result).regs }
+    ensures values { AreInLattice b.now (state_after s.now result).regs }
 {
     let mut c = call_entry_change(b, s);
     c.first = register_write(A10, handler_entry_stack(b, plan, key, s));
@@ -50,10 +50,10 @@ pub fn sys_entry_change(b: &Bounds, plan: &Plan, key: &Key, s: &State, tin: u8) 
 /// Returns the change from a point's abstract state to that at the entry of an interrupt's handler,
 /// with this CCPN.
 pub fn handler_entry_change(b: &Bounds, plan: &Plan, key: &Key, s: &State, ccpn: u8) -> Change
-    requires { AreValues b.now s.now.regs }
+    requires { AreInLattice b.now s.now.regs }
     ensures entry { state_after s.now result
-        ≡ entry_state_with (entry_stack_of plan.now key.now s.now) false ccpn true }
-    ensures values { AreValues b.now (state_after s.now result).regs }
+        ≡ state_with_stack (entry_stack_of plan.now key.now s.now) false ccpn true }
+    ensures values { AreInLattice b.now (state_after s.now result).regs }
 {
     let _most_words = b.most_words();
     handler_entry_change_with_stack(s, handler_entry_stack(b, plan, key, s), ccpn)
@@ -62,9 +62,9 @@ pub fn handler_entry_change(b: &Bounds, plan: &Plan, key: &Key, s: &State, ccpn:
 /// Returns the change from a point's abstract state to that at the entry of the handler of
 /// misaligned accesses.
 pub fn aln_entry_change(b: &Bounds, plan: &Plan, key: &Key, s: &State) -> Change
-    requires { AreValues b.now s.now.regs }
+    requires { AreInLattice b.now s.now.regs }
     ensures entry { state_after s.now result ≡ aln_entry plan.now key.now s.now }
-    ensures values { AreValues b.now (state_after s.now result).regs }
+    ensures values { AreInLattice b.now (state_after s.now result).regs }
 {
     let _most_words = b.most_words();
     let mut c = handler_entry_change_with_stack(s, handler_entry_stack(b, plan, key, s), s.ccpn);
@@ -75,9 +75,9 @@ pub fn aln_entry_change(b: &Bounds, plan: &Plan, key: &Key, s: &State) -> Change
 /// Returns the stack pointer at the entry of a handler: the interrupt stack's start, or the point's
 /// A10 if that stack is in use.
 fn handler_entry_stack(b: &Bounds, plan: &Plan, key: &Key, s: &State) -> Val
-    requires { AreValues b.now s.now.regs }
+    requires { AreInLattice b.now s.now.regs }
     ensures stack { result ≡ entry_stack_of plan.now key.now s.now }
-    ensures value { IsValue b.now result }
+    ensures value { IsInLattice b.now result }
 {
     let _most_words = b.most_words();
     let _globals = &plan.globals;
@@ -91,7 +91,7 @@ fn handler_entry_stack(b: &Bounds, plan: &Plan, key: &Key, s: &State) -> Val
 /// Returns the abstract value of a register that the entry of a handler sets to a constant.
 fn entry_constant(b: &Bounds, x: u32) -> Val
     ensures word { result ≡ word_val x }
-    ensures value { IsValue b.now result }
+    ensures value { IsInLattice b.now result }
 {
     let _most_words = b.most_words();
     Val::one(x)
@@ -100,7 +100,7 @@ fn entry_constant(b: &Bounds, x: u32) -> Val
 /// Returns the change from a point's state to that at the entry of a handler with this stack
 /// pointer and CCPN: all else is unknown.
 fn handler_entry_change_with_stack(s: &State, sp: Val, ccpn: u8) -> Change
-    ensures { result ≡ changes.handler_change sp ccpn }
+    ensures { result ≡ changes.handler_entry_change sp ccpn }
 {
     let mut c = identity_change(s);
     c.base = Base::Any;

@@ -1,7 +1,7 @@
 // The frames that an instruction itself may enter, and how it leaves its own.
 ghost use Rattle.std.specs.Prelude.{◌≡◌, Some};
 ghost use Rattle.tc_isa.specs.Meanings.{shape_of};
-ghost use Rattle.value_domain.specs.State.{AreValues};
+ghost use Rattle.value_domain.specs.State.{AreInLattice};
 ghost use Rattle.cfg_recover.specs.Duties.{entry_duties_of, misaligned_duties_of, exit_duties_of};
 ghost use Rattle.cfg_recover.specs.FlowStates.{EntryHasValues};
 ghost use Rattle.cfg_recover.specs.FlowDuties.{duties_of_entry, rule_of_entry, duties_of_leaving, flow_leave_of};
@@ -27,7 +27,7 @@ pub(crate) fn call_flow_entry(
     s: &State,
     at: InstAt<'_>,
 ) -> Option<Enter>
-    requires { AreValues b.now s.now.regs }
+    requires { AreInLattice b.now s.now.regs }
     ensures entry { duties_of_entry (rule_of_entry result) key.now result
         ≡ entry_duties_of plan.now key.now at.entry.addr s.now
         (shape_of at.entry.inst.now) at.entry.size }
@@ -60,7 +60,7 @@ pub(crate) fn misaligned_flow_entry(
     s: &State,
     inst: &Inst,
 ) -> Option<Enter>
-    requires { AreValues b.now s.now.regs }
+    requires { AreInLattice b.now s.now.regs }
     ensures entry { duties_of_entry 10 key.now result
         ≡ misaligned_duties_of b.now plan.now key.now s.now (shape_of inst.now) }
     ensures values { EntryHasValues b.now result }

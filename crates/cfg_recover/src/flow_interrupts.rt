@@ -1,6 +1,6 @@
 // The interrupts that may be taken.
 ghost use Rattle.std.specs.Prelude.{◌≡◌, ◌≤◌, nat_lt, filter, length};
-ghost use Rattle.cfg_recover.specs.Entries.{irqs_of};
+ghost use Rattle.cfg_recover.specs.Entries.{possible_irqs_of};
 
 use arrayvec::ArrayVec;
 use tcd_plan::Plan;
@@ -9,7 +9,7 @@ use value_domain::State;
 /// Returns the priorities of the plan's interrupts that may be taken in an abstract state: those
 /// above CCPN, if IE may be on.
 pub fn possible_irqs(plan: &Plan, s: &State) -> ArrayVec<u8, 32>
-    ensures { result.items ≡ irqs_of plan.now s.now }
+    ensures { result.items ≡ possible_irqs_of plan.now s.now }
 {
     if s.ie {
         irqs_above(plan.irqs.as_slice(), s.ccpn)

@@ -1,8 +1,8 @@
 // What may follow a point.
 ghost use Rattle.std.specs.Prelude.{◌≡◌, IfErr, IfOk};
 ghost use Rattle.tc_isa.specs.Meanings.{shape_of};
-ghost use Rattle.value_domain.specs.State.{AreValues};
-ghost use Rattle.vd_transfer.specs.EffectsOnStates.{EffectHasRoom};
+ghost use Rattle.value_domain.specs.State.{AreInLattice};
+ghost use Rattle.vd_transfer.specs.EffectsOnStates.{LocalsFitInstruction};
 ghost use Rattle.cfg_recover.specs.Duties.{duties_of};
 ghost use Rattle.cfg_recover.specs.Entries.{irq_entry};
 ghost use Rattle.cfg_recover.specs.FlowStates.{FlowHasValues};
@@ -32,7 +32,7 @@ pub fn flow(
     addr: u32,
     s: &State,
 ) -> Result<Flow, u8>
-    requires { AreValues b.now s.now.regs }
+    requires { AreInLattice b.now s.now.regs }
     ensures fault { IfErr result (IsLocalFault b.now image.now plan.now key.now addr s.now) }
     ensures duties { IfOk result (FlowHasDuties b.now image.now plan.now key.now addr s.now) }
     ensures values { IfOk result (FlowHasValues b.now) }
@@ -56,8 +56,8 @@ fn flow_of_faultless_point(
     s: &State,
     at: InstAt<'_>,
 ) -> Flow
-    requires values { AreValues b.now s.now.regs }
-    requires room { EffectHasRoom b.now (shape_of at.inst.now) s.now }
+    requires values { AreInLattice b.now s.now.regs }
+    requires room { LocalsFitInstruction b.now (shape_of at.inst.now) s.now }
     ensures values { FlowHasValues b.now result }
     ensures told { duties_of_flow plan.now key.now s.now result
         ≡ duties_of b.now image.now plan.now key.now at.entry.addr s.now

@@ -3,12 +3,12 @@ ghost use Rattle.std.specs.Prelude.{◌≡◌, All, Some};
 ghost use Rattle.tc_isa.specs.InBounds.{IsShape};
 ghost use Rattle.tc_isa.specs.Meanings.{shape_of};
 ghost use Rattle.value_domain.specs.declared.states.State.{State};
-ghost use Rattle.value_domain.specs.Values.{IsValue};
-ghost use Rattle.value_domain.specs.State.{AreValues};
+ghost use Rattle.value_domain.specs.Values.{IsInLattice};
+ghost use Rattle.value_domain.specs.State.{AreInLattice};
 ghost use Rattle.vd_transfer.specs.Changes.{state_after};
-ghost use Rattle.vd_transfer.specs.EffectsOnStates.{EffectHasRoom, address_of, transfer_of};
+ghost use Rattle.vd_transfer.specs.EffectsOnStates.{LocalsFitInstruction, address_of_access, transfer_of};
 ghost use Rattle.vd_transfer.specs.Branches.{refine_of};
-ghost use Rattle.cfg_recover.specs.Duties.{jump_on, loaded_for_duties, next_duty_of, successor_duties_of};
+ghost use Rattle.cfg_recover.specs.Duties.{jump_on, value_loaded_by_shape, next_duty_of, successor_duties_of};
 ghost use Rattle.cfg_recover.specs.FlowStates.{JumpHasValues};
 ghost use Rattle.cfg_recover.specs.FlowDuties.{duties_of_jump, duties_of_jumps};
 
@@ -34,8 +34,8 @@ pub(crate) fn successor_jumps(
     s: &State,
     at: InstAt<'_>,
 ) -> [Option<Jump>; 2]
-    requires values { AreValues b.now s.now.regs }
-    requires room { EffectHasRoom b.now (shape_of at.inst.now) s.now }
+    requires values { AreInLattice b.now s.now.regs }
+    requires room { LocalsFitInstruction b.now (shape_of at.inst.now) s.now }
     ensures values { All (JumpHasValues b.now) result }
     ensures jumps { duties_of_jumps result
         ≡ successor_duties_of b.now image.now plan.now at.entry.addr s.now
@@ -71,12 +71,12 @@ pub fn write_successor_change(
     c: &mut Change,
 )
     requires shape { IsShape shape }
-    requires values { AreValues b.now s.now.regs }
-    requires room { EffectHasRoom b.now shape s.now }
+    requires values { AreInLattice b.now s.now.regs }
+    requires room { LocalsFitInstruction b.now shape s.now }
     ensures change { state_after s.now c.new
         ≡ transfer_of b.now plan.now shape s.now
-        (loaded_for_duties b.now image.now plan.now s.now shape) }
-    ensures values { AreValues b.now (state_after s.now c.new).regs }
+        (value_loaded_by_shape b.now image.now plan.now s.now shape) }
+    ensures values { AreInLattice b.now (state_after s.now c.new).regs }
 {
     match shape {
         Shape::Nothing => write_identity_change(s, c),
@@ -99,7 +99,7 @@ fn jump_on_branch_side(
     taken: bool,
     to: u32,
 ) -> Option<Jump>
-    requires { AreValues b.now s.now.regs }
+    requires { AreInLattice b.now s.now.regs }
     ensures values { JumpHasValues b.now result }
     ensures jump { duties_of_jump result
         ≡ jump_on to (refine_of b.now plan.now (shape_of inst.now) s.now taken) }
@@ -113,8 +113,8 @@ fn jump_on_branch_side(
 
 /// Returns the jump of a point's Flow to the next instruction, with the state after this one.
 fn jump_to_next(b: &Bounds, image: &Image, plan: &Plan, s: &State, at: InstAt<'_>) -> Jump
-    requires values { AreValues b.now s.now.regs }
-    requires room { EffectHasRoom b.now (shape_of at.inst.now) s.now }
+    requires values { AreInLattice b.now s.now.regs }
+    requires room { LocalsFitInstruction b.now (shape_of at.inst.now) s.now }
     ensures values { JumpHasValues b.now (Some result) }
     ensures jump { duties_of_jump (Some result)
         ≡ next_duty_of b.now image.now plan.now at.entry.addr s.now
@@ -152,10 +152,10 @@ fn write_identity_change(s: &State, c: &mut Change)
 /// any word if the instruction isn't a load.
 fn write_loaded_value(b: &Bounds, image: &Image, plan: &Plan, shape: Shape, at: &Val, out: &mut Val)
     requires shape { IsShape shape }
-    requires value { IsValue b.now at.now }
-    ensures loaded { (s : State) → at.now ≡ address_of b.now plan.now shape s
-        → out.new ≡ loaded_for_duties b.now image.now plan.now s shape }
-    ensures value { IsValue b.now out.new }
+    requires value { IsInLattice b.now at.now }
+    ensures loaded { (s : State) → at.now ≡ address_of_access b.now plan.now shape s
+        → out.new ≡ value_loaded_by_shape b.now image.now plan.now s shape }
+    ensures value { IsInLattice b.now out.new }
 {
     let _most_words = b.most_words();
     match shape {

@@ -3,10 +3,10 @@ ghost use Rattle.std.specs.Prelude.{◌≡◌, ◌<◌, ◌≤◌, ◌-◌, ◌*
 ghost use Rattle.tcd_plan.specs.PlanData.{PlanData};
 ghost use Rattle.tc_isa.specs.InBounds.{IsTarget};
 ghost use Rattle.value_domain.specs.declared.states.State.{State};
-ghost use Rattle.value_domain.specs.Sets.{Among, AreWords, IsAscending, sorted_set_of, sorted_insert};
+ghost use Rattle.value_domain.specs.Sets.{Among, AreSetWords, IsAscending, sorted_set_of, sorted_insert};
 ghost use Rattle.vd_transfer.specs.Registers.{reg_of};
 ghost use Rattle.cfg_recover.specs.LocalRules as rules;
-ghost use Rattle.cfg_recover.specs.LocalRules.{targets_named_by, targets_of};
+ghost use Rattle.cfg_recover.specs.LocalRules.{targets_of_value, targets_of};
 
 use arrayvec::ArrayVec;
 use tc_isa::Target;
@@ -55,7 +55,7 @@ pub(crate) fn one_target(x: u32) -> ArrayVec<u32, 128>
 #[inline(never)]
 fn targets_in_register(plan: &Plan, s: &State, r: u8) -> ArrayVec<u32, 128>
     requires { r < 32 }
-    ensures { result.items ≡ unwrap_or (targets_named_by (reg_of plan.now s.now r)) [] }
+    ensures { result.items ≡ unwrap_or (targets_of_value (reg_of plan.now s.now r)) [] }
 {
     targets_of_value(&reg(plan, s, r))
 }
@@ -63,7 +63,7 @@ fn targets_in_register(plan: &Plan, s: &State, r: u8) -> ArrayVec<u32, 128>
 /// Returns the targets of a jump or call by a register with this value: a Set's words with bit 0
 /// cleared, none for a Span.
 fn targets_of_value(v: &Val) -> ArrayVec<u32, 128>
-    ensures { result.items ≡ unwrap_or (targets_named_by v.now) [] }
+    ensures { result.items ≡ unwrap_or (targets_of_value v.now) [] }
 {
     match v {
         Val::Set(words) => even_targets(words.as_slice()),
@@ -73,7 +73,7 @@ fn targets_of_value(v: &Val) -> ArrayVec<u32, 128>
 
 /// Returns the targets that these ascending words name, each once: the words with bit 0 cleared.
 fn even_targets(words: &[u32]) -> ArrayVec<u32, 128>
-    requires { AreWords words.now }
+    requires { AreSetWords words.now }
     ensures { result.items ≡ sorted_set_of (map (λ w. w / 2 * 2) words.now) }
 {
     let mut evened = ArrayVec::new();

@@ -5,16 +5,16 @@ ghost use Rattle.tc_isa.specs.InBounds.{IsArg, IsShape, IsShapeAccessSize, IsTar
 ghost use Rattle.tc_isa.specs.declared.shapes.Shape.TheVariants.{Ret, Rfe};
 ghost use Rattle.value_domain.specs.Values.{IsWellFormed, word_val};
 ghost use Rattle.vd_transfer.specs.Registers.{IncreasesNoFixedRegister, RegisterHasValue};
-ghost use Rattle.cfg_recover.specs.LocalRules.{targets_named_by, targets_of, MayReturn, MayReturnFromException, StoresInRangeAt, MayAccessAt};
+ghost use Rattle.cfg_recover.specs.LocalRules.{targets_of_value, targets_of, MayReturn, MayReturnFromException, StoresInRangeAtValue, MayAccessAtValue};
 ghost use Rattle.store_ranges.specs.Accesses.{are_aligned};
 ghost use Rattle.cfg_recover.specs.LocalFaults.{IsLocalFault, IsLeastLocalFault, IsAccessFault, IsFaultlessShape, IsFaultlessInst};
 ghost use Rattle.elf_image.specs.Images.{ImageData};
 ghost use Rattle.tc_isa.specs.Meanings.{shape_of};
 ghost use Rattle.value_domain.specs.declared.states.State.{State};
-ghost use Rattle.value_domain.specs.State.{AreValues};
-ghost use Rattle.cfg_recover.specs.Code.{LocatesCode};
+ghost use Rattle.value_domain.specs.State.{AreInLattice};
+ghost use Rattle.cfg_recover.specs.Code.{FindsShapeAndSize};
 ghost use Rattle.value_domain.specs.Limits.{Limits};
-ghost use Rattle.vd_transfer.specs.EffectsOnStates.{access_of, address_of};
+ghost use Rattle.vd_transfer.specs.EffectsOnStates.{access_of, address_of_access};
 
 use crate::rom_code::code_at;
 use depth_cert::{ALN, CALL, IRQ, Key, SYS};
@@ -70,7 +70,7 @@ pub fn check_local_rules(
     addr: u32,
     s: &State,
 ) -> Result<Located, u8>
-    requires { AreValues b.now s.now.regs }
+    requires { AreInLattice b.now s.now.regs }
     ensures found { IfOk result (IsFaultlessShape b.now image.now plan.now key.now addr s.now) }
     ensures fault { IfErr result (IsLocalFault b.now image.now plan.now key.now addr s.now) }
 {
@@ -97,7 +97,7 @@ pub(crate) fn check_local_rules_of_inst(
     addr: u32,
     s: &State,
 ) -> Result<(Inst, u32), u8>
-    requires { AreValues b.now s.now.regs }
+    requires { AreInLattice b.now s.now.regs }
     ensures { MatchResult result
         (IsFaultlessInst b.now image.now plan.now key.now addr s.now)
         (IsLocalFault b.now image.now plan.now key.now addr s.now) }
@@ -120,11 +120,11 @@ pub fn check_decoded<'a>(
     s: &State,
     located: &'a Option<Located>,
 ) -> Result<&'a Located, u8>
-    requires values { AreValues b.now s.now.regs }
+    requires values { AreInLattice b.now s.now.regs }
     requires shape { IfSome located.now (λ found. IsShape found.shape) }
-    ensures found { (image : ImageData) (p : ℕ) → LocatesCode image plan.now p located.now
+    ensures found { (image : ImageData) (p : ℕ) → FindsShapeAndSize image plan.now p located.now
         → IfOk result (λ found. IsFaultlessShape b.now image plan.now key.now p s.now found.now) }
-    ensures fault { (image : ImageData) (p : ℕ) → LocatesCode image plan.now p located.now
+    ensures fault { (image : ImageData) (p : ℕ) → FindsShapeAndSize image plan.now p located.now
         → IfErr result (IsLocalFault b.now image plan.now key.now p s.now) }
 {
     let Some(found) = located else {
@@ -139,7 +139,7 @@ pub fn check_decoded<'a>(
 /// Returns the least rule whose own part fails at a point's instruction, or `None` if there is no
 /// such rule.
 pub(crate) fn local_fault(b: &Bounds, plan: &Plan, key: &Key, s: &State, inst: &Inst) -> Option<u8>
-    requires { AreValues b.now s.now.regs }
+    requires { AreInLattice b.now s.now.regs }
     ensures { (p : ℕ) → IsLeastLocalFault b.now plan.now key.now p s.now
         (shape_of inst.now) result }
 {
@@ -156,7 +156,7 @@ pub(crate) fn first_local_fault(
     shape: &Shape,
 ) -> Option<u8>
     requires shape { IsShape shape.now }
-    requires values { AreValues b.now s.now.regs }
+    requires values { AreInLattice b.now s.now.regs }
     ensures { (p : ℕ) → IsLeastLocalFault b.now plan.now key.now p s.now shape.now result }
 {
     match *shape {
@@ -210,7 +210,7 @@ pub fn broken_rule_unless(holds: bool, rule: u8) -> Option<u8>
 /// fails, or `None`.
 pub(crate) fn access_fault_at_word(plan: &Plan, x: u32, shape: Shape) -> Option<u8>
     requires shape { IsShape shape }
-    ensures { (b : Limits) (s : State) → address_of b plan.now shape s ≡ word_val x
+    ensures { (b : Limits) (s : State) → address_of_access b plan.now shape s ≡ word_val x
         → IsAccessFault b plan.now s shape result }
 {
     if !may_store_at_word(plan, x, shape) {
@@ -227,7 +227,7 @@ pub(crate) fn access_fault_at_word(plan: &Plan, x: u32, shape: Shape) -> Option<
 #[inline(never)]
 pub(crate) fn access_fault_at_value(b: &Bounds, plan: &Plan, s: &State, shape: Shape) -> Option<u8>
     requires shape { IsShape shape }
-    requires values { AreValues b.now s.now.regs }
+    requires values { AreInLattice b.now s.now.regs }
     ensures { IsAccessFault b.now plan.now s.now shape result }
 {
     let mut at = Val::any();
@@ -287,7 +287,7 @@ pub(crate) fn may_restore_lower_context(s: &State) -> bool
 pub(crate) fn may_store_at_value(plan: &Plan, at: &Val, shape: Shape) -> bool
     requires shape { IsShape shape }
     requires well { IsWellFormed at.now }
-    ensures { IsTrue result ↔ StoresInRangeAt plan.now at.now shape }
+    ensures { IsTrue result ↔ StoresInRangeAtValue plan.now at.now shape }
 {
     match shape {
         Shape::Store { size, .. } => store_ok(plan, at, size),
@@ -298,7 +298,7 @@ pub(crate) fn may_store_at_value(plan: &Plan, at: &Val, shape: Shape) -> bool
 /// Tests K9 for an instruction with only one address: true if a store there is wholly in one ram
 /// range or one peripheral range.
 pub(crate) fn may_store_at_word(plan: &Plan, x: u32, shape: Shape) -> bool
-    ensures { IsTrue result ↔ StoresInRangeAt plan.now (word_val x) shape }
+    ensures { IsTrue result ↔ StoresInRangeAtValue plan.now (word_val x) shape }
 {
     match shape {
         Shape::Store { size, .. } => is_store_in_range(plan, x, size),
@@ -311,7 +311,7 @@ pub(crate) fn may_store_at_word(plan: &Plan, x: u32, shape: Shape) -> bool
 pub(crate) fn may_access_at_value(plan: &Plan, at: &Val, shape: Shape) -> bool
     requires shape { IsShape shape }
     requires well { IsWellFormed at.now }
-    ensures { IsTrue result ↔ MayAccessAt plan.now at.now shape }
+    ensures { IsTrue result ↔ MayAccessAtValue plan.now at.now shape }
 {
     match shape {
         Shape::Load { size, .. } => is_aligned_or_trap_stated(plan, at, size),
@@ -324,7 +324,7 @@ pub(crate) fn may_access_at_value(plan: &Plan, at: &Val, shape: Shape) -> bool
 /// states the trap of misaligned accesses.
 pub(crate) fn may_access_at_word(plan: &Plan, x: u32, shape: Shape) -> bool
     requires { IsShape shape }
-    ensures { IsTrue result ↔ MayAccessAt plan.now (word_val x) shape }
+    ensures { IsTrue result ↔ MayAccessAtValue plan.now (word_val x) shape }
 {
     match shape {
         Shape::Load { size, .. } => is_word_aligned_or_trap_stated(plan, x, size),
@@ -343,7 +343,7 @@ pub(crate) fn may_call_system(plan: &Plan) -> bool
 /// Tries K9, then K10, for a load or store. Returns the first whose own part fails, or `None`.
 fn access_fault(b: &Bounds, plan: &Plan, s: &State, shape: Shape) -> Option<u8>
     requires shape { IsShape shape }
-    requires values { AreValues b.now s.now.regs }
+    requires values { AreInLattice b.now s.now.regs }
     ensures { IsAccessFault b.now plan.now s.now shape result }
 {
     match single_address_by_shape(b, plan, s, shape) {
@@ -354,11 +354,11 @@ fn access_fault(b: &Bounds, plan: &Plan, s: &State, shape: Shape) -> Option<u8>
 
 /// Returns the address that the own parts of K9 and K10 test, if the instruction is a load or a
 /// store whose base has only one word.
-#[tactic(auto, unfolding(vd_transfer::specs::EffectsOnStates::address_of))]
+#[tactic(auto, unfolding(vd_transfer::specs::EffectsOnStates::address_of_access))]
 fn single_address_by_shape(b: &Bounds, plan: &Plan, s: &State, shape: Shape) -> Option<u32>
     requires shape { IsShape shape }
-    requires values { AreValues b.now s.now.regs }
-    ensures { IfSome result (λ x. address_of b.now plan.now shape s.now ≡ word_val x) }
+    requires values { AreInLattice b.now s.now.regs }
+    ensures { IfSome result (λ x. address_of_access b.now plan.now shape s.now ≡ word_val x) }
 {
     match shape {
         Shape::Load {
@@ -389,7 +389,7 @@ fn single_address_by_base(
     after: bool,
 ) -> Option<u32>
     requires base { IsArg base }
-    requires values { AreValues b.now s.now.regs }
+    requires values { AreInLattice b.now s.now.regs }
     ensures { IfSome result (λ x. access_of b.now plan.now s.now base offset after ≡ word_val x) }
 {
     let _most_words = b.most_words();
@@ -405,7 +405,7 @@ fn single_address_by_base(
 /// Tests what K5 asks of a register that names targets: its value is a Set. Its words with bit 0
 /// cleared are the targets.
 fn is_set_of_targets(v: &Val) -> bool
-    ensures { IsTrue result ↔ IsSome (targets_named_by v.now) }
+    ensures { IsTrue result ↔ IsSome (targets_of_value v.now) }
 {
     match v {
         Val::Set(_) => true,
@@ -484,7 +484,7 @@ pub(crate) fn keeps_fixed_base(base: Arg, after: bool) -> bool
 
 /// Tests K13 for one register: true unless it is one of the fixed ones, A0, A1, A8, A9 and A11, for
 /// which a state has no value.
-#[tactic(auto, unfolding(vd_transfer::specs::Registers::slot))]
+#[tactic(auto, unfolding(vd_transfer::specs::Registers::register_slot))]
 pub(crate) fn may_write_register(r: u8) -> bool
     ensures { IsTrue result ↔ RegisterHasValue r }
 {

@@ -3,11 +3,11 @@ ghost use Rattle.std.specs.Prelude.{◌≡◌, ◌↔◌, IsTrue, IfSome};
 ghost use Rattle.value_domain.specs.declared.values.Val.{Val};
 ghost use Rattle.value_domain.specs.declared.values.Val.TheVariants.{Set};
 ghost use Rattle.value_domain.specs.Limits.{Limits};
-ghost use Rattle.value_domain.specs.State.{AreValues};
+ghost use Rattle.value_domain.specs.State.{AreInLattice};
 ghost use Rattle.tc_isa.specs.InBounds.{IsShape};
 ghost use Rattle.vd_transfer.specs.Changes.{state_after};
 ghost use Rattle.vd_transfer.specs.EffectsOnStates.{transfer_of};
-ghost use Rattle.cfg_recover.specs.SetOperations.{IsSetOperand, IsSetOperation, IsSameOperation, HoldsCachedResult, HoldsCachedResults};
+ghost use Rattle.cfg_recover.specs.SetOperations.{IsSetOperand, IsSetOperation, IsSameOperation, IsCorrectEntry, IsCorrectCache};
 
 use tc_isa::{Arg, Op, Shape};
 use tcd_plan::Plan;
@@ -111,7 +111,7 @@ impl CachedOperation {
     /// An empty entry.
     #[inline(never)]
     fn empty() -> CachedOperation
-        ensures { (b : Limits) → HoldsCachedResult b result }
+        ensures { (b : Limits) → IsCorrectEntry b result }
     {
         CachedOperation {
             op: None,
@@ -133,13 +133,13 @@ impl CachedOperation {
         c: &mut Change,
     )
         requires shape { IsShape operation.shape }
-        requires values { AreValues b.now s.now.regs }
+        requires values { AreInLattice b.now s.now.regs }
         requires operation { IsSetOperation s.now operation }
-        requires results { HoldsCachedResult b.now self.old }
+        requires results { IsCorrectEntry b.now self.old }
         ensures change { (loaded : Val) → state_after s.now c.new
             ≡ transfer_of b.now plan.now operation.entry.shape s.now loaded }
-        ensures values { AreValues b.now (state_after s.now c.new).regs }
-        ensures results { HoldsCachedResult b.now self.new }
+        ensures values { AreInLattice b.now (state_after s.now c.new).regs }
+        ensures results { IsCorrectEntry b.now self.new }
     {
         let _regs = &s.regs[..];
         let place = operation.dst as usize;
@@ -177,7 +177,7 @@ impl OperationCache {
     /// A cache without results.
     #[inline(always)]
     pub fn empty() -> OperationCache
-        ensures { (b : Limits) → HoldsCachedResults b result }
+        ensures { (b : Limits) → IsCorrectCache b result }
     {
         OperationCache {
             zero: CachedOperation::empty(),
@@ -199,12 +199,12 @@ impl OperationCache {
         c: &mut Change,
     ) -> bool
         requires shape { IsShape shape }
-        requires values { AreValues b.now s.now.regs }
-        requires results { HoldsCachedResults b.now self.old }
+        requires values { AreInLattice b.now s.now.regs }
+        requires results { IsCorrectCache b.now self.old }
         ensures change { IsTrue result → (loaded : Val) → state_after s.now c.new
             ≡ transfer_of b.now plan.now shape s.now loaded }
-        ensures values { IsTrue result → AreValues b.now (state_after s.now c.new).regs }
-        ensures results { HoldsCachedResults b.now self.new }
+        ensures values { IsTrue result → AreInLattice b.now (state_after s.now c.new).regs }
+        ensures results { IsCorrectCache b.now self.new }
     {
         let Some(operation) = cacheable_operation(shape, s) else {
             return false;

@@ -2,7 +2,7 @@
 ghost use Rattle.std.specs.Prelude.{◌≡◌, ◌≤◌, ◌+◌, ◌^◌, ◌↔◌, [], ◌∷◌, IsTrue, IfSome};
 ghost use Rattle.tcd_base.specs.Ranges.{IsInOneRange};
 ghost use Rattle.elf_image.specs.Images.{image_byte, segment_data};
-ghost use Rattle.cfg_recover.specs.HeldBytes.{held_bytes, SegmentHoldsBytes, FindsHeldBytes};
+ghost use Rattle.cfg_recover.specs.HeldBytes.{image_bytes_at, SegmentHoldsBytes, FindsRomBytes};
 ghost use Rattle.cfg_recover.specs.Code.{FindsCodeInBytes, FindsCode};
 
 use elf_image::{Image, Segment};
@@ -39,7 +39,7 @@ pub(crate) fn four_bytes_in_rom(
     addr: u32,
     near: &mut usize,
 ) -> Option<[u8; 4]>
-    ensures { FindsHeldBytes image.now plan.now addr 4 result }
+    ensures { FindsRomBytes image.now plan.now addr 4 result }
 {
     if are_bytes_in_rom(plan, addr, 4) {
         four_code_bytes(image, addr, near)
@@ -78,7 +78,7 @@ fn code_in_bytes(bytes: &[u8]) -> Option<(Inst, u32)>
 /// them.
 #[inline(always)]
 fn two_bytes_in_rom(image: &Image, plan: &Plan, addr: u32) -> Option<[u8; 2]>
-    ensures { FindsHeldBytes image.now plan.now addr 2 result }
+    ensures { FindsRomBytes image.now plan.now addr 2 result }
 {
     if are_bytes_in_rom(plan, addr, 2) {
         two_code_bytes(image, addr)
@@ -100,7 +100,7 @@ pub fn are_bytes_in_rom(plan: &Plan, addr: u32, count: u32) -> bool
 #[inline(always)]
 fn two_code_bytes(image: &Image, addr: u32) -> Option<[u8; 2]>
     requires { addr + 2 ≤ 2 ^ 32 }
-    ensures { result ≡ held_bytes image.now addr 2 }
+    ensures { result ≡ image_bytes_at image.now addr 2 }
 {
     let first = image.byte(addr)?;
     let second = image.byte(addr + 1)?;
@@ -112,7 +112,7 @@ fn two_code_bytes(image: &Image, addr: u32) -> Option<[u8; 2]>
 #[inline(always)]
 fn four_code_bytes(image: &Image, addr: u32, near: &mut usize) -> Option<[u8; 4]>
     requires { addr + 4 ≤ 2 ^ 32 }
-    ensures { result ≡ held_bytes image.now addr 4 }
+    ensures { result ≡ image_bytes_at image.now addr 4 }
 {
     if let Some(segment) = image.segments.get(*near) {
         if let Some(bytes) = four_code_bytes_in_segment(segment, addr) {
@@ -143,7 +143,7 @@ fn four_code_bytes_in_segment(segment: &Segment, addr: u32) -> Option<[u8; 4]>
 #[inline(never)]
 fn four_code_bytes_anywhere(image: &Image, addr: u32, near: &mut usize) -> Option<[u8; 4]>
     requires { addr + 4 ≤ 2 ^ 32 }
-    ensures { result ≡ held_bytes image.now addr 4 }
+    ensures { result ≡ image_bytes_at image.now addr 4 }
 {
     for (number, segment) in image.segments.iter().enumerate() {
         if let Some(bytes) = four_code_bytes_in_segment(segment, addr) {
@@ -159,7 +159,7 @@ fn four_code_bytes_anywhere(image: &Image, addr: u32, near: &mut usize) -> Optio
 #[inline(never)]
 fn four_code_bytes_one_by_one(image: &Image, addr: u32) -> Option<[u8; 4]>
     requires { addr + 4 ≤ 2 ^ 32 }
-    ensures { result ≡ held_bytes image.now addr 4 }
+    ensures { result ≡ image_bytes_at image.now addr 4 }
 {
     let first = image.byte(addr)?;
     let second = image.byte(addr + 1)?;

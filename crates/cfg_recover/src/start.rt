@@ -11,7 +11,7 @@ use value_domain::{A10_SLOT, State, Val};
 
 /// Returns the abstract state in which a run starts: only A10, IE and CCPN are known, from the
 /// plan.
-#[tactic(auto, unfolding(vd_transfer::specs::Registers::slot))]
+#[tactic(auto, unfolding(vd_transfer::specs::Registers::register_slot))]
 pub fn start_state(plan: &Plan) -> State
     ensures { result ≡ entries.start_state plan.now }
 {

@@ -30,8 +30,8 @@ ul_of V16 word = word / 2 ^ 20 % 2 == 1
 -- ---- what a save writes
 -- The 16 words of the upper context: PCXI, PSW, A10, A11, D8 to D11, A12 to A15, D12 to D15
 -- (manual, volume 1, context management).
-abbrev pub upper_words_of : ℕ → ℕ → List ℕ → List ℕ → List ℕ
-upper_words_of pcxi psw d a =
+abbrev pub upper_context_words : ℕ → ℕ → List ℕ → List ℕ → List ℕ
+upper_context_words pcxi psw d a =
     pcxi ∷ psw ∷ slice_index a 10 ∷ slice_index a 11
     ∷ slice_index d 8 ∷ slice_index d 9 ∷ slice_index d 10 ∷ slice_index d 11
     ∷ slice_index a 12 ∷ slice_index a 13 ∷ slice_index a 14 ∷ slice_index a 15
@@ -39,8 +39,8 @@ upper_words_of pcxi psw d a =
 
 -- The 16 words of the lower context: PCXI, A11, A2, A3, D0 to D3, A4 to A7, D4 to D7 (manual,
 -- volume 1, context management).
-abbrev pub lower_words_of : ℕ → List ℕ → List ℕ → List ℕ
-lower_words_of pcxi d a =
+abbrev pub lower_context_words : ℕ → List ℕ → List ℕ → List ℕ
+lower_context_words pcxi d a =
     pcxi ∷ slice_index a 11 ∷ slice_index a 2 ∷ slice_index a 3
     ∷ slice_index d 0 ∷ slice_index d 1 ∷ slice_index d 2 ∷ slice_index d 3
     ∷ slice_index a 4 ∷ slice_index a 5 ∷ slice_index a 6 ∷ slice_index a 7
@@ -49,8 +49,8 @@ lower_words_of pcxi d a =
 -- ---- what a restore reads
 -- D0 to D15 after an upper context is restored: D8 to D15 are the context's (manual, volume 1,
 -- context management).
-abbrev pub d_after_upper : List ℕ → List ℕ → List ℕ
-d_after_upper words d =
+abbrev pub d_after_upper_restore : List ℕ → List ℕ → List ℕ
+d_after_upper_restore words d =
     slice_index d 0 ∷ slice_index d 1 ∷ slice_index d 2 ∷ slice_index d 3
     ∷ slice_index d 4 ∷ slice_index d 5 ∷ slice_index d 6 ∷ slice_index d 7
     ∷ slice_index words 4 ∷ slice_index words 5 ∷ slice_index words 6 ∷ slice_index words 7
@@ -58,8 +58,8 @@ d_after_upper words d =
 
 -- A0 to A15 after an upper context is restored: A10 to A15 are the context's (manual, volume 1,
 -- context management).
-abbrev pub a_after_upper : List ℕ → List ℕ → List ℕ
-a_after_upper words a =
+abbrev pub a_after_upper_restore : List ℕ → List ℕ → List ℕ
+a_after_upper_restore words a =
     slice_index a 0 ∷ slice_index a 1 ∷ slice_index a 2 ∷ slice_index a 3
     ∷ slice_index a 4 ∷ slice_index a 5 ∷ slice_index a 6 ∷ slice_index a 7
     ∷ slice_index a 8 ∷ slice_index a 9 ∷ slice_index words 2 ∷ slice_index words 3
@@ -67,8 +67,8 @@ a_after_upper words a =
 
 -- D0 to D15 after the words of a lower context are restored: D0 to D7 are the context's (manual,
 -- volume 1, context management)
-abbrev pub d_after_lower : List ℕ → List ℕ → List ℕ
-d_after_lower words d =
+abbrev pub d_after_lower_restore : List ℕ → List ℕ → List ℕ
+d_after_lower_restore words d =
     slice_index words 4 ∷ slice_index words 5 ∷ slice_index words 6 ∷ slice_index words 7
     ∷ slice_index words 12 ∷ slice_index words 13 ∷ slice_index words 14 ∷ slice_index words 15
     ∷ slice_index d 8 ∷ slice_index d 9 ∷ slice_index d 10 ∷ slice_index d 11
@@ -76,8 +76,8 @@ d_after_lower words d =
 
 -- A0 to A15 after the words of a lower context were loaded: A2 to A7 and A11 are the context's
 -- (manual, volume 1, context management)
-abbrev pub a_after_lower : List ℕ → List ℕ → List ℕ
-a_after_lower words a =
+abbrev pub a_after_lower_restore : List ℕ → List ℕ → List ℕ
+a_after_lower_restore words a =
     slice_index a 0 ∷ slice_index a 1 ∷ slice_index words 2 ∷ slice_index words 3
     ∷ slice_index words 8 ∷ slice_index words 9 ∷ slice_index words 10 ∷ slice_index words 11
     ∷ slice_index a 8 ∷ slice_index a 9 ∷ slice_index a 10 ∷ slice_index words 1
@@ -85,18 +85,18 @@ a_after_lower words a =
 
 -- ---- the registers of each context
 -- an upper context has the register Dr
-abbrev pub is_upper_d : ℕ → Bool
-is_upper_d r = nat_le 8 r
+abbrev pub is_d_in_upper_context : ℕ → Bool
+is_d_in_upper_context r = nat_le 8 r
 
 -- a lower context has the register Dr
-abbrev pub is_lower_d : ℕ → Bool
-is_lower_d r = nat_lt r 8
+abbrev pub is_d_in_lower_context : ℕ → Bool
+is_d_in_lower_context r = nat_lt r 8
 
 -- the words of an upper context have the register Ar, for r from 10 on; A11 is in both contexts,
 -- A0, A1, A8 and A9 are in neither
-abbrev pub is_upper_a : ℕ → Bool
-is_upper_a r = nat_le 10 r
+abbrev pub is_a_in_upper_context : ℕ → Bool
+is_a_in_upper_context r = nat_le 10 r
 
 -- a lower context has the register Ar
-abbrev pub is_lower_a : ℕ → Bool
-is_lower_a r = (nat_le 2 r && nat_le r 7) || (r == 11)
+abbrev pub is_a_in_lower_context : ℕ → Bool
+is_a_in_lower_context r = (nat_le 2 r && nat_le r 7) || (r == 11)

@@ -16,7 +16,7 @@ use Rattle.depth_cert.specs.declared.keys.Key.{Key}
 use Rattle.depth_cert.specs.declared.points.Exit.{Exit}
 use Rattle.depth_cert.specs.declared.points.Point.{Point}
 use Rattle.depth_cert.specs.Keys.{cert_flag_byte, key_number, number_of_key, IsKey}
-use Rattle.depth_cert.specs.Points.{IsState, IsPoint, ArePoints, addresses}
+use Rattle.depth_cert.specs.Points.{IsState, IsPoint, AreAscendingPoints, addresses}
 use Rattle.depth_cert.specs.Exits.{IsExit}
 use Rattle.depth_cert.specs.Nodes.{NodeData, IsNode, count_points, key_numbers}
 use Rattle.depth_cert.specs.Certs.{CertData, IsCert}
@@ -57,7 +57,7 @@ state_read version s h =
     (λ p2. seq (locals_at version) _ (length ls ∷ map cert_flag_byte ls) (regs ++ []) ls s (locals_read version ls h.locals)
     (λ p3. seq (values_at version 27) _ regs [] s.regs s (values_read version 27 s.regs h.values h.regs) (λ p4. done s))))))
 
-pub point_read : (version : ℕ) (all before : List Point) (x : Point) (after : List Point) → ArePoints all → All (IsPoint version) all → all ≡ before ++ (x ∷ after) → IsRead (point_after version before) (bytes_of_point x) x
+pub point_read : (version : ℕ) (all before : List Point) (x : Point) (after : List Point) → AreAscendingPoints all → All (IsPoint version) all → all ≡ before ++ (x ∷ after) → IsRead (point_after version before) (bytes_of_point x) x
 unfolding point_after address_after bytes_of_point
 point_read version all before x after rising each e =
     let good : IsPoint version x = one_of (IsPoint version) all before x after each e in
@@ -68,7 +68,7 @@ point_read version all before x after rising each e =
     (seq u32_at (λ p a. valid_field_or_fault 3 (is_above_last_read (last_number_read (addresses before)) a.0) p a) (bytes_of_word x.addr) [] x.addr x.addr (word x.addr good.addr) (λ p0. test 3 (is_above_last_read (last_number_read (addresses before)) x.addr) p0 x.addr above)))
     (λ p1. seq (state_at version) _ (bytes_of_state x.state) [] x.state x (state_read version x.state good.state) (λ p2. done x)))
 
-pub points_read : (version used : ℕ) (ps : List Point) → ArePoints ps → All (IsPoint version) ps → used + length ps ≤ 2 ^ 16 → IsRead (points_at version used) (bytes_of_word (length ps) ++ flat_map bytes_of_point ps) ps
+pub points_read : (version used : ℕ) (ps : List Point) → AreAscendingPoints ps → All (IsPoint version) ps → used + length ps ≤ 2 ^ 16 → IsRead (points_at version used) (bytes_of_word (length ps) ++ flat_map bytes_of_point ps) ps
 unfolding points_at point_count_at
 points_read version used ps rising each few =
     seq (point_count_at used) _ (bytes_of_word (length ps)) (flat_map bytes_of_point ps) (length ps) ps

@@ -12,7 +12,7 @@ use Rattle.value_domain.specs.VersionLimits.{most_locals_of}
 use Rattle.depth_cert.specs.declared.keys.Key.{Key}
 use Rattle.depth_cert.specs.declared.points.Point.{Point}
 use Rattle.depth_cert.specs.Keys.{cert_flag_byte, key_number, number_of_key, IsKey}
-use Rattle.depth_cert.specs.Points.{IsState, IsPoint, ArePoints, addresses}
+use Rattle.depth_cert.specs.Points.{IsState, IsPoint, AreAscendingPoints, addresses}
 use Rattle.depth_cert.specs.Grammar.{valid_field_or_fault, is_above_last_read, last_number_read, flag_at, values_at, locals_at, state_at, address_after, point_after, key_after, point_count_at, points_at}
 use Rattle.depth_cert.specs.Spelling.{bytes_of_value, bytes_of_state, bytes_of_point, bytes_of_key}
 use Rattle.depth_cert.proofs.ManyLaws.{rising_map_push}
@@ -74,7 +74,7 @@ point_bytes p = refl
 
 -- points that ascend
 pub record ArePointsOf (version : ℕ) (ps : List Point) : Type 0 where
-  pub rising : ArePoints ps
+  pub rising : AreAscendingPoints ps
   pub each : All (IsPoint version) ps
 
 point_passed : (version : ℕ) (before : List Point) (front rest : List ℕ) (p : Point) (q : Place) → AreBytes rest → ArePointsOf version before → point_after version before (place_between front rest) ≡ Ok (p, q)

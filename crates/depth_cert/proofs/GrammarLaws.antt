@@ -12,7 +12,7 @@ use Rattle.tcd_base.specs.FieldReaders.{u8_at, u32_at, many_fields_at, field_fau
 use Rattle.tcd_base.proofs.FieldReads.{bind_ok}
 use Rattle.value_domain.specs.declared.values.Val.{Val}
 use Rattle.value_domain.specs.declared.values.Val.TheVariants.{Set, Span}
-use Rattle.value_domain.specs.Values.{any_val, span_len, is_any_span}
+use Rattle.value_domain.specs.Values.{any_val, span_len, is_span_of_all_words}
 use Rattle.value_domain.specs.VersionLimits.{most_words_of, most_locals_of}
 use Rattle.value_domain.proofs.WordLaws.{rising_from, among_place}
 use Rattle.depth_cert.specs.Keys.{cert_flag_byte}
@@ -86,7 +86,7 @@ set_passed version n front rest v q bytes some few e =
     let m = many_passed set_word_after bytes_of_word AreAscending word_after_passed n [] b.0.0 front rest b.0.1 bytes (record { rising = λ k h. absurd (omega arith); below = All-nil (λ w. w < 2 ^ 32) }) b.1 in
     (m.items, sym f.0 ∙ ap (λ (l : List ℕ). Set l) m.is, m.count, subst (λ (r : Place). Passed (flat_map bytes_of_word m.items) front rest r) f.1 m.passed, words_are version n m.items m.count some few (subst AreAscending m.is m.good))
 
-any_is : (lo last step : ℕ) → is_any_span lo last step ≡ false → bytes_of_value (Span lo last step) ≡ (240 + step) ∷ bytes_of_word lo ++ bytes_of_word last
+any_is : (lo last step : ℕ) → is_span_of_all_words lo last step ≡ false → bytes_of_value (Span lo last step) ≡ (240 + step) ∷ bytes_of_word lo ++ bytes_of_word last
 unfolding bytes_of_value
 any_is lo last step e = rw e refl
 
@@ -101,7 +101,7 @@ span_passed version step start front rest v q bytes small e =
     let t = passed_test (is_cert_span version lo.0.0 last.0.0 step) (Span lo.0.0 last.0.0 step, last.0.1) (v, q) _ last.2 in
     let value : Span lo.0.0 last.0.0 step ≡ v = ap (λ (x : Val × Place). x.0) t.1 in
     let at : last.0.1 ≡ q = ap (λ (x : Val × Place). x.1) t.1 in
-    let good = and_parts (ltb (most_words_of version) (span_len lo.0.0 last.0.0 step)) (not (is_any_span lo.0.0 last.0.0 step)) t.0 in (
+    let good = and_parts (ltb (most_words_of version) (span_len lo.0.0 last.0.0 step)) (not (is_span_of_all_words lo.0.0 last.0.0 step)) t.0 in (
       bytes_of_word lo.0.0 ++ bytes_of_word last.0.0,
       ap bytes_of_value (sym value) ∙ any_is lo.0.0 last.0.0 step (not_true _ good.1),
       subst (λ (r : Place). Passed (bytes_of_word lo.0.0 ++ bytes_of_word last.0.0) front rest r) at (passed_both h.0 k.0),

@@ -16,7 +16,7 @@ use Rattle.depth_cert.specs.Points.{IsWellFormedCertValue, IsState, IsPoint}
 use Rattle.depth_cert.specs.Exits.{IsExit}
 use Rattle.depth_cert.specs.Nodes.{NodeData, IsNode, count_points}
 use Rattle.depth_cert.specs.Certs.{CertData, IsCert}
-use Rattle.value_domain.specs.Values.{is_any_span}
+use Rattle.value_domain.specs.Values.{is_span_of_all_words}
 use Rattle.depth_cert.specs.Spelling.{bytes_of_value, bytes_of_state, bytes_of_point, bytes_of_key, bytes_of_exit, bytes_of_node, bytes_of_cert}
 use Rattle.depth_cert.proofs.GrammarLaws.{width_le, most_le}
 
@@ -34,7 +34,7 @@ unfolding bytes_of_value
 value_most version (Set ws) h =
     let words = parts_most bytes_of_word 4 ws (λ k d lt. omega arith) in
     omega (arith, h.1, (width_le version).1)
-value_most version (Span lo last step) h = span_most (is_any_span lo last step) lo last step
+value_most version (Span lo last step) h = span_most (is_span_of_all_words lo last step) lo last step
 
 values_most : (version : ℕ) (vs : List Val) → All (IsWellFormedCertValue version) vs → length (flat_map bytes_of_value vs) ≤ length vs * 513
 values_most version vs h = parts_most bytes_of_value 513 vs (λ k d lt. value_most version (get_or vs k d) (h k d lt))

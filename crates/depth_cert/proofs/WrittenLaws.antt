@@ -14,8 +14,8 @@ use Rattle.tcd_base.specs.FieldReaders.{◌>>=◌, u8_at, u16_at, u32_at, many_f
 use Rattle.tcd_base.proofs.FieldReads.{u8_at-between, u16_at-between, u32_at-between}
 use Rattle.value_domain.specs.declared.values.Val.{Val}
 use Rattle.value_domain.specs.declared.values.Val.TheVariants.{Set, Span}
-use Rattle.value_domain.specs.Sets.{AreWords, IsAscending}
-use Rattle.value_domain.specs.Values.{any_val, span_len, is_any_span}
+use Rattle.value_domain.specs.Sets.{AreSetWords, IsAscending}
+use Rattle.value_domain.specs.Values.{any_val, span_len, is_span_of_all_words}
 use Rattle.value_domain.specs.VersionLimits.{most_words_of}
 use Rattle.depth_cert.specs.Keys.{cert_flag_byte}
 use Rattle.depth_cert.specs.Points.{IsWellFormedCertValue}
@@ -127,10 +127,10 @@ rising_steps (x ∷ y ∷ ys) r (suc k) h =
     let e : suc k + 1 ≡ suc (k + 1) = omega arith in
     rw e rest
 
-rising_words : (ws : List ℕ) → AreWords ws → IsStrictlyIncreasing ws
+rising_words : (ws : List ℕ) → AreSetWords ws → IsStrictlyIncreasing ws
 rising_words ws a = rising_steps ws a.rising
 
-below_words : (ws : List ℕ) → AreWords ws → All (λ w. w < 2 ^ 32) ws
+below_words : (ws : List ℕ) → AreSetWords ws → All (λ w. w < 2 ^ 32) ws
 below_words ws a k d h = subst (λ n. n < 2 ^ 32) (get_or_default ws k 0 d h) (a.below (get_or ws k 0) (among_get ws k h))
 
 lo_small : (step : ℕ) → step ≤ 2 → (lo last : ℕ) → 1 ≤ span_len lo last step → last < 2 ^ 32 → lo < 2 ^ 32
@@ -147,9 +147,9 @@ value_cases version (Set ws) h =
     let in_width : leb (length ws) (most_words_of version) ≡ true = le-leb _ _ h.1 in
     seq u8_at _ (length ws ∷ []) (flat_map bytes_of_word ws) (length ws) (Set ws) (byte (length ws))
     (λ start. record { at = λ front rest. rw (not_zero, in_width) ((set_read version ws (rising_words ws h.0) (below_words ws h.0)).at front rest) })
-value_cases version (Span lo last step) h = by_any (is_any_span lo last step) version lo last step h refl
+value_cases version (Span lo last step) h = by_any (is_span_of_all_words lo last step) version lo last step h refl
   where
-    by_any : (any : Bool) (version lo last step : ℕ) → IsWellFormedCertValue version (Span lo last step) → is_any_span lo last step ≡ any
+    by_any : (any : Bool) (version lo last step : ℕ) → IsWellFormedCertValue version (Span lo last step) → is_span_of_all_words lo last step ≡ any
         → IsRead (value_at version) (cond any (0 ∷ []) ((240 + step) ∷ bytes_of_word lo ++ bytes_of_word last)) (Span lo last step)
     by_any true version lo last step h e =
         let parts = and_parts (eqb lo 0 && eqb last 4294967295) (eqb step 0) e in

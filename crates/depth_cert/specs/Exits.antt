@@ -17,21 +17,21 @@ abbrev pub lower_values : List Val → List Val
 lower_values regs = take 8 regs ++ take 6 (drop 16 regs)
 
 -- the exit of a frame that returns in this state: IE, CCPN, and the values of the lower registers
-abbrev pub exit_of : State → Exit
-exit_of s = record { ie = s.ie; ccpn = s.ccpn; lower = lower_values s.regs }
+abbrev pub exit_of_state : State → Exit
+exit_of_state s = record { ie = s.ie; ccpn = s.ccpn; lower = lower_values s.regs }
 
 -- a state's values, from place i on, after a return by an exit of a certificate's node: those of
 -- lower registers are the exit's
-unfoldable pub values_with_lower_from : ℕ → List Val → List Val → List Val
-values_with_lower_from i lower [] = []
-values_with_lower_from i lower (v ∷ vs) =
-    (if is_lower_slot i then slice_index_or lower (if nat_lt i 8 then i else i - 8) any_val else v) ∷ values_with_lower_from (i + 1) lower vs
+unfoldable pub values_after_return_from : ℕ → List Val → List Val → List Val
+values_after_return_from i lower [] = []
+values_after_return_from i lower (v ∷ vs) =
+    (if is_lower_slot i then slice_index_or lower (if nat_lt i 8 then i else i - 8) any_val else v) ∷ values_after_return_from (i + 1) lower vs
 
 -- the state after a return by this exit of a certificate's node; a return from a call keeps the
 -- exit's IE and CCPN, one from a system call restores the caller's
-abbrev pub state_after_exit : State → Exit → ℕ → State
-state_after_exit s x kind = record s {
-  regs = values_with_lower_from 0 x.lower s.regs;
+abbrev pub state_after_return : State → Exit → ℕ → State
+state_after_return s x kind = record s {
+  regs = values_after_return_from 0 x.lower s.regs;
   ie = if kind == call_kind then x.ie else s.ie;
   ccpn = if kind == call_kind then x.ccpn else s.ccpn;
   lower = false;

@@ -8,7 +8,7 @@ use Rattle.tcd_base.specs.FieldReaders.{◌>>=◌, u8_at, u16_at, u32_at, many_f
 use Rattle.value_domain.specs.declared.values.Val.{Val}
 use Rattle.value_domain.specs.declared.values.Val.TheVariants.{Set, Span}
 use Rattle.value_domain.specs.declared.states.State.{State}
-use Rattle.value_domain.specs.Values.{any_val, span_len, is_any_span}
+use Rattle.value_domain.specs.Values.{any_val, span_len, is_span_of_all_words}
 use Rattle.value_domain.specs.VersionLimits.{most_words_of, most_locals_of}
 use Rattle.depth_cert.specs.declared.keys.Key.{Key}
 use Rattle.depth_cert.specs.declared.points.Exit.{Exit}
@@ -48,7 +48,7 @@ set_at n p = many_fields_at set_word_after n [] p >>= λ ws. Ok (Set ws.0, ws.1)
 -- a certificate may spell this Span: more members than a Set can have (so lo isn't above last), but
 -- not all words
 abbrev pub is_cert_span : ℕ → ℕ → ℕ → ℕ → Bool
-is_cert_span version lo last step = nat_lt (most_words_of version) (span_len lo last step) && not (is_any_span lo last step)
+is_cert_span version lo last step = nat_lt (most_words_of version) (span_len lo last step) && not (is_span_of_all_words lo last step)
 
 -- a Span in a certificate, whose step was read at start
 unfoldable pub span_at : ℕ → ℕ → Place → Place → Result (Val × Place) FormErr

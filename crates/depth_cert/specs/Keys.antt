@@ -27,8 +27,8 @@ aln_kind = 4
 
 -- the kind of a key of a certificate's nodes in letters: start, call, irq for interrupts, sys for
 -- system calls, or aln for misaligned accesses; a blank ends it
-abbrev pub key_kind_words : ℕ → List ℕ
-key_kind_words kind =
+abbrev pub key_kind_letters : ℕ → List ℕ
+key_kind_letters kind =
     if kind == start_kind then codes "start "
     else if kind == call_kind then codes "call "
     else if kind == irq_kind then codes "irq "
@@ -37,7 +37,7 @@ key_kind_words kind =
 
 -- the kind of a key of a certificate's nodes in letters, with a blank at its end
 unfoldable pub key_kind_text : ℕ → List ℕ
-key_kind_text kind = key_kind_words kind
+key_kind_text kind = key_kind_letters kind
 
 -- a truth value as a byte of a key's number, 1 or 0; a certificate spells each truth value so
 abbrev pub cert_flag_byte : Bool → ℕ

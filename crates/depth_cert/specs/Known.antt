@@ -2,7 +2,7 @@
 use Rattle.std.specs.Prelude.{Option, Some, None, option_map, ℕ, ◌≡◌}
 use Rattle.value_domain.specs.declared.states.State.{State}
 use Rattle.value_domain.specs.Limits.{Limits}
-use Rattle.value_domain.specs.State.{Covers, joined_states}
+use Rattle.value_domain.specs.State.{Covers, state_join_if_any}
 use Rattle.depth_cert.specs.declared.points.Exit.{Exit}
 use Rattle.depth_cert.specs.Exits.{ExitCovers, joined_exit}
 use Rattle.depth_cert.specs.declared.points.Exit as exits
@@ -23,15 +23,15 @@ CoversKnown (leaving y) (state s) = ⊥
 -- what is known at a place of a frame, joined from two: the least that covers both; none for a
 -- state and an exit, or for states with different numbers of locals
 abbrev pub joined_known : Limits → Known → Known → Option Known
-joined_known b (state s) (state t) = option_map state (joined_states b s t)
+joined_known b (state s) (state t) = option_map state (state_join_if_any b s t)
 joined_known b (leaving x) (leaving y) = Some (leaving (joined_exit b x y))
 joined_known b (state s) (leaving y) = None
 joined_known b (leaving x) (state t) = None
 
 -- the lower bound of CCPN in a state or an exit
-abbrev pub known_priority : Known → ℕ
-known_priority (state s) = s.ccpn
-known_priority (leaving x) = x.ccpn
+abbrev pub known_ccpn : Known → ℕ
+known_ccpn (state s) = s.ccpn
+known_ccpn (leaving x) = x.ccpn
 
 -- what is known at a place of a frame is this state u; nothing is said if it is an exit
 abbrev pub IsKnownState : Known → State → Type 0
@@ -39,9 +39,9 @@ IsKnownState (state s) u = u ≡ s
 IsKnownState (leaving x) u = Unit {0}
 
 -- no exit is known
-abbrev pub IsNoExit : Known → Type 0
-IsNoExit (state s) = Unit {0}
-IsNoExit (leaving x) = ⊥
+abbrev pub IsNotExit : Known → Type 0
+IsNotExit (state s) = Unit {0}
+IsNotExit (leaving x) = ⊥
 
 -- the known exit, if any
 abbrev pub exit_if_known : Option Known → Option exits.Exit

@@ -5,7 +5,7 @@ use Rattle.depth_cert.specs.Keys.{call_kind, sys_kind, IsKey, number_of_key}
 use Rattle.depth_cert.specs.declared.keys.Key.{Key}
 use Rattle.depth_cert.specs.declared.points.Exit.{Exit}
 use Rattle.depth_cert.specs.declared.points.Point.{Point}
-use Rattle.depth_cert.specs.Points.{ArePoints, IsPoint}
+use Rattle.depth_cert.specs.Points.{AreAscendingPoints, IsPoint}
 use Rattle.depth_cert.specs.Exits.{IsExit}
 
 -- a node, with its points as a list
@@ -21,13 +21,13 @@ pub record IsNode (version : ℕ) (n : NodeData) : Type 0 where
   pub key : IsKey n.key
   pub need : n.need ≤ 4096
   pub exit : IfSome n.exit (λ e. ((n.key.kind ≡ call_kind) ⊎ (n.key.kind ≡ sys_kind)) × IsExit version e)
-  pub rising : ArePoints n.points
+  pub rising : AreAscendingPoints n.points
   pub points : All (IsPoint version) n.points
 
 -- the need of a node, if there is one
-abbrev pub need_of : Option NodeData → ℕ
-need_of None = 0
-need_of (Some n) = n.need
+abbrev pub need_or_zero : Option NodeData → ℕ
+need_or_zero None = 0
+need_or_zero (Some n) = n.need
 
 -- the number of points of a list of nodes together
 abbrev pub count_points : List NodeData → ℕ

@@ -5,7 +5,7 @@ use Rattle.std.specs.List.Sorted.{IsStrictlyIncreasing}
 use Rattle.value_domain.specs.declared.values.Val.{Val}
 use Rattle.value_domain.specs.declared.values.Val.TheVariants.{Set, Span}
 use Rattle.value_domain.specs.declared.states.State.{State}
-use Rattle.value_domain.specs.Sets.{AreWords}
+use Rattle.value_domain.specs.Sets.{AreSetWords}
 use Rattle.value_domain.specs.Values.{span_len}
 use Rattle.value_domain.specs.VersionLimits.{most_words_of, most_locals_of}
 use Rattle.depth_cert.specs.declared.points.Point.{Point}
@@ -13,7 +13,7 @@ use Rattle.depth_cert.specs.declared.points.Point.{Point}
 -- a value that a certificate's point or exit can have: a well-formed Set of at most as many words
 -- as the format allows, or a well-formed Span of more members
 abbrev pub IsWellFormedCertValue : ℕ → Val → Type 0
-IsWellFormedCertValue version (Set ws) = AreWords ws × (length ws ≤ most_words_of version)
+IsWellFormedCertValue version (Set ws) = AreSetWords ws × (length ws ≤ most_words_of version)
 IsWellFormedCertValue version (Span lo last step) = (step ≤ 2) × (most_words_of version < span_len lo last step) × (last < 2 ^ 32)
 
 -- a state that a certificate's point can have: 27 values, a CCPN below 256, and no more locals than
@@ -35,8 +35,8 @@ abbrev pub addresses : List Point → List ℕ
 addresses ps = map (λ p. p.addr) ps
 
 -- a node's points are in ascending order of their addresses
-abbrev pub ArePoints : List Point → Type 0
-ArePoints ps = IsStrictlyIncreasing (addresses ps)
+abbrev pub AreAscendingPoints : List Point → Type 0
+AreAscendingPoints ps = IsStrictlyIncreasing (addresses ps)
 
 -- the point of a node at an address, if there is one
 abbrev pub find_point : ℕ → List Point → Option Point

@@ -11,13 +11,13 @@ use Rattle.depth_cert.specs.declared.points.Point.{Point}
 use Rattle.depth_cert.specs.Keys.{cert_flag_byte}
 use Rattle.depth_cert.specs.Nodes.{NodeData}
 use Rattle.depth_cert.specs.Certs.{CertData}
-use Rattle.value_domain.specs.Values.{is_any_span}
+use Rattle.value_domain.specs.Values.{is_span_of_all_words}
 
 -- a value's bytes in a certificate: a Set's number of words and these; 0 for any word; a Span's
 -- step plus 240 and its ends
 unfoldable pub bytes_of_value : Val → List ℕ
 bytes_of_value (Set ws) = length ws ∷ flat_map bytes_of_word ws
-bytes_of_value (Span lo last step) = if is_any_span lo last step then 0 ∷ [] else (240 + step) ∷ bytes_of_word lo ++ bytes_of_word last
+bytes_of_value (Span lo last step) = if is_span_of_all_words lo last step then 0 ∷ [] else (240 + step) ∷ bytes_of_word lo ++ bytes_of_word last
 
 -- the bytes of a state in a certificate: ie, ccpn, lower, the number of locals and the locals, and
 -- the registers' values

@@ -18,17 +18,17 @@ use Rattle.depth_cert.specs.Certs.{CertData}
 use Rattle.cfg_recover.specs.declared.flow_types.Enter.{Enter}
 use Rattle.cfg_recover.specs.declared.flow_types.Leave.{Leave}
 use Rattle.cfg_recover.specs.declared.flow_types.Leave.TheVariants.{Stays, Ret, Rfe}
-use Rattle.vd_transfer.specs.EffectsOnStates.{EffectHasRoom}
+use Rattle.vd_transfer.specs.EffectsOnStates.{LocalsFitInstruction}
 use Rattle.cfg_recover.specs.declared.local_rules.Located.{Located}
 use Rattle.cfg_recover.specs.LocalFaults.{IsFaultlessShape}
-use Rattle.cfg_recover.specs.Entries.{irq_key, irq_entry, irqs_of, entered_key}
-use Rattle.depth_cert.specs.Exits.{exit_of}
+use Rattle.cfg_recover.specs.Entries.{irq_key, irq_entry, possible_irqs_of, entered_key}
+use Rattle.depth_cert.specs.Exits.{exit_of_state}
 use Rattle.cfg_recover.specs.Duties.{Owed, owed, jump, enter, resume, leave, jumps_to, successor_duties_of, entry_duties_of, misaligned_duties_of, interrupt_duties_of, exit_duties_of, duties_of}
 use Rattle.cfg_recover.specs.FlowDuties.{duties_of_flow_return, duties_of_irqs, duties_of_leaving, flow_leave_of}
 use Rattle.cfg_recover.specs.RulesHoldOrFail.{HasCoveringPoint}
 use Rattle.cfg_recover.proofs.AccessDuties.{owes_no_access}
 use Rattle.depth_check.specs.LeastBroken.{FindsLeastBroken, lesser_broken_rule, broken_rule_unless}
-use Rattle.depth_check.specs.DutiesHold.{DutyHolds, DutiesHold, HasCoveringPoints, GoesOnAfterReturn, HasCoveringExit, LeavingHolds}
+use Rattle.depth_check.specs.DutiesHold.{DutyHolds, DutiesHold, HasCoveringPoints, IsReturnMet, HasCoveringExit, LeavingHolds}
 use Rattle.depth_check.proofs.LeastLaws.{found_by, found_both, found_same}
 
 -- a property of an appended list holds of its parts
@@ -82,7 +82,7 @@ nothing_found cert node s = λ q. All-nil (DutyHolds cert node s q)
 -- what the rules ask of an entry of a node n that exists, and of its return
 abbrev pub EntryHolds : NodeData → State → ℕ → Key → State → Option ℕ → NodeData → ℕ → Type 0
 EntryHolds node s rule key entry back n q =
-    ((rule ≡ q → HasCoveringPoint n key.entry entry) × (14 ≡ q → length s.locals.items + 1 + n.need ≤ node.need)) × (4 ≡ q → GoesOnAfterReturn node s n key.kind back)
+    ((rule ≡ q → HasCoveringPoint n key.entry entry) × (14 ≡ q → length s.locals.items + 1 + n.need ≤ node.need)) × (4 ≡ q → IsReturnMet node s n key.kind back)
 
 enter_to : (cert : CertData) (node : NodeData) (s : State) (rule : ℕ) (key : Key) (entry : State) (back : Option ℕ) (n : NodeData) (q : ℕ) → find_node key cert.nodes ≡ Some n
     → EntryHolds node s rule key entry back n q → DutyHolds cert node s q (owed rule (enter key entry))
@@ -95,13 +95,13 @@ back_to cert node s rule key entry (Some at) n q found h =
     All-cons (DutyHolds cert node s q) (owed 4 (resume key at)) [] (record { met = λ e. rw found (h.1 e); need = λ e. tt }) (All-nil (DutyHolds cert node s q))
 
 back_from : (cert : CertData) (node : NodeData) (s : State) (key : Key) (back : Option ℕ) (n : NodeData) (q : ℕ) → find_node key cert.nodes ≡ Some n → DutiesHold cert node s (duties_of_flow_return key back) q
-    → 4 ≡ q → GoesOnAfterReturn node s n key.kind back
+    → 4 ≡ q → IsReturnMet node s n key.kind back
 back_from cert node s key None n q found h e = tt
 back_from cert node s key (Some at) n q found h e = rw found at ((All-head (DutyHolds cert node s q) (owed 4 (resume key at)) [] h).met e)
 
 -- the entered node exists
 pub entry_found : (cert : CertData) (node : NodeData) (s : State) (rule : ℕ) (key : Key) (entry : State) (back : Option ℕ) (n : NodeData) (into need on : Bool) → find_node key cert.nodes ≡ Some n
-    → rule ≤ 14 → (IsTrue into ↔ HasCoveringPoint n key.entry entry) → (IsTrue need ↔ (length s.locals.items + 1 + n.need ≤ node.need)) → (IsTrue on ↔ GoesOnAfterReturn node s n key.kind back)
+    → rule ≤ 14 → (IsTrue into ↔ HasCoveringPoint n key.entry entry) → (IsTrue need ↔ (length s.locals.items + 1 + n.need ≤ node.need)) → (IsTrue on ↔ IsReturnMet node s n key.kind back)
     → FindsLeastBroken (DutiesHold cert node s (owed rule (enter key entry) ∷ duties_of_flow_return key back)) (lesser_broken_rule (lesser_broken_rule (broken_rule_unless into rule) (broken_rule_unless need 14)) (broken_rule_unless on 4))
 entry_found cert node s rule key entry back n into need on found small i d a =
     found_same (EntryHolds node s rule key entry back n) (DutiesHold cert node s (owed rule (enter key entry) ∷ duties_of_flow_return key back)) (lesser_broken_rule (lesser_broken_rule (broken_rule_unless into rule) (broken_rule_unless need 14)) (broken_rule_unless on 4))
@@ -110,11 +110,11 @@ entry_found cert node s rule key entry back n into need on found small i d a =
     let first = All-head (DutyHolds cert node s q) (owed rule (enter key entry)) (duties_of_flow_return key back) h in
     let rest = All-tail (DutyHolds cert node s q) (owed rule (enter key entry)) (duties_of_flow_return key back) h in
     (((λ e. rw found at (first.met e)), (λ e. rw found at (first.need (sym e)))), back_from cert node s key back n q found rest))
-    (found_both (λ q. (rule ≡ q → HasCoveringPoint n key.entry entry) × (14 ≡ q → length s.locals.items + 1 + n.need ≤ node.need)) (λ q. 4 ≡ q → GoesOnAfterReturn node s n key.kind back)
+    (found_both (λ q. (rule ≡ q → HasCoveringPoint n key.entry entry) × (14 ≡ q → length s.locals.items + 1 + n.need ≤ node.need)) (λ q. 4 ≡ q → IsReturnMet node s n key.kind back)
     (lesser_broken_rule (broken_rule_unless into rule) (broken_rule_unless need 14)) (broken_rule_unless on 4)
     (found_both (λ q. rule ≡ q → HasCoveringPoint n key.entry entry) (λ q. 14 ≡ q → length s.locals.items + 1 + n.need ≤ node.need) (broken_rule_unless into rule) (broken_rule_unless need 14)
     (found_by into rule (HasCoveringPoint n key.entry entry) small i) (found_by need 14 (length s.locals.items + 1 + n.need ≤ node.need) (omega arith) d))
-    (found_by on 4 (GoesOnAfterReturn node s n key.kind back) (omega arith) a))
+    (found_by on 4 (IsReturnMet node s n key.kind back) (omega arith) a))
 
 -- the entered node doesn't exist
 back_missing : (cert : CertData) (node : NodeData) (s : State) (key : Key) (back : Option ℕ) (q : ℕ) → find_node key cert.nodes ≡ None → DutiesHold cert node s (duties_of_flow_return key back) q
@@ -186,11 +186,11 @@ pub interrupts_done : (cert : CertData) (node : NodeData) (s : State) (plan : Pl
 interrupts_done cert node s plan entry irqs i found le f = subst (λ (l : List ℕ). FindsLeastBroken (DutiesHold cert node s (duties_of_irqs plan entry l)) found) (take_all i irqs le) f
 
 -- ---- leavings
-leave_to : (cert : CertData) (node : NodeData) (s : State) (rule q : ℕ) → (rule ≡ q → HasCoveringExit node s) → DutiesHold cert node s (owed rule (leave (exit_of s)) ∷ []) q
-leave_to cert node s rule q h = All-cons (DutyHolds cert node s q) (owed rule (leave (exit_of s))) [] (record { met = h; need = λ e. tt }) (All-nil (DutyHolds cert node s q))
+leave_to : (cert : CertData) (node : NodeData) (s : State) (rule q : ℕ) → (rule ≡ q → HasCoveringExit node s) → DutiesHold cert node s (owed rule (leave (exit_of_state s)) ∷ []) q
+leave_to cert node s rule q h = All-cons (DutyHolds cert node s q) (owed rule (leave (exit_of_state s))) [] (record { met = h; need = λ e. tt }) (All-nil (DutyHolds cert node s q))
 
-leave_from : (cert : CertData) (node : NodeData) (s : State) (rule q : ℕ) → DutiesHold cert node s (owed rule (leave (exit_of s)) ∷ []) q → rule ≡ q → HasCoveringExit node s
-leave_from cert node s rule q h = (All-head (DutyHolds cert node s q) (owed rule (leave (exit_of s))) [] h).met
+leave_from : (cert : CertData) (node : NodeData) (s : State) (rule q : ℕ) → DutiesHold cert node s (owed rule (leave (exit_of_state s)) ∷ []) q → rule ≡ q → HasCoveringExit node s
+leave_from cert node s rule q h = (All-head (DutyHolds cert node s q) (owed rule (leave (exit_of_state s))) [] h).met
 
 leaving_to : (cert : CertData) (node : NodeData) (s : State) (l : Leave) (q : ℕ) → LeavingHolds node s l q → DutiesHold cert node s (duties_of_leaving node.key s l) q
 leaving_to cert node s Stays q h = All-nil (DutyHolds cert node s q)
@@ -236,11 +236,11 @@ parts_found b image plan cert node p s shape n jumps entered misaligned interrup
     (duties_append cert node s (js ++ es ++ ms) is _ interrupts (duties_append cert node s (js ++ es) ms _ misaligned (duties_append cert node s js es jumps entered j e) m) i) l
 
 -- there is room if the instruction breaks no rule by itself
-pub room_at : (b : Limits) (image : ImageData) (plan : PlanData) (key : Key) (p : ℕ) (s : State) (found : Located) → IsFaultlessShape b image plan key p s found → EffectHasRoom b found.shape s
+pub room_at : (b : Limits) (image : ImageData) (plan : PlanData) (key : Key) (p : ℕ) (s : State) (found : Located) → IsFaultlessShape b image plan key p s found → LocalsFitInstruction b found.shape s
 room_at b image plan key p s found f = ((f.faultless 8).own found.shape found.size f.code).room refl
 
 -- without an interrupt there is no duty
-pub interrupts_none : (plan : PlanData) (key : Key) (s : State) (irqs : List ℕ) → irqs ≡ irqs_of plan s → length irqs ≡ 0 → [] ≡ interrupt_duties_of plan key s
+pub interrupts_none : (plan : PlanData) (key : Key) (s : State) (irqs : List ℕ) → irqs ≡ possible_irqs_of plan s → length irqs ≡ 0 → [] ≡ interrupt_duties_of plan key s
 interrupts_none plan key s [] e len = ap (λ (l : List ℕ). map (λ p. owed 11 (enter (irq_key plan p) (irq_entry plan key s p))) l) e
 interrupts_none plan key s (p ∷ ps) e len = absurd (omega arith)
 

@@ -18,7 +18,7 @@ use Rattle.tc_machine.proofs.PlanLaws.{HoldsRom-written}
 use Rattle.tc_machine.proofs.Saves.{save-is}
 use Rattle.tc_machine.proofs.Areas.{HasFree, has_free, Areas-saved}
 use Rattle.value_domain.specs.declared.states.State.{State}
-use Rattle.value_domain.specs.State.{FlagsImpliedBy}
+use Rattle.value_domain.specs.State.{FlagsImply}
 use Rattle.vd_transfer.specs.Holding.{Holds}
 use Rattle.depth_cert.specs.declared.keys.Key.{Key}
 use Rattle.depth_cert.specs.declared.points.Point.{Point}
@@ -66,7 +66,7 @@ saved_pcxi m = pcxi_word_of m.core m.ccpn m.ie true (link_in m.fcx)
 pub IsPlanMemory-written : (plan : PlanData) (mem : Memory) (x : ℕ) (ws : List ℕ) → IsPlanMemory plan mem → IsPlanMemory plan (with_words mem x ws)
 IsPlanMemory-written plan mem x ws h = λ y. subst (λ b. (b ≡ true) ↔ IsMappedBy plan y) (sym (is_mapped-with_words mem x ws y)) (h y)
 
-pub implied_none : (fs : List Bool) → length fs ≡ 0 → FlagsImpliedBy fs []
+pub implied_none : (fs : List Bool) → length fs ≡ 0 → FlagsImply fs []
 implied_none [] h = tt
 implied_none (f ∷ fs) h = absurd (omega arith)
 

@@ -11,7 +11,7 @@ use Rattle.tc_machine.specs.Machine.{reg, IsMachine}
 use Rattle.value_domain.specs.declared.states.State.{State}
 use Rattle.value_domain.specs.Values.{IsMember}
 use Rattle.value_domain.specs.State.{Covers}
-use Rattle.vd_transfer.specs.Registers.{slot, is_lower_register}
+use Rattle.vd_transfer.specs.Registers.{register_slot, is_lower_register}
 use Rattle.vd_transfer.specs.Registers as registers
 use Rattle.vd_transfer.specs.Holding.{Holds}
 use Rattle.depth_cert.specs.declared.points.Exit.{Exit}
@@ -20,7 +20,7 @@ use Rattle.depth_cert.specs.Points.{find_point}
 use Rattle.depth_cert.specs.Nodes.{NodeData}
 use Rattle.depth_cert.specs.Certs.{CertData, IsCert}
 use Rattle.cfg_recover.specs.Entries.{call_key, call_entry}
-use Rattle.depth_cert.specs.Exits.{state_after_exit}
+use Rattle.depth_cert.specs.Exits.{state_after_return}
 use Rattle.cfg_recover.specs.RulesHoldOrFail.{Accepts}
 use Rattle.cfg_recover.proofs.EntryLaws.{holds_covered, holds_same, holds_call, holds_after_call, after_length}
 use Rattle.depth_check.proofs.Frames.{Frame, LowerSame, UpperSame, Leaves, by_return, from_system, from_handler, Resumed, Invariant, ImpliedBy-trans}
@@ -34,7 +34,7 @@ pub lower_not : (r q : ℕ) → is_lower_register q ≡ false → is_lower_regis
 lower_not r q not low e = absurd (let f : true ≡ false = sym low ∙ ap is_lower_register e ∙ not in cc)
 
 any_a11 : (plan : PlanData) (s : State) (w : ℕ) → w < 2 ^ 32 → IsMember w (registers.reg_of plan s 27)
-unfolding slot
+unfolding register_slot
 any_a11 plan s w small = (omega arith, omega arith, omega arith)
 
 -- a node's point that covers a state
@@ -64,14 +64,14 @@ module _ (image : ImageData) (plan : PlanData) (cert : CertData) (most : ℕ) (i
         ]
 
     -- after a call or a system call, at the point for the exit
-    pub after : (x : Exit) (kind back : ℕ) (word : ℕ → ℕ) (ie : Bool) (ccpn : ℕ) → PointFor frame.node back (state_after_exit (k.point).state x kind) → Holds plan word ie ccpn (state_after_exit (k.point).state x kind)
+    pub after : (x : Exit) (kind back : ℕ) (word : ℕ → ℕ) (ie : Bool) (ccpn : ℕ) → PointFor frame.node back (state_after_return (k.point).state x kind) → Holds plan word ie ccpn (state_after_return (k.point).state x kind)
         → Resumed plan frame back word ie ccpn
     after x kind back word ie ccpn at holds = record {
       point = at.point;
       even = even_at image plan cert is_cert accepted frame.node back at.point k.stands at.found;
       found = subst (λ q. find_point q (frame.node).points ≡ Some at.point) (sym (even_at image plan cert is_cert accepted frame.node back at.point k.stands at.found)) at.found;
       flags = ImpliedBy-trans _ ((k.point).state).locals.items _ (at.covers).locals k.flags;
-      inside = holds_covered plan (at.point).state (state_after_exit (k.point).state x kind) word ie ccpn at.covers (after_length (k.point).state x kind ∙ regs) holds;
+      inside = holds_covered plan (at.point).state (state_after_return (k.point).state x kind) word ie ccpn at.covers (after_length (k.point).state x kind ∙ regs) holds;
       lower_kept = λ e. absurd (let f : false ≡ true = ((at.covers).context).2 e in cc);
     }
 
@@ -90,7 +90,7 @@ module _ (image : ImageData) (plan : PlanData) (cert : CertData) (most : ℕ) (i
 
     -- ---- a call
     module _ (target back : ℕ) (small : back < 2 ^ 32) (node : NodeData) (found : Found image plan cert is_cert accepted (call_key (frame.node).key target) node)
-        (at : PointFor node target (call_entry (k.point).state)) (exits : IfSome node.exit (λ x. PointFor frame.node back (state_after_exit (k.point).state x 1)))
+        (at : PointFor node target (call_entry (k.point).state)) (exits : IfSome node.exit (λ x. PointFor frame.node back (state_after_return (k.point).state x 1)))
         (room : length ((k.point).state).locals.items + 1 + node.need ≤ (frame.node).need) where
       call_back : get_or (set m.a 11 back) 11 0 ≡ back
       call_back = let long = (words.a).count in get_or-set_same m.a 11 back 0 (omega arith)
@@ -100,7 +100,7 @@ module _ (image : ImageData) (plan : PlanData) (cert : CertData) (most : ℕ) (i
 
       call_goes_on : (word : ℕ → ℕ) (ie : Bool) (ccpn : ℕ) → UpperSame (reg m) word → word 27 < 2 ^ 32 → Leaves m.ie m.ccpn node (reg m) word ie ccpn → Resumed plan frame back word ie ccpn
       call_goes_on word ie ccpn upper a11_small (by_return x is kind h) =
-          after x 1 back word ie ccpn (if_some (λ x. PointFor frame.node back (state_after_exit (k.point).state x 1)) node.exit x exits is)
+          after x 1 back word ie ccpn (if_some (λ x. PointFor frame.node back (state_after_return (k.point).state x 1)) node.exit x exits is)
           (holds_after_call plan (k.point).state x 1 word regs (upper_in word upper a11_small) ie ccpn refl h)
       call_goes_on word ie ccpn upper a11_small (from_system x ie2 ccpn2 is kind h enabled priority) = let one = call_kind in absurd (omega arith)
       call_goes_on word ie ccpn upper a11_small (from_handler kind lower enabled priority) =

@@ -14,7 +14,7 @@ use Rattle.tc_machine.specs.declared.state.Machine.{Machine}
 use Rattle.tc_machine.specs.Machine.{reg, a11, is_interrupt_stack_used}
 use Rattle.tc_mem.specs.PlanMemory.{HoldsRom, IsPlanMemory}
 use Rattle.tc_machine.proofs.Areas.{Areas}
-use Rattle.value_domain.specs.State.{FlagsImpliedBy}
+use Rattle.value_domain.specs.State.{FlagsImply}
 use Rattle.vd_transfer.specs.Registers.{is_lower_register}
 use Rattle.vd_transfer.specs.Holding.{Holds}
 use Rattle.depth_cert.specs.declared.points.Exit.{Exit}
@@ -66,7 +66,7 @@ pub record Resumed (plan : PlanData) (suspended : Frame) (back : ℕ) (word : �
   pub point : Point
   pub found : find_point (back / 2 * 2) (suspended.node).points ≡ Some point
   pub even : back / 2 * 2 ≡ back
-  pub flags : FlagsImpliedBy (point.state).locals.items (oldest_first suspended.flags)
+  pub flags : FlagsImply (point.state).locals.items (oldest_first suspended.flags)
   pub inside : Holds plan word ie ccpn point.state
   pub lower_kept : (point.state).lower ≡ true → LowerSame suspended.word0 word
 
@@ -141,7 +141,7 @@ pub record Invariant (image : ImageData) (plan : PlanData) (cert : CertData) (mo
   pub point : Point
   pub found : find_point m.pc (frame.node).points ≡ Some point
   pub inside : IsInState plan m point.state
-  pub flags : FlagsImpliedBy (point.state).locals.items (oldest_first frame.flags)
+  pub flags : FlagsImply (point.state).locals.items (oldest_first frame.flags)
   pub is : is_interrupt_stack_used m.psw ≡ ((frame.node).key).is
   pub lower_kept : (point.state).lower ≡ true → LowerSame frame.word0 (reg m)
   pub frames : Frames plan cert most m.core m.mem m.pcxi (a11 m) frame below
@@ -262,7 +262,7 @@ pub length-oldest_first : (fs : List Bool) → length (oldest_first fs) ≡ leng
 length-oldest_first [] = refl
 length-oldest_first (f ∷ fs) = let rest = length-oldest_first fs in let more = length-append (oldest_first fs) (f ∷ []) in omega arith
 
-pub ImpliedBy-trans : (fs gs hs : List Bool) → FlagsImpliedBy fs gs → FlagsImpliedBy gs hs → FlagsImpliedBy fs hs
+pub ImpliedBy-trans : (fs gs hs : List Bool) → FlagsImply fs gs → FlagsImply gs hs → FlagsImply fs hs
 ImpliedBy-trans [] [] [] a b = tt
 ImpliedBy-trans (f ∷ fs) (g ∷ gs) (h ∷ hs) a b = (λ e. b.0 (a.0 e), ImpliedBy-trans fs gs hs a.1 b.1)
 ImpliedBy-trans [] (g ∷ gs) hs a b = absurd a

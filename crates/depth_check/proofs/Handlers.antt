@@ -13,11 +13,11 @@ use Rattle.tc_machine.proofs.Words.{register_lt, AreRegisters-set}
 use Rattle.value_domain.specs.declared.states.State.{State}
 use Rattle.value_domain.specs.declared.values.Val.{Val}
 use Rattle.value_domain.specs.Values.{IsMember, any_val, word_val}
-use Rattle.vd_transfer.specs.Registers.{slot, set_slot}
+use Rattle.vd_transfer.specs.Registers.{register_slot, with_slot_value}
 use Rattle.depth_cert.specs.Nodes.{NodeData}
 use Rattle.depth_cert.specs.Certs.{CertData, IsCert}
-use Rattle.cfg_recover.specs.Entries.{irq_key, sys_key, aln_key, irq_entry, sys_entry, aln_entry, entry_stack_of, entry_state_with, handler_key}
-use Rattle.depth_cert.specs.Exits.{state_after_exit}
+use Rattle.cfg_recover.specs.Entries.{irq_key, sys_key, aln_key, irq_entry, sys_entry, aln_entry, entry_stack_of, state_with_stack, handler_key}
+use Rattle.depth_cert.specs.Exits.{state_after_return}
 use Rattle.cfg_recover.specs.RulesHoldOrFail.{Accepts}
 use Rattle.cfg_recover.proofs.EntryLaws.{holds_covered, holds_irq, holds_aln, holds_sys, entry_length, aln_length, sys_length, stack_member, holds_after_system}
 use Rattle.depth_check.proofs.Frames.{Frame, LowerSame, UpperSame, Leaves, by_return, from_system, from_handler, Resumed, Invariant}
@@ -31,12 +31,12 @@ handler_is : (psw : ℕ) → is_interrupt_stack_used (handler_psw psw) ≡ true
 handler_is psw = eq-eqb _ _ (omega arith)
 
 -- the states at entries have no lower contexts
-set_none : (s : State) (v : Val) (o : Option ℕ) → length (set_slot s v o).locals.items ≡ length s.locals.items
+set_none : (s : State) (v : Val) (o : Option ℕ) → length (with_slot_value s v o).locals.items ≡ length s.locals.items
 set_none s v (Some i) = refl
 set_none s v None = refl
 
-pub entry_none : (sp : Val) (ie : Bool) (ccpn : ℕ) (lower : Bool) → length (entry_state_with sp ie ccpn lower).locals.items ≡ 0
-entry_none sp ie ccpn lower = set_none (record { regs = replicate 27 any_val; ie = ie; ccpn = ccpn; lower = lower; locals = record { items = [] } }) sp (slot 26)
+pub entry_none : (sp : Val) (ie : Bool) (ccpn : ℕ) (lower : Bool) → length (state_with_stack sp ie ccpn lower).locals.items ≡ 0
+entry_none sp ie ccpn lower = set_none (record { regs = replicate 27 any_val; ie = ie; ccpn = ccpn; lower = lower; locals = record { items = [] } }) sp (register_slot 26)
 
 -- A0 to A15 at the entry of a handler
 abbrev pub handler_a : Machine → ℕ → List ℕ
@@ -136,7 +136,7 @@ module _ (image : ImageData) (plan : PlanData) (cert : CertData) (most : ℕ) (i
                 (λ r lt. handler_small (set m.d 15 4) ds same m.pc words.pc r) (handler_address (set m.d 15 4) ds same m.pc words.pc) (trap_tin 4 four m.pc words.pc (handler_a m m.pc)));
             none =
                 implied_length ((at.point).state).locals.items ((aln_entry plan (frame.node).key (k.point).state).locals.items) (at.covers).locals
-                ∙ set_none (entry_state_with (entry_stack_of plan (frame.node).key (k.point).state) false ((k.point).state).ccpn true) (word_val 4) (slot 15) ∙ entry_none (entry_stack_of plan (frame.node).key (k.point).state) false ((k.point).state).ccpn true;
+                ∙ set_none (state_with_stack (entry_stack_of plan (frame.node).key (k.point).state) false ((k.point).state).ccpn true) (word_val 4) (register_slot 15) ∙ entry_none (entry_stack_of plan (frame.node).key (k.point).state) false ((k.point).state).ccpn true;
             is = handler_is m.psw ∙ sym (ap (λ k. k.is) found.key);
             lower = handler_lower (set m.d 15 4) ds same m.pc words.pc;
             goes_on = goes_back node (inr (ap (λ k. k.kind) found.key));
@@ -144,7 +144,7 @@ module _ (image : ImageData) (plan : PlanData) (cert : CertData) (most : ℕ) (i
 
     -- ---- a system call
     module _ (tin : ℕ) (tin_small : tin < 2 ^ 32) (back : ℕ) (small : back < 2 ^ 32) (node : NodeData) (found : Found image plan cert is_cert accepted (sys_key plan (frame.node).key) node)
-        (at : PointFor node (bit_or plan.btv (6 * 2 ^ 5)) (sys_entry plan (frame.node).key (k.point).state tin)) (exits : IfSome node.exit (λ x. PointFor frame.node back (state_after_exit (k.point).state x 3)))
+        (at : PointFor node (bit_or plan.btv (6 * 2 ^ 5)) (sys_entry plan (frame.node).key (k.point).state tin)) (exits : IfSome node.exit (λ x. PointFor frame.node back (state_after_return (k.point).state x 3)))
         (room : length ((k.point).state).locals.items + 1 + node.need ≤ (frame.node).need) where
       sys_kind : (node.key).kind ≡ 3
       sys_kind = ap (λ k. k.kind) found.key
@@ -152,7 +152,7 @@ module _ (image : ImageData) (plan : PlanData) (cert : CertData) (most : ℕ) (i
       sys_goes_on : (word : ℕ → ℕ) (ie : Bool) (ccpn : ℕ) → UpperSame (reg m) word → word 27 < 2 ^ 32 → Leaves m.ie m.ccpn node (reg m) word ie ccpn → Resumed plan frame back word ie ccpn
       sys_goes_on word ie ccpn upper a11_small (by_return x is kind h) = let three = sys_kind in absurd (omega arith)
       sys_goes_on word ie ccpn upper a11_small (from_system x ie2 ccpn2 is kind h enabled priority) =
-          after image plan cert most is_cert accepted m words frame below k regs x 3 back word ie ccpn (if_some (λ x. PointFor frame.node back (state_after_exit (k.point).state x 3)) node.exit x exits is)
+          after image plan cert most is_cert accepted m words frame below k regs x 3 back word ie ccpn (if_some (λ x. PointFor frame.node back (state_after_return (k.point).state x 3)) node.exit x exits is)
           (holds_after_system plan (k.point).state x 3 word regs (upper_in image plan cert most is_cert accepted m words frame below k regs word upper a11_small) ie ie2 ccpn ccpn2 (omega arith) h
           (λ t. (k.inside).enabled (sym enabled ∙ t)) (rw priority (k.inside).priority))
       sys_goes_on word ie ccpn upper a11_small (from_handler kind lower enabled priority) =

@@ -16,8 +16,8 @@ use Rattle.depth_cert.specs.Points.{find_point}
 use Rattle.depth_cert.specs.Certs.{CertData, IsCert}
 use Rattle.depth_cert.specs.Nodes.{find_node}
 use Rattle.cfg_recover.specs.RulesHoldOrFail.{Accepts, certified_need}
-use Rattle.cfg_recover.specs.Frames.{RunFrame, IsFrameAtPoint, HoldFrames}
-use Rattle.cfg_recover.specs.EdgesAreOwed.{EdgeOwed}
+use Rattle.cfg_recover.specs.Frames.{RunFrame, IsFrameAtPoint, AreAllFramesHeld}
+use Rattle.cfg_recover.specs.EdgesAreOwed.{IsEdgeOwedByFrames}
 use Rattle.cfg_recover.specs.MovesAreOwed.{IsInState}
 use Rattle.depth_check.specs.AcceptedPromises.{AcceptedHoldsFrames, AcceptedOwesEdges}
 use Rattle.cfg_recover.proofs.PointLaws.{Stands}
@@ -41,14 +41,14 @@ module _ (image : ImageData) (plan : PlanData) (cert : CertData) (most : ℕ) wh
       (subst (λ o. IsSomeAnd o (λ p. IsInState plan m p.state)) (sym k.found) k.inside)
 
   -- the frames are held by the invariant
-  hold_kept : (m : Machine) (frame : Frame) (below : List Frame) → Invariant image plan cert most m frame below → HoldFrames plan cert m (standing m.pc frame below)
+  hold_kept : (m : Machine) (frame : Frame) (below : List Frame) → Invariant image plan cert most m frame below → AreAllFramesHeld plan cert m (standing m.pc frame below)
   hold_kept m frame [] k = record { at = refl; nodes = all_stand m.core m.mem m.pcxi (a11 m) m.pc frame [] k.stands k.frames; point = lies_at m frame [] k; is = k.is }
   hold_kept m frame (s ∷ below) k =
       record { at = refl; nodes = all_stand m.core m.mem m.pcxi (a11 m) m.pc frame (s ∷ below) k.stands k.frames; point = lies_at m frame (s ∷ below) k; is = k.is }
 
   -- the edge of a step is a duty
   edge_done : (m : Machine) (e : Event) (ok : IsPlan plan) (fits_reserve : most ≤ plan.areas - plan.reserve) (is_cert : IsCert cert) (accepted : Accepts image plan cert) (words : IsMachine m) → Fits plan m e →
-      (frame : Frame) (below : List Frame) → Invariant image plan cert most m frame below → EdgeOwed image plan cert m e (standing m.pc frame below)
+      (frame : Frame) (below : List Frame) → Invariant image plan cert most m frame below → IsEdgeOwedByFrames image plan cert m e (standing m.pc frame below)
   edge_done m e ok fits_reserve is_cert accepted words fits frame [] k =
       let d = step-done image plan ok cert most fits_reserve is_cert accepted m words e fits frame [] k in
       record { node = frame.node; stands = k.stands; point = k.point; found = k.found; shape = d.shape; size = d.size; code = d.code; owed = d.owes }
@@ -60,10 +60,10 @@ module _ (image : ImageData) (plan : PlanData) (cert : CertData) (most : ℕ) wh
 pub frames_are_held : AcceptedHoldsFrames
 frames_are_held image plan cert ok is_cert accepted m es start all_fit =
     let g = held image plan ok cert is_cert accepted m es start all_fit in
-    subst (HoldFrames plan cert (run m es)) g.stands (hold_kept image plan cert (certified_need image plan cert) (run m es) g.frame g.below g.kept)
+    subst (AreAllFramesHeld plan cert (run m es)) g.stands (hold_kept image plan cert (certified_need image plan cert) (run m es) g.frame g.below g.kept)
 
 pub edges_are_owed : AcceptedOwesEdges
 edges_are_owed image plan cert ok is_cert accepted m es e start all_fit fits =
     let g = held image plan ok cert is_cert accepted m es start all_fit in
-    subst (EdgeOwed image plan cert (run m es) e) g.stands
+    subst (IsEdgeOwedByFrames image plan cert (run m es) e) g.stands
     (edge_done image plan cert (certified_need image plan cert) (run m es) e ok (few image plan ok cert is_cert accepted m es start all_fit) is_cert accepted (stays_run ok m es start.machine all_fit) fits g.frame g.below g.kept)

@@ -10,33 +10,33 @@ use Rattle.elf_image.specs.Images.{ImageData}
 use Rattle.tcd_plan.specs.PlanData.{PlanData}
 use Rattle.value_domain.specs.declared.values.Val.{Val}
 use Rattle.value_domain.specs.declared.states.State.{State}
-use Rattle.value_domain.specs.Values.{any_val, IsWellFormed, IsValue, IsBelow, word_val}
+use Rattle.value_domain.specs.Values.{any_val, IsWellFormed, IsInLattice, IsBelow, word_val}
 use Rattle.value_domain.specs.Limits.{Limits}
-use Rattle.value_domain.specs.State.{AreValues, AreWellFormed, Covers}
+use Rattle.value_domain.specs.State.{AreInLattice, AreWellFormed, Covers}
 use Rattle.value_domain.proofs.RegLaws.{read_at}
 use Rattle.arrayvec.specs.ArrayVec.{ArrayVec}
 use Rattle.vd_transfer.specs.declared.change.Base.TheVariants.{Any}
 use Rattle.vd_transfer.specs.declared.change.RegisterWrite.{RegisterWrite}
-use Rattle.vd_transfer.specs.Registers.{slot}
-use Rattle.vd_transfer.specs.Changes.{state_after, no_put, put_of_register}
+use Rattle.vd_transfer.specs.Registers.{register_slot}
+use Rattle.vd_transfer.specs.Changes.{state_after, no_write, register_write}
 use Rattle.depth_cert.specs.declared.keys.Key.{Key}
 use Rattle.depth_cert.specs.declared.points.Point.{Point}
 use Rattle.depth_cert.specs.Points.{find_point}
 use Rattle.depth_cert.specs.Nodes.{NodeData, find_node}
 use Rattle.depth_cert.specs.Certs.{CertData}
 use Rattle.cfg_recover.specs.Code.{HasCode}
-use Rattle.cfg_recover.specs.Entries.{irq_key, irq_entry, entry_state_with, entry_stack_of, irqs_of, entry_stack_with}
+use Rattle.cfg_recover.specs.Entries.{irq_key, irq_entry, state_with_stack, entry_stack_of, possible_irqs_of, entry_stack_from_a10}
 use Rattle.cfg_recover.specs.LocalFaults.{IsFaultless}
 use Rattle.cfg_recover.specs.Duties.{Owed, owed, enter, successor_duties_of, entry_duties_of, misaligned_duties_of, interrupt_duties_of, exit_duties_of, duties_of}
 use Rattle.cfg_recover.specs.FlowDuties.{duties_of_irqs}
-use Rattle.cfg_recover.specs.RulesHoldOrFail.{limits_in, HasCoveringPoint, RuleHolds}
+use Rattle.cfg_recover.specs.RulesHoldOrFail.{limits_of_cert, HasCoveringPoint, RuleHolds}
 use Rattle.cfg_recover.proofs.EntryLaws.{entry_length}
 use Rattle.cfg_recover.proofs.EntryChanges.{handler-is}
 use Rattle.depth_check.specs.declared.last_interrupts.InterruptContext.{InterruptContext}
 use Rattle.depth_check.specs.declared.last_interrupts.LastInterrupts.{LastInterrupts}
 use Rattle.depth_check.specs.LeastBroken.{FindsLeastBroken}
 use Rattle.depth_check.specs.DutiesHold.{DutyHolds, DutiesHold}
-use Rattle.depth_check.specs.Interrupts.{IsContext, IsBelowContext, InterruptsHold, HoldsInContext, AreStacksWellFormed, LastInterruptsHold, InterruptsHoldWith}
+use Rattle.depth_check.specs.Interrupts.{IsContextExceptStack, FitsContext, InterruptsHold, InterruptsHoldInContext, AreStacksWellFormed, LastInterruptsHold, InterruptsHoldWithStack}
 use Rattle.depth_check.proofs.DutyLaws.{All-left, All-right}
 use Rattle.depth_check.proofs.RuleLaws.{holds_from}
 use Rattle.depth_check.proofs.NarrowLaws.{apart, covers_trans, found_more}
@@ -45,12 +45,12 @@ use Rattle.depth_check.proofs.NarrowLaws.{apart, covers_trans, found_more}
 pub interrupts_at : (image : ImageData) (plan : PlanData) (cert : CertData) (node : NodeData) (point : Point) → ((r : ℕ) → RuleHolds image plan cert node point r) → InterruptsHold plan cert node point.state
 unfolding duties_of
 interrupts_at image plan cert node point all q =
-    let values : AreValues (limits_in plan cert) (point.state).regs = (all 2).values refl in
-    let faultless : IsFaultless (limits_in plan cert) image plan node.key point.addr point.state = λ r. (all r).own values in
+    let values : AreInLattice (limits_of_cert plan cert) (point.state).regs = (all 2).values refl in
+    let faultless : IsFaultless (limits_of_cert plan cert) image plan node.key point.addr point.state = λ r. (all r).own values in
     let has : HasCode image plan point.addr = (faultless 3).code refl in
-    let js = successor_duties_of (limits_in plan cert) image plan point.addr point.state has.shape has.size in
+    let js = successor_duties_of (limits_of_cert plan cert) image plan point.addr point.state has.shape has.size in
     let es = entry_duties_of plan node.key point.addr point.state has.shape has.size in
-    let ms = misaligned_duties_of (limits_in plan cert) plan node.key point.state has.shape in
+    let ms = misaligned_duties_of (limits_of_cert plan cert) plan node.key point.state has.shape in
     let is = interrupt_duties_of plan node.key point.state in
     let ls = exit_duties_of node.key point.state has.shape in
     let each = (holds_from image plan cert node point has.shape has.size values faultless has.code q (all q)).0 in
@@ -68,13 +68,13 @@ stacks_below true false v w x e h = absurd (let no : false ≡ true = e in cc)
 stacks_below false true v w x e h = absurd (let no : true ≡ false = e in cc)
 stacks_below false false v w x e h = λ z m. m
 
-stack_below : (plan : PlanData) (key other : Key) (sp : Val) (t : State) → key.is ≡ other.is → (IsTrue key.is → IsBelow (slice_index_or t.regs 22 any_val) sp) → IsBelow (entry_stack_of plan other t) (entry_stack_with plan key sp)
-unfolding slot
+stack_below : (plan : PlanData) (key other : Key) (sp : Val) (t : State) → key.is ≡ other.is → (IsTrue key.is → IsBelow (slice_index_or t.regs 22 any_val) sp) → IsBelow (entry_stack_of plan other t) (entry_stack_from_a10 plan key sp)
+unfolding register_slot
 stack_below plan key other sp t e h = stacks_below other.is key.is (slice_index_or t.regs 22 any_val) sp (word_val plan.isp) e h
 
 -- the entries that hold in a state hold with its own A10
-own_stack : (plan : PlanData) (cert : CertData) (node : NodeData) (s : State) → InterruptsHold plan cert node s → InterruptsHoldWith plan cert node s (slice_index_or s.regs 22 any_val)
-unfolding slot
+own_stack : (plan : PlanData) (cert : CertData) (node : NodeData) (s : State) → InterruptsHold plan cert node s → InterruptsHoldWithStack plan cert node s (slice_index_or s.regs 22 any_val)
+unfolding register_slot
 own_stack plan cert node s h = h
 
 -- the value that is read from A10's slot
@@ -82,35 +82,35 @@ own_is : (vs ws : List Val) (v w : Val) → vs ≡ ws → 22 < length vs → v �
 own_is vs ws v w e lt at same = same ∙ sym (read_at vs 22 v any_val lt at) ∙ ap (λ (l : List Val). slice_index_or l 22 any_val) e
 
 -- it is a value of the limits, and the entries that hold in the state hold with it
-pub own_value : (b : Limits) (s t : State) (v w : Val) → s ≡ t → 22 < length s.regs → v ≡ get_or s.regs 22 v → w ≡ v → AreValues b t.regs → IsValue b w
+pub own_value : (b : Limits) (s t : State) (v w : Val) → s ≡ t → 22 < length s.regs → v ≡ get_or s.regs 22 v → w ≡ v → AreInLattice b t.regs → IsInLattice b w
 own_value b s t v w e lt at same values =
-    subst (IsValue b) (sym (own_is s.regs t.regs v w (ap (λ (u : State). u.regs) e) lt at same)) (values 22 (subst (λ (u : State). 22 < length u.regs) e lt))
+    subst (IsInLattice b) (sym (own_is s.regs t.regs v w (ap (λ (u : State). u.regs) e) lt at same)) (values 22 (subst (λ (u : State). 22 < length u.regs) e lt))
 
-pub own_holds : (plan : PlanData) (cert : CertData) (node : NodeData) (s t : State) (v w : Val) → s ≡ t → 22 < length s.regs → v ≡ get_or s.regs 22 v → w ≡ v → InterruptsHold plan cert node t → InterruptsHoldWith plan cert node t w
+pub own_holds : (plan : PlanData) (cert : CertData) (node : NodeData) (s t : State) (v w : Val) → s ≡ t → 22 < length s.regs → v ≡ get_or s.regs 22 v → w ≡ v → InterruptsHold plan cert node t → InterruptsHoldWithStack plan cert node t w
 own_holds plan cert node s t v w e lt at same holds =
-    subst (InterruptsHoldWith plan cert node t) (sym (own_is s.regs t.regs v w (ap (λ (u : State). u.regs) e) lt at same)) (own_stack plan cert node t holds)
+    subst (InterruptsHoldWithStack plan cert node t) (sym (own_is s.regs t.regs v w (ap (λ (u : State). u.regs) e) lt at same)) (own_stack plan cert node t holds)
 
 -- the duties of the entries with another A10
-told_stack : (plan : PlanData) (is : Bool) (s entry : State) (sp : Val) (n : ℕ) (irqs : List ℕ) → entry ≡ entry_state_with sp false n true → irqs ≡ irqs_of plan s → IsTrue is
-    → duties_of_irqs plan entry irqs ≡ map (λ p. owed 11 (enter (irq_key plan p) (entry_state_with (if is then sp else word_val plan.isp) false p true))) (irqs_of plan s)
-unfolding slot
-told_stack plan true s entry sp n irqs e f on = ap (λ (t : State). duties_of_irqs plan t irqs) e ∙ ap (λ (l : List ℕ). duties_of_irqs plan (entry_state_with sp false n true) l) f
+told_stack : (plan : PlanData) (is : Bool) (s entry : State) (sp : Val) (n : ℕ) (irqs : List ℕ) → entry ≡ state_with_stack sp false n true → irqs ≡ possible_irqs_of plan s → IsTrue is
+    → duties_of_irqs plan entry irqs ≡ map (λ p. owed 11 (enter (irq_key plan p) (state_with_stack (if is then sp else word_val plan.isp) false p true))) (possible_irqs_of plan s)
+unfolding register_slot
+told_stack plan true s entry sp n irqs e f on = ap (λ (t : State). duties_of_irqs plan t irqs) e ∙ ap (λ (l : List ℕ). duties_of_irqs plan (state_with_stack sp false n true) l) f
 told_stack plan false s entry sp n irqs e f on = absurd (let no : false ≡ true = on in cc)
 
 -- so the entries hold with it
-pub other_stack : (plan : PlanData) (cert : CertData) (node : NodeData) (s entry : State) (sp : Val) (n : ℕ) (irqs : List ℕ) → entry ≡ entry_state_with sp false n true → irqs ≡ irqs_of plan s → IsTrue (node.key).is
-    → FindsLeastBroken (DutiesHold cert node s (duties_of_irqs plan entry irqs)) None → InterruptsHoldWith plan cert node s sp
+pub other_stack : (plan : PlanData) (cert : CertData) (node : NodeData) (s entry : State) (sp : Val) (n : ℕ) (irqs : List ℕ) → entry ≡ state_with_stack sp false n true → irqs ≡ possible_irqs_of plan s → IsTrue (node.key).is
+    → FindsLeastBroken (DutiesHold cert node s (duties_of_irqs plan entry irqs)) None → InterruptsHoldWithStack plan cert node s sp
 other_stack plan cert node s entry sp n irqs e f on h q = subst (λ (l : List Owed). DutiesHold cert node s l q) (told_stack plan (node.key).is s entry sp n irqs e f on) (h q)
 
 -- a change that puts A10 alone, over unknown values, gives the state at an entry
-pub entered_state : (s : State) (sp : Val) (n : ℕ) (p q r : RegisterWrite) (l : ArrayVec Bool) → p ≡ put_of_register 26 sp → q ≡ no_put → r ≡ no_put → l ≡ record { items = [] }
-    → state_after s (record { base = Any; first = p; second = q; third = r; ie = false; ccpn = n; lower = true; locals = l }) ≡ entry_state_with sp false n true
+pub entered_state : (s : State) (sp : Val) (n : ℕ) (p q r : RegisterWrite) (l : ArrayVec Bool) → p ≡ register_write 26 sp → q ≡ no_write → r ≡ no_write → l ≡ record { items = [] }
+    → state_after s (record { base = Any; first = p; second = q; third = r; ie = false; ccpn = n; lower = true; locals = l }) ≡ state_with_stack sp false n true
 entered_state s sp n p q r l e f g h =
     let made : RegisterWrite → RegisterWrite → RegisterWrite → ArrayVec Bool → State = λ a b c d. state_after s (record { base = Any; first = a; second = b; third = c; ie = false; ccpn = n; lower = true; locals = d }) in
     ap (λ (x : RegisterWrite). made x q r l) e
-    ∙ ap (λ (x : RegisterWrite). made (put_of_register 26 sp) x r l) f
-    ∙ ap (λ (x : RegisterWrite). made (put_of_register 26 sp) no_put x l) g
-    ∙ ap (λ (x : ArrayVec Bool). made (put_of_register 26 sp) no_put no_put x) h
+    ∙ ap (λ (x : RegisterWrite). made (register_write 26 sp) x r l) f
+    ∙ ap (λ (x : RegisterWrite). made (register_write 26 sp) no_write x l) g
+    ∙ ap (λ (x : ArrayVec Bool). made (register_write 26 sp) no_write no_write x) h
     ∙ handler-is s sp n
 
 -- two values that are put at one place of a list, the first below the second
@@ -128,8 +128,8 @@ put_below vs v w i r lt h =
     ]
 
 -- the state at an entry with a greater A10 covers the state with a smaller one
-entry_covers : (v w : Val) (p : ℕ) → IsBelow w v → Covers (entry_state_with v false p true) (entry_state_with w false p true)
-unfolding slot
+entry_covers : (v w : Val) (p : ℕ) → IsBelow w v → Covers (state_with_stack v false p true) (state_with_stack w false p true)
+unfolding register_slot
 entry_covers v w p h = record {
   regs = λ r lt. put_below (replicate 27 any_val) v w 22 r (omega (arith, length-replicate 27 any_val)) h;
   context = ((λ t. t), omega arith, (λ t. t));
@@ -167,17 +167,17 @@ less_needed cert node other s t q room keys entry less (p ∷ ps) f le more h =
     (less_needed cert node other s t q room keys entry less ps f le more (All-tail (DutyHolds cert node s q) (told p) (map told ps) h))
 
 -- the entries hold in each state below a context in which they hold
-pub below_context : (plan : PlanData) (cert : CertData) (node other : NodeData) (context : InterruptContext) (s t : State) → IsContext context node s → IsBelowContext context other t → InterruptsHoldWith plan cert node s context.sp → InterruptsHold plan cert other t
+pub below_context : (plan : PlanData) (cert : CertData) (node other : NodeData) (context : InterruptContext) (s t : State) → IsContextExceptStack context node s → FitsContext context other t → InterruptsHoldWithStack plan cert node s context.sp → InterruptsHold plan cert other t
 below_context plan cert node other context s t a b h q =
     let like = b.like in
-    let irqs : irqs_of plan s ≡ irqs_of plan t = ap (λ (x : Bool). taken plan x s.ccpn) (sym a.ie ∙ like.ie) ∙ ap (λ (n : ℕ). taken plan t.ie n) (sym a.ccpn ∙ like.ccpn) in
-    let v = entry_stack_with plan node.key context.sp in
+    let irqs : possible_irqs_of plan s ≡ possible_irqs_of plan t = ap (λ (x : Bool). taken plan x s.ccpn) (sym a.ie ∙ like.ie) ∙ ap (λ (n : ℕ). taken plan t.ie n) (sym a.ccpn ∙ like.ccpn) in
+    let v = entry_stack_from_a10 plan node.key context.sp in
     let w = entry_stack_of plan other.key t in
     let low : IsBelow w v = stack_below plan node.key other.key context.sp t (sym a.is ∙ like.is) (λ y. b.sp (a.is ∙ y)) in
-    less_needed cert node other s t q context.spare (λ p. irq_key plan p) (λ p. entry_state_with v false p true) (λ p. irq_entry plan other.key t p) (irqs_of plan t)
-    (λ p upper c. covers_trans upper (entry_state_with v false p true) (entry_state_with w false p true) (entry_length w false p true ∙ sym (entry_length v false p true)) c (entry_covers v w p low))
+    less_needed cert node other s t q context.spare (λ p. irq_key plan p) (λ p. state_with_stack v false p true) (λ p. irq_entry plan other.key t p) (possible_irqs_of plan t)
+    (λ p upper c. covers_trans upper (state_with_stack v false p true) (state_with_stack w false p true) (entry_length w false p true ∙ sym (entry_length v false p true)) c (entry_covers v w p low))
     (omega (arith, a.spare)) like.spare
-    (subst (λ (l : List ℕ). DutiesHold cert node s (map (λ p. owed 11 (enter (irq_key plan p) (entry_state_with v false p true))) l) q) irqs (h q))
+    (subst (λ (l : List ℕ). DutiesHold cert node s (map (λ p. owed 11 (enter (irq_key plan p) (state_with_stack v false p true))) l) q) irqs (h q))
 
 -- each of well-formed values is well-formed, and so is what stands for those past the last
 any_well : IsWellFormed any_val
@@ -198,7 +198,7 @@ stack_well node done left after p well split next =
     at_well (p.state).regs 22 (All-head (λ (q : Point). AreWellFormed (q.state).regs) p after (All-right (λ (q : Point). AreWellFormed (q.state).regs) done (p ∷ after) all))
 
 -- A10 of a context is well-formed, and a value of the limits
-stack_of_context_well : (plan : PlanData) (cert : CertData) (o : Option InterruptContext) → IfSome o (HoldsInContext plan cert) → IfSome o (λ a. IsWellFormed a.sp)
+stack_of_context_well : (plan : PlanData) (cert : CertData) (o : Option InterruptContext) → IfSome o (InterruptsHoldInContext plan cert) → IfSome o (λ a. IsWellFormed a.sp)
 stack_of_context_well plan cert None h = tt
 stack_of_context_well plan cert (Some a) h = (h.sp).well
 
@@ -206,7 +206,7 @@ pub stacks_well : (plan : PlanData) (cert : CertData) (kept : LastInterrupts) �
 stacks_well plan cert kept h = record { last = stack_of_context_well plan cert kept.last h.last; before = stack_of_context_well plan cert kept.before h.before }
 
 -- so the entries hold in a state below a kept context
-pub covered_holds : (plan : PlanData) (cert : CertData) (node : NodeData) (o : Option InterruptContext) (t : State) → IfSome o (HoldsInContext plan cert) → IsSomeAnd o (λ a. IsBelowContext a node t) → InterruptsHold plan cert node t
+pub covered_holds : (plan : PlanData) (cert : CertData) (node : NodeData) (o : Option InterruptContext) (t : State) → IfSome o (InterruptsHoldInContext plan cert) → IsSomeAnd o (λ a. FitsContext a node t) → InterruptsHold plan cert node t
 covered_holds plan cert node None t h a = absurd a
 covered_holds plan cert node (Some x) t h a = h.holds node t a
 

@@ -2,7 +2,7 @@
 use Rattle.std.proofs.Common.{◌≡◌, ℕ, zero, suc, ◌-◌, ◌*◌, ◌/◌, ◌^◌, ◌<◌, ◌≤◌, inl, inr, Bool, true, List, [], ◌∷◌, ◌++◌, length, get_or, refl, sym, ap, ◌∙◌, subst, arith}
 use Rattle.csa_chain.specs.MemoryBytes.{Memory, with_words}
 use Rattle.csa_chain.specs.Chain.{link_in, link_address, area_word}
-use Rattle.csa_chain.specs.ContextWords.{pie_of, pcpn_of, d_after_upper, a_after_upper}
+use Rattle.csa_chain.specs.ContextWords.{pie_of, pcpn_of, d_after_upper_restore, a_after_upper_restore}
 use Rattle.csa_chain.proofs.WordLaws.{area_word-lt}
 use Rattle.csa_chain.proofs.ChainLaws.{Links, SameAreas-written}
 use Rattle.csa_chain.proofs.ContextLaws.{reg_of, global_regs, below_16, upper_back, link_in-lt}
@@ -17,7 +17,7 @@ use Rattle.tc_machine.proofs.Saves.{restore-is}
 use Rattle.tc_machine.proofs.Areas.{Areas, Areas-restored, is_freed}
 use Rattle.value_domain.specs.declared.states.State.{State}
 use Rattle.vd_transfer.specs.Holding.{Holds}
-use Rattle.vd_transfer.specs.Registers.{slot}
+use Rattle.vd_transfer.specs.Registers.{register_slot}
 use Rattle.depth_cert.specs.declared.points.Exit.{Exit}
 use Rattle.depth_cert.specs.Nodes.{NodeData}
 use Rattle.depth_cert.specs.Certs.{CertData}
@@ -28,7 +28,7 @@ use Rattle.depth_check.proofs.Enter.{IsPlanMemory-written, counted}
 
 -- the globals are the plan's if the registers are in a state
 pub globals_held : (plan : PlanData) (word : ℕ → ℕ) (ie : Bool) (ccpn : ℕ) (s : State) → Holds plan word ie ccpn s → (j : ℕ) → j < 4 → word (get_or global_regs j 0) ≡ global_of plan (get_or global_regs j 0)
-unfolding slot
+unfolding register_slot
 globals_held plan word ie ccpn s h zero lt = elim (h.regs 16 (omega arith)) [ inl e ↦ e | inr n ↦ absurd n ]
 globals_held plan word ie ccpn s h (suc zero) lt = elim (h.regs 17 (omega arith)) [ inl e ↦ e | inr n ↦ absurd n ]
 globals_held plan word ie ccpn s h (suc (suc zero)) lt = elim (h.regs 24 (omega arith)) [ inl e ↦ e | inr n ↦ absurd n ]
@@ -56,9 +56,9 @@ module _ (image : ImageData) (plan : PlanData) (ok : IsPlan plan) (cert : CertDa
     entry = subst (λ ls. Entry plan cert m.core m.mem (under m.mem m.pcxi ls) (a11 m) frame.node frame.area frame.back frame.word0 suspended) none (k.frames).1
 
     -- the registers that come back
-    upper : UpperSame frame.word0 (reg_of (d_after_upper (last_context m) m.d) (a_after_upper (last_context m) m.a))
+    upper : UpperSame frame.word0 (reg_of (d_after_upper_restore (last_context m) m.d) (a_after_upper_restore (last_context m) m.a))
     upper =
-        each_upper (λ r. reg_of (d_after_upper (last_context m) m.d) (a_after_upper (last_context m) m.a) r ≡ frame.word0 r)
+        each_upper (λ r. reg_of (d_after_upper_restore (last_context m) m.d) (a_after_upper_restore (last_context m) m.a) r ≡ frame.word0 r)
         (λ j lt ne.
         upper_back (last_context m) m.d m.a j lt ∙ area_words-at m.mem (link_in m.pcxi) (suc (suc j)) (omega arith) ∙ ap (λ l. area_word m.mem l (suc (suc j))) entry.named ∙ entry.upper j lt ne)
         (λ j lt. upper_leaves_globals (last_context m) m.d m.a j lt ∙ globals_held plan (reg m) m.ie m.ccpn (k.point).state k.inside j lt ∙ sym (entry.globals j lt))
@@ -71,8 +71,8 @@ module _ (image : ImageData) (plan : PlanData) (ok : IsPlan plan) (cert : CertDa
     comes_back ie ccpn leaves =
         let e = entry in
         let lower = upper-LowerSame (last_context m) m.d m.a in
-        let goes = e.goes_on (reg_of (d_after_upper (last_context m) m.d) (a_after_upper (last_context m) m.a)) ie ccpn upper (area_word-lt m.mem words.bytes (link_in m.pcxi) 3)
-        (Leaves-same frame.node frame.word0 (reg m) (reg_of (d_after_upper (last_context m) m.d) (a_after_upper (last_context m) m.a)) ie ccpn lower leaves) in
+        let goes = e.goes_on (reg_of (d_after_upper_restore (last_context m) m.d) (a_after_upper_restore (last_context m) m.a)) ie ccpn upper (area_word-lt m.mem words.bytes (link_in m.pcxi) 3)
+        (Leaves-same frame.node frame.word0 (reg m) (reg_of (d_after_upper_restore (last_context m) m.d) (a_after_upper_restore (last_context m) m.a)) ie ccpn lower leaves) in
         let areas : Areas plan m.mem m.fcx m.lcx (frame.area ∷ used_by suspended below) k.free = subst (λ ls. Areas plan m.mem m.fcx m.lcx (ls ++ frame.area ∷ used_by suspended below) k.free) none k.areas in
         let links : Links m.mem m.pcxi (frame.area ∷ used_by suspended below) =
         subst (λ ls. Links m.mem m.pcxi (ls ++ frame.area ∷ used_by suspended below)) none (Links-Frames plan cert most m.core m.mem m.pcxi (a11 m) frame (suspended ∷ below) k.frames) in

@@ -3,7 +3,7 @@ use Rattle.std.proofs.Common.{◌≡◌, ℕ, suc, ◌-◌, ◌^◌, ◌<◌, �
 use Rattle.std.proofs.lemmas.Bool.{cases_eq}
 use Rattle.csa_chain.specs.MemoryBytes.{Memory, with_words}
 use Rattle.csa_chain.specs.Chain.{link_in, link_address, area_word, word_with_link}
-use Rattle.csa_chain.specs.ContextWords.{pcxi_word_of, d_after_lower, a_after_lower}
+use Rattle.csa_chain.specs.ContextWords.{pcxi_word_of, d_after_lower_restore, a_after_lower_restore}
 use Rattle.csa_chain.proofs.ChainLaws.{Links, SameAreas-written, area_word-written, is_area-written}
 use Rattle.csa_chain.proofs.ContextLaws.{reg_of, lower_regs, lower_word, lower_back, link_in-pcxi_word, ul_of-pcxi_word, link_in-lt}
 use Rattle.elf_image.specs.Images.{ImageData}
@@ -19,7 +19,7 @@ use Rattle.tc_machine.proofs.Saves.{restore-is}
 use Rattle.tc_machine.proofs.Stays.{stays_restore}
 use Rattle.tc_machine.proofs.Areas.{Areas, HasFree, Areas-saved, Areas-restored, is_freed}
 use Rattle.value_domain.specs.declared.states.State.{State}
-use Rattle.value_domain.specs.State.{FlagsImpliedBy}
+use Rattle.value_domain.specs.State.{FlagsImply}
 use Rattle.vd_transfer.specs.EffectsOnStates as effects
 use Rattle.vd_transfer.specs.Holding.{Holds}
 use Rattle.vd_transfer.proofs.HoldLaws.{restore_holds}
@@ -33,13 +33,13 @@ use Rattle.depth_check.proofs.Leave.{area_words-at}
 use Rattle.depth_check.proofs.Entries.{PointFor}
 
 -- ---- flags
-ImpliedBy-push : (fs gs : List Bool) (x : Bool) → FlagsImpliedBy fs gs → FlagsImpliedBy (fs ++ x ∷ []) (gs ++ x ∷ [])
+ImpliedBy-push : (fs gs : List Bool) (x : Bool) → FlagsImply fs gs → FlagsImply (fs ++ x ∷ []) (gs ++ x ∷ [])
 ImpliedBy-push [] [] x h = (λ e. e, tt)
 ImpliedBy-push (f ∷ fs) (g ∷ gs) x h = (h.0, ImpliedBy-push fs gs x h.1)
 ImpliedBy-push [] (g ∷ gs) x h = absurd h
 ImpliedBy-push (f ∷ fs) [] x h = absurd h
 
-ImpliedBy-pop : (xs ys : List Bool) (f : Bool) → FlagsImpliedBy xs (ys ++ f ∷ []) → FlagsImpliedBy (take (length xs - 1) xs) ys × (IsTrue (get_or xs (length xs - 1) false) → IsTrue f)
+ImpliedBy-pop : (xs ys : List Bool) (f : Bool) → FlagsImply xs (ys ++ f ∷ []) → FlagsImply (take (length xs - 1) xs) ys × (IsTrue (get_or xs (length xs - 1) false) → IsTrue f)
 ImpliedBy-pop [] [] f h = absurd h
 ImpliedBy-pop [] (y ∷ ys) f h = absurd h
 ImpliedBy-pop (x ∷ []) [] f h = (tt, h.0)
@@ -104,7 +104,7 @@ module _ (image : ImageData) (plan : PlanData) (ok : IsPlan plan) (cert : CertDa
             found = at.found;
             inside = holds_covered plan (at.point).state t (reg m) ie ccpn at.covers long holds;
             flags =
-                ImpliedBy-trans _ (((k.point).state).locals.items ++ ((k.point).state).lower ∷ []) _ (subst (λ fs. FlagsImpliedBy ((at.point).state).locals.items fs) pushed (at.covers).locals)
+                ImpliedBy-trans _ (((k.point).state).locals.items ++ ((k.point).state).lower ∷ []) _ (subst (λ fs. FlagsImply ((at.point).state).locals.items fs) pushed (at.covers).locals)
                 (ImpliedBy-push ((k.point).state).locals.items (oldest_first frame.flags) ((k.point).state).lower k.flags);
             is = k.is;
             lower_kept = λ e. k.lower_kept (sym same_lower ∙ ((at.covers).context).2 e);
@@ -153,7 +153,7 @@ module _ (image : ImageData) (plan : PlanData) (ok : IsPlan plan) (cert : CertDa
         let restores : restore m false ≡ with_context_restored m false = restore-is m false (λ z. local.some (sym local.named ∙ z)) (ap not local.ul) (rw local.named local.area) in
         let after_words : IsMachine (with_context_restored m false) = subst IsMachine restores (stays_restore m words false) in
         let same_a11 : area_word m.mem (link_in m.pcxi) 1 ≡ a11 m = rw local.named local.a11_is in
-        let flags = ImpliedBy-pop ((k.point).state).locals.items (oldest_first top.flags) top.flag (subst (λ fs. FlagsImpliedBy ((k.point).state).locals.items (oldest_first fs)) top.same_flags k.flags) in
+        let flags = ImpliedBy-pop ((k.point).state).locals.items (oldest_first top.flags) top.flag (subst (λ fs. FlagsImply ((k.point).state).locals.items (oldest_first fs)) top.same_flags k.flags) in
         let popped : Frames plan cert most m.core m.mem (area_word m.mem top.area 0) (a11 m) (with_locals frame top.areas top.flags) below =
         Frames-moved plan cert most m.core m.mem m.pcxi (area_word m.mem top.area 0) (a11 m) frame below top.areas top.flags (sym (ap (under m.mem m.pcxi) top.same_areas)) top.others k.frames in
         record {
@@ -165,17 +165,17 @@ module _ (image : ImageData) (plan : PlanData) (ok : IsPlan plan) (cert : CertDa
             point = at.point;
             found = at.found;
             inside =
-                holds_covered plan (at.point).state (effects.state_after_lower_restore (k.point).state) (reg_of (d_after_lower (last_context m) m.d) (a_after_lower (last_context m) m.a)) m.ie m.ccpn at.covers (length-forgotten 0 ((k.point).state).regs ∙ long)
-                (restore_holds plan (k.point).state (reg m) (reg_of (d_after_lower (last_context m) m.d) (a_after_lower (last_context m) m.a)) m.ie m.ccpn long (λ r lt. reg_lt (with_context_restored m false) after_words r)
+                holds_covered plan (at.point).state (effects.state_after_lower_restore (k.point).state) (reg_of (d_after_lower_restore (last_context m) m.d) (a_after_lower_restore (last_context m) m.a)) m.ie m.ccpn at.covers (length-forgotten 0 ((k.point).state).regs ∙ long)
+                (restore_holds plan (k.point).state (reg m) (reg_of (d_after_lower_restore (last_context m) m.d) (a_after_lower_restore (last_context m) m.a)) m.ie m.ccpn long (λ r lt. reg_lt (with_context_restored m false) after_words r)
                 (λ r lt high. elim (cases_eq r 27) [
-                  | inl is ↦ subst (λ r. reg_of (d_after_lower (last_context m) m.d) (a_after_lower (last_context m) m.a) r ≡ reg m r) (sym is) same_a11
+                  | inl is ↦ subst (λ r. reg_of (d_after_lower_restore (last_context m) m.d) (a_after_lower_restore (last_context m) m.a) r ≡ reg m r) (sym is) same_a11
                   | inr other ↦ lower-UpperSame (last_context m) m.d m.a r lt high other
                 ]) k.inside);
             flags = ImpliedBy-trans _ (take (length ((k.point).state).locals.items - 1) ((k.point).state).locals.items) _ (at.covers).locals flags.0;
             is = k.is;
             lower_kept = λ e.
                 let flag : top.flag ≡ true = flags.1 (((at.covers).context).2 e) in
-                each_lower (λ r. reg_of (d_after_lower (last_context m) m.d) (a_after_lower (last_context m) m.a) r ≡ frame.word0 r)
+                each_lower (λ r. reg_of (d_after_lower_restore (last_context m) m.d) (a_after_lower_restore (last_context m) m.a) r ≡ frame.word0 r)
                 (λ j lt. lower_back (last_context m) m.d m.a j lt ∙ area_words-at m.mem (link_in m.pcxi) (suc (suc j)) (omega arith) ∙ ap (λ l. area_word m.mem l (suc (suc j))) local.named ∙ local.kept flag j lt);
             frames =
                 subst (λ w. Frames plan cert most m.core (with_words m.mem (link_address (link_in m.pcxi)) (m.fcx ∷ [])) (area_word m.mem (link_in m.pcxi) 0) w (with_locals frame top.areas top.flags) below) (sym same_a11)

@@ -14,13 +14,13 @@ use Rattle.value_domain.specs.declared.values.Val.{Val}
 use Rattle.value_domain.specs.declared.states.State.{State}
 use Rattle.value_domain.specs.Limits.{Limits}
 use Rattle.value_domain.specs.Sets.{Within}
-use Rattle.value_domain.specs.Values.{any_val, members, cover, IsValue, IsBelow}
-use Rattle.value_domain.specs.State.{AreValues, Covers}
+use Rattle.value_domain.specs.Values.{any_val, members, cover, IsInLattice, IsBelow}
+use Rattle.value_domain.specs.State.{AreInLattice, Covers}
 use Rattle.value_domain.proofs.CoverLaws.{cover_mono}
-use Rattle.vd_transfer.specs.Refinement.{condition_goes_to_side, kept_left, kept_right, kept_against_itself}
+use Rattle.vd_transfer.specs.Refinement.{is_side_taken, kept_left_words, kept_right_words, kept_self_compared_words}
 use Rattle.value_domain.specs.Meets.{cover_if_any}
-use Rattle.vd_transfer.specs.Registers.{slot, set_slot, register_value_at, reg_of, arg_of, is_operand_register}
-use Rattle.vd_transfer.specs.Branches.{side_with_register, side_with_operands, state_on_side, with_decremented_counter, refine_of}
+use Rattle.vd_transfer.specs.Registers.{register_slot, with_slot_value, register_value_at, reg_of, arg_of, is_same_register}
+use Rattle.vd_transfer.specs.Branches.{state_with_narrowed_register, state_with_narrowed_operands, state_on_side, with_decremented_counter, refine_of}
 use Rattle.value_domain.proofs.MeetLaws.{among_filter}
 use Rattle.depth_cert.specs.declared.points.Point.{Point}
 use Rattle.depth_cert.specs.Points.{find_point}
@@ -51,19 +51,19 @@ found_more (Some p) s t f h = f p.state h
 
 -- ---- values
 -- the cover of some members of a value is below the value
-cover_below : (b : Limits) (v z : Val) (xs : List ℕ) → IsValue b v → Within xs (members v) → cover_if_any b xs ≡ Some z → IsBelow z v
+cover_below : (b : Limits) (v z : Val) (xs : List ℕ) → IsInLattice b v → Within xs (members v) → cover_if_any b xs ≡ Some z → IsBelow z v
 cover_below b v z [] value there e = absurd (let f : None ≡ Some z = e in cc)
 cover_below b v z (x ∷ xs) value there e =
     let same : cover b (x ∷ xs) ≡ z = (let f : Some (cover b (x ∷ xs)) ≡ Some z = e in cc) in
     subst (λ (u : Val). IsBelow u v) same (subst (λ (u : Val). IsBelow (cover b (x ∷ xs)) u) value.own (cover_mono b (x ∷ xs) (members v) (omega arith) there))
 
-place_below : (b : Limits) (plan : PlanData) (s : State) (r : ℕ) (o : Option ℕ) (z : Val) (xs : List ℕ) → AreValues b s.regs → Within xs (members (register_value_at plan s r o)) → cover_if_any b xs ≡ Some z
+place_below : (b : Limits) (plan : PlanData) (s : State) (r : ℕ) (o : Option ℕ) (z : Val) (xs : List ℕ) → AreInLattice b s.regs → Within xs (members (register_value_at plan s r o)) → cover_if_any b xs ≡ Some z
     → IfSome o (λ i. i < length s.regs → IsBelow z (get_or s.regs i any_val))
 place_below b plan s r None z xs values there e = tt
 place_below b plan s r (Some i) z xs values there e = λ lt. cover_below b (get_or s.regs i any_val) z xs (values i lt) there e
 
 -- ---- states
-length_set_at : (t : State) (v : Val) (o : Option ℕ) → length (set_slot t v o).regs ≡ length t.regs
+length_set_at : (t : State) (v : Val) (o : Option ℕ) → length (with_slot_value t v o).regs ≡ length t.regs
 length_set_at t v None = refl
 length_set_at t v (Some i) = length-set t.regs i v
 
@@ -83,7 +83,7 @@ value_covers s t v i r len c h lt =
           subst (λ (u : Val). IsBelow u (get_or s.regs r any_val)) (sym (get_or-set_other t.regs i r v any_val (apart r i n))) (c.regs r lt)
     ]
 
-set_covers : (s t : State) (v : Val) (o : Option ℕ) → length t.regs ≡ length s.regs → Covers s t → IfSome o (λ i. i < length s.regs → IsBelow v (get_or s.regs i any_val)) → Covers s (set_slot t v o)
+set_covers : (s t : State) (v : Val) (o : Option ℕ) → length t.regs ≡ length s.regs → Covers s t → IfSome o (λ i. i < length s.regs → IsBelow v (get_or s.regs i any_val)) → Covers s (with_slot_value t v o)
 set_covers s t v None len c h = c
 set_covers s t v (Some i) len c h = record {
   regs = λ r lt. (let within : r < length (set t.regs i v) = lt in value_covers s t v i r len c h (omega (arith, within, length-set t.regs i v)));
@@ -91,38 +91,38 @@ set_covers s t v (Some i) len c h = record {
   locals = c.locals;
 }
 
-one_covers : (b : Limits) (plan : PlanData) (s : State) (x : ℕ) (xs : List ℕ) (o : Option Val) → AreValues b s.regs → Within xs (members (reg_of plan s x)) → cover_if_any b xs ≡ o → IfSome (side_with_register s x o) (Covers s)
+one_covers : (b : Limits) (plan : PlanData) (s : State) (x : ℕ) (xs : List ℕ) (o : Option Val) → AreInLattice b s.regs → Within xs (members (reg_of plan s x)) → cover_if_any b xs ≡ o → IfSome (state_with_narrowed_register s x o) (Covers s)
 one_covers b plan s x xs None values there e = tt
-one_covers b plan s x xs (Some z) values there e = set_covers s s z (slot x) refl (covers_same s) (place_below b plan s x (slot x) z xs values there e)
+one_covers b plan s x xs (Some z) values there e = set_covers s s z (register_slot x) refl (covers_same s) (place_below b plan s x (register_slot x) z xs values there e)
 
-two_covers : (b : Limits) (plan : PlanData) (s : State) (x : ℕ) (y : Arg) (xs ys : List ℕ) (o q : Option Val) → AreValues b s.regs → Within xs (members (reg_of plan s x)) → Within ys (members (arg_of plan s y))
-    → cover_if_any b xs ≡ o → cover_if_any b ys ≡ q → IfSome (side_with_operands s x y o q) (Covers s)
+two_covers : (b : Limits) (plan : PlanData) (s : State) (x : ℕ) (y : Arg) (xs ys : List ℕ) (o q : Option Val) → AreInLattice b s.regs → Within xs (members (reg_of plan s x)) → Within ys (members (arg_of plan s y))
+    → cover_if_any b xs ≡ o → cover_if_any b ys ≡ q → IfSome (state_with_narrowed_operands s x y o q) (Covers s)
 two_covers b plan s x y xs ys None q values left right e f = tt
 two_covers b plan s x y xs ys (Some v) None values left right e f = tt
 two_covers b plan s x (Word k) xs ys (Some v) (Some w) values left right e f = one_covers b plan s x xs (Some v) values left e
 two_covers b plan s x (Reg r) xs ys (Some v) (Some w) values left right e f =
-    set_covers s (set_slot s v (slot x)) w (slot r) (length_set_at s v (slot x)) (one_covers b plan s x xs (Some v) values left e) (place_below b plan s r (slot r) w ys values right f)
+    set_covers s (with_slot_value s v (register_slot x)) w (register_slot r) (length_set_at s v (register_slot x)) (one_covers b plan s x xs (Some v) values left e) (place_below b plan s r (register_slot r) w ys values right f)
 
 -- ---- sides
-left_within : (test : Cond) (side : Bool) (vs ws : List ℕ) → Within (kept_left test side vs ws) vs
-unfolding kept_left
-left_within test side vs ws z i = (among_filter (λ x. list_any (λ y. condition_goes_to_side test side x y) ws) z vs i).0
+left_within : (test : Cond) (side : Bool) (vs ws : List ℕ) → Within (kept_left_words test side vs ws) vs
+unfolding kept_left_words
+left_within test side vs ws z i = (among_filter (λ x. list_any (λ y. is_side_taken test side x y) ws) z vs i).0
 
-right_within : (test : Cond) (side : Bool) (vs ws : List ℕ) → Within (kept_right test side vs ws) ws
-unfolding kept_right
-right_within test side vs ws z i = (among_filter (λ y. list_any (λ x. condition_goes_to_side test side x y) vs) z ws i).0
+right_within : (test : Cond) (side : Bool) (vs ws : List ℕ) → Within (kept_right_words test side vs ws) ws
+unfolding kept_right_words
+right_within test side vs ws z i = (among_filter (λ y. list_any (λ x. is_side_taken test side x y) vs) z ws i).0
 
-both_within : (test : Cond) (side : Bool) (vs : List ℕ) → Within (kept_against_itself test side vs) vs
-unfolding kept_against_itself
-both_within test side vs z i = (among_filter (λ z. condition_goes_to_side test side z z) z vs i).0
+both_within : (test : Cond) (side : Bool) (vs : List ℕ) → Within (kept_self_compared_words test side vs) vs
+unfolding kept_self_compared_words
+both_within test side vs z i = (among_filter (λ z. is_side_taken test side z z) z vs i).0
 
-side_covers : (b : Limits) (plan : PlanData) (test : Cond) (x : ℕ) (y : Arg) (s : State) (side : Bool) → AreValues b s.regs → IfSome (state_on_side b plan test x y s side) (Covers s)
+side_covers : (b : Limits) (plan : PlanData) (test : Cond) (x : ℕ) (y : Arg) (s : State) (side : Bool) → AreInLattice b s.regs → IfSome (state_on_side b plan test x y s side) (Covers s)
 side_covers b plan test x y s side values =
-    elim (cases_Bool (is_operand_register x y)) [
-      | inl one ↦ rw one (one_covers b plan s x (kept_against_itself test side (members (reg_of plan s x))) _ values (both_within test side (members (reg_of plan s x))) refl)
+    elim (cases_Bool (is_same_register x y)) [
+      | inl one ↦ rw one (one_covers b plan s x (kept_self_compared_words test side (members (reg_of plan s x))) _ values (both_within test side (members (reg_of plan s x))) refl)
       | inr two ↦
           rw two
-          (two_covers b plan s x y (kept_left test side (members (reg_of plan s x)) (members (arg_of plan s y))) (kept_right test side (members (reg_of plan s x)) (members (arg_of plan s y))) _ _ values
+          (two_covers b plan s x y (kept_left_words test side (members (reg_of plan s x)) (members (arg_of plan s y))) (kept_right_words test side (members (reg_of plan s x)) (members (arg_of plan s y))) _ _ values
           (left_within test side (members (reg_of plan s x)) (members (arg_of plan s y))) (right_within test side (members (reg_of plan s x)) (members (arg_of plan s y))) refl refl)
     ]
 
@@ -130,7 +130,7 @@ unlowered : (b : Limits) (plan : PlanData) (x : ℕ) (o : Option State) (P : Sta
 unlowered b plan x None P h = h
 unlowered b plan x (Some t) P h = h
 
-pub branch_covers : (b : Limits) (plan : PlanData) (test : Cond) (x : ℕ) (y : Arg) (by : ℕ) (lowers : Bool) (s : State) (side : Bool) → lowers ≡ false → AreValues b s.regs → IfSome (refine_of b plan (Branch test x y by lowers) s side) (Covers s)
+pub branch_covers : (b : Limits) (plan : PlanData) (test : Cond) (x : ℕ) (y : Arg) (by : ℕ) (lowers : Bool) (s : State) (side : Bool) → lowers ≡ false → AreInLattice b s.regs → IfSome (refine_of b plan (Branch test x y by lowers) s side) (Covers s)
 unfolding refine_of
 branch_covers b plan test x y by true s side e values = absurd (let f : true ≡ false = e in cc)
 branch_covers b plan test x y by false s side e values = unlowered b plan x (state_on_side b plan test x y s side) (Covers s) (side_covers b plan test x y s side values)

@@ -12,7 +12,7 @@ use Rattle.tcd_plan.specs.MappedAddresses.{IsInAreas}
 use Rattle.tc_machine.proofs.PlanLaws.{link_address-area}
 use Rattle.tc_machine.proofs.Areas.{Areas}
 use Rattle.value_domain.specs.declared.states.State.{State}
-use Rattle.value_domain.specs.State.{Covers, FlagsImpliedBy}
+use Rattle.value_domain.specs.State.{Covers, FlagsImply}
 use Rattle.depth_cert.specs.declared.points.Point.{Point}
 use Rattle.depth_cert.specs.Points.{find_point}
 use Rattle.depth_cert.specs.Certs.{CertData}
@@ -58,7 +58,7 @@ module _ (image : ImageData) (plan : PlanData) (ok : IsPlan plan) (cert : CertDa
         point = point;
         found = found;
         inside = holds_covered plan point.state t (reg n) n.ie n.ccpn covers long moves.inside;
-        flags = ImpliedBy-trans _ ((k.point).state).locals.items _ (subst (λ fs. FlagsImpliedBy (point.state).locals.items fs) moves.locals covers.locals) k.flags;
+        flags = ImpliedBy-trans _ ((k.point).state).locals.items _ (subst (λ fs. FlagsImply (point.state).locals.items fs) moves.locals covers.locals) k.flags;
         is = ap is_interrupt_stack_used moves.psw ∙ k.is;
         lower_kept = λ e r low. let l = moves.lower ((covers.context).2 e) in l.1 r low ∙ k.lower_kept l.0 r low;
         frames =

@@ -3,7 +3,7 @@ use Rattle.std.proofs.Common.{◌≡◌, ◌≢◌, ℕ, zero, suc, ◌+◌, ◌
 use Rattle.std.proofs.lemmas.Bool.{cond_both, cases_lt, le-ltb, lt-ltb, le-leb, lt-leb}
 use Rattle.std.proofs.lemmas.List.{get_or-set_other}
 use Rattle.std.specs.Prelude.{nat_lt}
-use Rattle.csa_chain.specs.ContextWords.{d_after_upper, a_after_upper, d_after_lower, a_after_lower}
+use Rattle.csa_chain.specs.ContextWords.{d_after_upper_restore, a_after_upper_restore, d_after_lower_restore, a_after_lower_restore}
 use Rattle.csa_chain.proofs.ContextLaws.{reg_of, upper_regs, lower_regs, global_regs, below_14, below_16, upper_leaves_lower, lower_leaves_upper}
 use Rattle.tc_machine.specs.Machine.{AreRegisters}
 use Rattle.tc_machine.proofs.Words.{register_lt}
@@ -57,14 +57,14 @@ each_upper P at global r small high other =
 
 module _ (words d a : List ℕ) where
   -- globals stay when an upper context is restored, and when a lower one is
-  pub upper_leaves_globals : (j : ℕ) → j < 4 → reg_of (d_after_upper words d) (a_after_upper words a) (get_or global_regs j 0) ≡ reg_of d a (get_or global_regs j 0)
+  pub upper_leaves_globals : (j : ℕ) → j < 4 → reg_of (d_after_upper_restore words d) (a_after_upper_restore words a) (get_or global_regs j 0) ≡ reg_of d a (get_or global_regs j 0)
   upper_leaves_globals zero lt = refl
   upper_leaves_globals (suc zero) lt = refl
   upper_leaves_globals (suc (suc zero)) lt = refl
   upper_leaves_globals (suc (suc (suc zero))) lt = refl
   upper_leaves_globals (suc (suc (suc (suc j)))) lt = absurd (omega arith)
 
-  pub lower_leaves_globals : (j : ℕ) → j < 4 → reg_of (d_after_lower words d) (a_after_lower words a) (get_or global_regs j 0) ≡ reg_of d a (get_or global_regs j 0)
+  pub lower_leaves_globals : (j : ℕ) → j < 4 → reg_of (d_after_lower_restore words d) (a_after_lower_restore words a) (get_or global_regs j 0) ≡ reg_of d a (get_or global_regs j 0)
   lower_leaves_globals zero lt = refl
   lower_leaves_globals (suc zero) lt = refl
   lower_leaves_globals (suc (suc zero)) lt = refl
@@ -72,12 +72,12 @@ module _ (words d a : List ℕ) where
   lower_leaves_globals (suc (suc (suc (suc j)))) lt = absurd (omega arith)
 
   -- when an upper context is restored, the lower registers stay
-  pub upper-LowerSame : LowerSame (reg_of d a) (reg_of (d_after_upper words d) (a_after_upper words a))
-  upper-LowerSame = each_lower (λ r. reg_of (d_after_upper words d) (a_after_upper words a) r ≡ reg_of d a r) (upper_leaves_lower words d a)
+  pub upper-LowerSame : LowerSame (reg_of d a) (reg_of (d_after_upper_restore words d) (a_after_upper_restore words a))
+  upper-LowerSame = each_lower (λ r. reg_of (d_after_upper_restore words d) (a_after_upper_restore words a) r ≡ reg_of d a r) (upper_leaves_lower words d a)
 
   -- when a lower context is restored, all others except A11 stay
-  pub lower-UpperSame : UpperSame (reg_of d a) (reg_of (d_after_lower words d) (a_after_lower words a))
-  lower-UpperSame = each_upper (λ r. reg_of (d_after_lower words d) (a_after_lower words a) r ≡ reg_of d a r) (lower_leaves_upper words d a) lower_leaves_globals
+  pub lower-UpperSame : UpperSame (reg_of d a) (reg_of (d_after_lower_restore words d) (a_after_lower_restore words a))
+  lower-UpperSame = each_upper (λ r. reg_of (d_after_lower_restore words d) (a_after_lower_restore words a) r ≡ reg_of d a r) (lower_leaves_upper words d a) lower_leaves_globals
 
 -- ---- registers that an entry sets
 module _ (d a : List ℕ) where

@@ -7,10 +7,10 @@ use Rattle.std.proofs.lemmas.Bool.{lt-ltb, le-ltb}
 use Rattle.std.proofs.lemmas.List.{length-map, get_or-map, get_or_default}
 use Rattle.value_domain.specs.declared.states.State.{State}
 use Rattle.value_domain.specs.Limits.{Limits}
-use Rattle.value_domain.specs.Values.{any_val, IsValue}
-use Rattle.value_domain.specs.State.{AreValues, Covers}
+use Rattle.value_domain.specs.Values.{any_val, IsInLattice}
+use Rattle.value_domain.specs.State.{AreInLattice, Covers}
 use Rattle.depth_cert.specs.declared.points.Point.{Point}
-use Rattle.depth_cert.specs.Points.{ArePoints, find_point}
+use Rattle.depth_cert.specs.Points.{AreAscendingPoints, find_point}
 use Rattle.depth_cert.specs.Nodes.{NodeData}
 use Rattle.depth_cert.specs.Certs.{CertData}
 use Rattle.tcd_plan.specs.PlanData.{PlanData}
@@ -22,7 +22,7 @@ use Rattle.packed_cert.specs.Walks.{WalkData, IsNextWithSameState, KeepsOtherVal
 use Rattle.packed_cert.proofs.NodeFinds.{covers_same}
 use Rattle.packed_cert.proofs.WalkedPoints.{split_more}
 use Rattle.depth_check.specs.DutiesHold.{HasPointWithState}
-use Rattle.depth_check.specs.PointChecks.{LooksAhead, HasPathFacts}
+use Rattle.depth_check.specs.PointChecks.{IsWalkAtState, FastPathFactsHold}
 use Rattle.depth_check.proofs.WalkLaws.{stands_behind}
 
 -- ---- an element of a list that rises by a number is found by its number
@@ -44,7 +44,7 @@ find_at f xs i d rising lt =
     (eq-eqb _ _ refl)
 
 -- ---- the next point is at its address
-next_stands : (node : NodeData) (done left rest : List Point) (p q : Point) → ArePoints node.points → node.points ≡ done ++ (p ∷ left) → left ≡ q ∷ rest → find_point q.addr node.points ≡ Some q
+next_stands : (node : NodeData) (done left rest : List Point) (p q : Point) → AreAscendingPoints node.points → node.points ≡ done ++ (p ∷ left) → left ≡ q ∷ rest → find_point q.addr node.points ≡ Some q
 next_stands node done left rest p q rising split next =
     let more : node.points ≡ (done ++ p ∷ []) ++ (q ∷ rest) = split_more node.points done (p ∷ left) left p split refl ∙ ap (λ (l : List Point). (done ++ p ∷ []) ++ l) next in
     let b = stands_behind node.points (done ++ p ∷ []) rest q more in
@@ -59,7 +59,7 @@ pub known_covers : (node : NodeData) (known : Option ℕ) (a : ℕ) (s : State) 
 known_covers node known a s e h = stands_covers node.points (record { addr = a; state = s }) s (subst (λ (o : Option ℕ). IfSome o (λ x. HasPointWithState node x s)) e h) (covers_same s)
 
 -- so a walk looks ahead
-pub looks_ahead : (node : NodeData) (done before : List Point) (w : WalkData) (p : Point) (s : State) → ArePoints node.points → w.points ≡ node.points → node.points ≡ done ++ before → before ≡ p ∷ w.left → s ≡ w.current → LooksAhead node s w
+pub looks_ahead : (node : NodeData) (done before : List Point) (w : WalkData) (p : Point) (s : State) → AreAscendingPoints node.points → w.points ≡ node.points → node.points ≡ done ++ before → before ≡ p ∷ w.left → s ≡ w.current → IsWalkAtState node s w
 looks_ahead node done before w p s rising all split step same = record {
   points = all;
   current = sym same;
@@ -68,7 +68,7 @@ looks_ahead node done before w p s rising all split step same = record {
       stands_covers node.points q t (next_stands node done w.left (drop 1 w.left) p q rising (split ∙ ap (λ (l : List Point). done ++ l) step) h.1) h.2;
 }
 
-pub repeats_stand : (node : NodeData) (done before : List Point) (w : WalkData) (p : Point) (r : Option ℕ) (s : State) → ArePoints node.points → node.points ≡ done ++ before → before ≡ p ∷ w.left → s ≡ w.current → IfSome r (IsNextWithSameState w)
+pub repeats_stand : (node : NodeData) (done before : List Point) (w : WalkData) (p : Point) (r : Option ℕ) (s : State) → AreAscendingPoints node.points → node.points ≡ done ++ before → before ≡ p ∷ w.left → s ≡ w.current → IfSome r (IsNextWithSameState w)
     → IfSome r (λ a. HasPointWithState node a s)
 repeats_stand node done before w p None s rising split step same h = tt
 repeats_stand node done before w p (Some a) s rising split step same h =
@@ -77,17 +77,17 @@ repeats_stand node done before w p (Some a) s rising split step same h =
 
 -- ---- what is known at a point of a walk
 pub walk_facts : (plan : PlanData) (cert : CertData) (node : NodeData) (done before : List Point) (w : WalkData) (p : Point) (here : CurrentPoint)
-    → ArePoints node.points → w.points ≡ node.points → node.points ≡ done ++ before → before ≡ p ∷ w.left → here.state.now ≡ w.current
-    → (IsTrue here.again → InterruptsHold plan cert node w.current) → IfSome here.next (IsNextWithSameState w) → here.walk.now ≡ w → HasPathFacts plan cert node here
+    → AreAscendingPoints node.points → w.points ≡ node.points → node.points ≡ done ++ before → before ≡ p ∷ w.left → here.state.now ≡ w.current
+    → (IsTrue here.again → InterruptsHold plan cert node w.current) → IfSome here.next (IsNextWithSameState w) → here.walk.now ≡ w → FastPathFactsHold plan cert node here
 walk_facts plan cert node done before w p here rising all split step same again next walk = record {
   again = λ t. subst (InterruptsHold plan cert node) (sym same) (again t);
   next = repeats_stand node done before w p here.next here.state.now rising split step same next;
-  walk = subst (LooksAhead node here.state.now) (sym walk) (looks_ahead node done before w p here.state.now rising all split step same);
+  walk = subst (IsWalkAtState node here.state.now) (sym walk) (looks_ahead node done before w p here.state.now rising all split step same);
 }
 
 -- ---- values that are known
-pub known_values : (b : Limits) (before : State) (w : WalkData) → KeepsOtherValues before w → AreValues b before.regs → AreValues b w.anew → AreValues b (w.current).regs
+pub known_values : (b : Limits) (before : State) (w : WalkData) → KeepsOtherValues before w → AreInLattice b before.regs → AreInLattice b w.anew → AreInLattice b (w.current).regs
 known_values b before w kept own anew r lt = elim (kept r lt) [
-  | inl same ↦ subst (IsValue b) (sym same.1) (own r same.0)
-  | inr among ↦ subst (IsValue b) (get_or_default w.anew among.0 any_val _ among.1 ∙ among.2) (anew among.0 among.1)
+  | inl same ↦ subst (IsInLattice b) (sym same.1) (own r same.0)
+  | inr among ↦ subst (IsInLattice b) (get_or_default w.anew among.0 any_val _ among.1 ∙ among.2) (anew among.0 among.1)
 ]

@@ -17,11 +17,11 @@ use Rattle.tc_machine.proofs.Areas.{Areas-start, ChainsAreWhole-from}
 use Rattle.value_domain.specs.Values.{word_val}
 use Rattle.depth_cert.specs.Keys.{IsKey}
 use Rattle.depth_cert.specs.Points.{find_point}
-use Rattle.depth_cert.specs.Nodes.{NodeData, need_of, find_node}
+use Rattle.depth_cert.specs.Nodes.{NodeData, need_or_zero, find_node}
 use Rattle.depth_cert.specs.Certs.{CertData, IsCert}
 use Rattle.cfg_recover.specs.Entries.{start_key, start_state}
 use Rattle.cfg_recover.specs.Frames.{RunFrame, frames_after, frames_from, frames}
-use Rattle.cfg_recover.specs.RulesHoldOrFail.{limits_in, HasCoveringPoint, Accepts, certified_need}
+use Rattle.cfg_recover.specs.RulesHoldOrFail.{limits_of_cert, HasCoveringPoint, Accepts, certified_need}
 use Rattle.cfg_recover.proofs.MoveLaws.{stores_held}
 use Rattle.cfg_recover.proofs.EntryLaws.{holds_covered, holds_start, entry_length}
 use Rattle.depth_check.specs.AcceptedPromises.{AcceptedIsSafe}
@@ -45,7 +45,7 @@ module _ (image : ImageData) (plan : PlanData) (ok : IsPlan plan) (cert : CertDa
     pub at : PointFor node image.entry (start_state plan)
     pub need : most ≡ node.need
 
-  begun : IsKey (start_key image plan) → (o : Option NodeData) → find_node (start_key image plan) cert.nodes ≡ o → IsSomeAnd o (λ n. HasCoveringPoint n image.entry (start_state plan)) → Begun (need_of o)
+  begun : IsKey (start_key image plan) → (o : Option NodeData) → find_node (start_key image plan) cert.nodes ≡ o → IsSomeAnd o (λ n. HasCoveringPoint n image.entry (start_state plan)) → Begun (need_or_zero o)
   begun small None e h = absurd h
   begun small (Some n) e h = record { node = n; found = node_found image plan cert is_cert accepted (start_key image plan) n small e; at = point_for n image.entry (start_state plan) (find_point image.entry n.points) refl h; need = refl }
 
@@ -100,7 +100,7 @@ module _ (image : ImageData) (plan : PlanData) (ok : IsPlan plan) (cert : CertDa
           running = k.running;
           chains = ChainsAreWhole-from ok most m (used_by frame below) k.free (Links-Frames plan cert most m.core m.mem m.pcxi (a11 m) frame below k.frames) k.areas (omega arith);
           code_in_rom = IsAtCode-from image ok m k.rom code.bytes code.inst code.spells;
-          stores_in_range = stores_held (limits_in plan cert) image plan (frame.node).key m e (k.point).state r.shape r.size
+          stores_in_range = stores_held (limits_of_cert plan cert) image plan (frame.node).key m e (k.point).state r.shape r.size
               (at_point image plan ok cert most few is_cert accepted m words frame below k r.shape r.size r.holds);
         }
 

@@ -16,9 +16,9 @@ use Rattle.tc_machine.specs.declared.events.Event.{Event}
 use Rattle.tc_machine.specs.declared.events.End.TheVariants.{Running}
 use Rattle.tc_machine.specs.declared.state.Machine.{Machine}
 use Rattle.tc_machine.specs.Machine.{reg, a11, is_interrupt_stack_used, psw_with_status, IsMachine}
-use Rattle.tc_machine.specs.Instructions.{machine_address_ahead, target_of, does, is_trapping_instruction}
-use Rattle.tc_machine.specs.Handlers.{handler_psw, interrupt}
-use Rattle.tc_machine.specs.Stepping.{is_interrupt_taken, after_found_instruction, machine_after_event, step}
+use Rattle.tc_machine.specs.Instructions.{wrapping_sum, target_of, does, is_trapping_instruction}
+use Rattle.tc_machine.specs.Handlers.{handler_psw, after_interrupt}
+use Rattle.tc_machine.specs.Stepping.{is_interrupt_taken, after_fetch_result, machine_after_event, step}
 use Rattle.tc_machine.specs.SavesAndRestores.{with_context_saved, save, with_context_restored, restore}
 use Rattle.tc_machine.specs.Fetching.{fetched_instruction, fetched_size}
 use Rattle.tc_machine.specs.Safe.{Fits}
@@ -37,13 +37,13 @@ use Rattle.depth_cert.specs.Nodes.{NodeData, find_node}
 use Rattle.depth_cert.specs.Certs.{CertData, IsCert}
 use Rattle.cfg_recover.specs.Code.{IsCode}
 use Rattle.cfg_recover.specs.Entries.{call_key, irq_key, sys_key, aln_key, call_entry, irq_entry, sys_entry, aln_entry, handler_key}
-use Rattle.depth_cert.specs.Exits.{exit_of, state_after_exit, ExitCovers}
+use Rattle.depth_cert.specs.Exits.{exit_of_state, state_after_return, ExitCovers}
 use Rattle.cfg_recover.specs.Duties.{Owed, jump, enter, resume, leave, owed}
 use Rattle.cfg_recover.specs.EdgesAreOwed.{OwesEntry, IsEdgeWayOwed}
-use Rattle.cfg_recover.specs.Frames.{IsReturn, RunFrame, frames_at, frames_entered, frames_left, frames_after_edge, frames_after}
-use Rattle.cfg_recover.specs.RulesHoldOrFail.{limits_in, HasCoveringPoint, Accepts}
+use Rattle.cfg_recover.specs.Frames.{IsReturnTo, RunFrame, frames_after_jump, frames_after_entry, frames_after_return, frames_after_edge, frames_after}
+use Rattle.cfg_recover.specs.RulesHoldOrFail.{limits_of_cert, HasCoveringPoint, Accepts}
 use Rattle.cfg_recover.specs.StepEdges.{EdgeWay, to, call, irq, sys, aln, edge_way_of_shape, edge_way_by_trap, edge_way_in_fetch}
-use Rattle.cfg_recover.specs.MovesAreOwed.{IsAtPoint, StaysInFrame}
+use Rattle.cfg_recover.specs.MovesAreOwed.{IsAtPoint, KeepsFrameAndContexts}
 use Rattle.cfg_recover.proofs.MoveLaws.{moves_in_frame, traps_owed, calls_owed, interrupts_owed}
 use Rattle.cfg_recover.proofs.EntryLaws.{holds_same, holds_exit, reg_lt}
 use Rattle.depth_check.proofs.Frames.{Frame, standing, Leaves, by_return, from_system, from_handler, Invariant}
@@ -70,22 +70,22 @@ Goes-as : {image : ImageData} {plan : PlanData} {cert : CertData} {most : ℕ} {
 Goes-as e g = record { frame = g.frame; below = g.below; kept = g.kept; stands = g.stands ∙ e }
 
 -- a frame goes on, with other lower contexts, and enters another
-at_standing : (q pc : ℕ) (frame : Frame) (below : List Frame) → standing q frame below ≡ frames_at q (standing pc frame below)
+at_standing : (q pc : ℕ) (frame : Frame) (below : List Frame) → standing q frame below ≡ frames_after_jump q (standing pc frame below)
 at_standing q pc frame [] = refl
 at_standing q pc frame (s ∷ below) = refl
 
-locals_standing : (q pc : ℕ) (frame : Frame) (locals : List ℕ) (flags : List Bool) (below : List Frame) → standing q (with_locals frame locals flags) below ≡ frames_at q (standing pc frame below)
+locals_standing : (q pc : ℕ) (frame : Frame) (locals : List ℕ) (flags : List Bool) (below : List Frame) → standing q (with_locals frame locals flags) below ≡ frames_after_jump q (standing pc frame below)
 locals_standing q pc frame locals flags [] = refl
 locals_standing q pc frame locals flags (s ∷ below) = refl
 
-entered_standing : (key : Key → Key) (back q pc : ℕ) (frame : Frame) (below : List Frame) → record { key = key (frame.node).key; at = q } ∷ standing back frame below ≡ frames_entered key back q (standing pc frame below)
+entered_standing : (key : Key → Key) (back q pc : ℕ) (frame : Frame) (below : List Frame) → record { key = key (frame.node).key; at = q } ∷ standing back frame below ≡ frames_after_entry key back q (standing pc frame below)
 entered_standing key back q pc frame [] = refl
 entered_standing key back q pc frame (s ∷ below) = refl
 
 -- The invariant of a machine x after a step from m with these frames. The step's way is among the
 -- duties of the point, or is the return to the frame before it.
 pub record Steps (image : ImageData) (plan : PlanData) (cert : CertData) (most : ℕ) (m : Machine) (frame : Frame) (below : List Frame) (ds : List Owed) (e : Event) (n : ℕ) (way : EdgeWay) (x : Machine) : Type 0 where
-  pub goes : Goes image plan cert most x (frames_after_edge m.pc (machine_address_ahead m.pc n) e.irq way (standing m.pc frame below))
+  pub goes : Goes image plan cert most x (frames_after_edge m.pc (wrapping_sum m.pc n) e.irq way (standing m.pc frame below))
   pub owes : IsEdgeWayOwed ds (frame.node).key e.irq (standing m.pc frame below) x.pc way
 
 Steps-as : {image : ImageData} {plan : PlanData} {cert : CertData} {most : ℕ} {m : Machine} {frame : Frame} {below : List Frame} {ds : List Owed} {e : Event} {n : ℕ} {way other : EdgeWay} {x : Machine} → other ≡ way
@@ -93,12 +93,12 @@ Steps-as : {image : ImageData} {plan : PlanData} {cert : CertData} {most : ℕ} 
 Steps-as {image} {plan} {cert} {most} {m} {frame} {below} {ds} {e} {n} {way} {other} {x} same s = subst (λ w. Steps image plan cert most m frame below ds e n w x) (sym same) s
 
 -- a return goes to the frame before the newest
-return_standing : (q pc : ℕ) (frame suspended : Frame) (below : List Frame) → frame.back ≡ q → IsReturn q (standing pc frame (suspended ∷ below))
+return_standing : (q pc : ℕ) (frame suspended : Frame) (below : List Frame) → frame.back ≡ q → IsReturnTo q (standing pc frame (suspended ∷ below))
 return_standing q pc frame suspended [] e = e
 return_standing q pc frame suspended (s ∷ below) e = e
 
 -- an instruction that stays in its frame
-pub stays_to : (shape : Shape) → StaysInFrame shape → (q : ℕ) → edge_way_of_shape shape q ≡ to q
+pub stays_to : (shape : Shape) → KeepsFrameAndContexts shape → (q : ℕ) → edge_way_of_shape shape q ≡ to q
 stays_to (Call x) stays q = absurd stays
 stays_to Ret stays q = absurd stays
 stays_to Rfe stays q = absurd stays
@@ -151,9 +151,9 @@ Invariant-event image plan cert most m e frame below k = record {
   running = k.running;
 }
 
-points_for : (node : NodeData) (q : ℕ) (s : State) (kind : ℕ) (o : Option Exit) → IfSome o (λ x. HasCoveringPoint node q (state_after_exit s x kind)) → IfSome o (λ x. PointFor node q (state_after_exit s x kind))
+points_for : (node : NodeData) (q : ℕ) (s : State) (kind : ℕ) (o : Option Exit) → IfSome o (λ x. HasCoveringPoint node q (state_after_return s x kind)) → IfSome o (λ x. PointFor node q (state_after_return s x kind))
 points_for node q s kind None h = tt
-points_for node q s kind (Some x) h = point_for node q (state_after_exit s x kind) (find_point q node.points) refl h
+points_for node q s kind (Some x) h = point_for node q (state_after_return s x kind) (find_point q node.points) refl h
 
 -- an exit of a node that covers another
 record ExitFor (node : NodeData) (x : Exit) : Type 0 where
@@ -202,7 +202,7 @@ module _ (image : ImageData) (plan : PlanData) (ok : IsPlan plan) (cert : CertDa
         }
 
     module _ (shape : Shape) (n : ℕ) (h : PointHolds image plan cert frame.node m.pc (k.point).state shape n) where
-      pub at_point : IsAtPoint (limits_in plan cert) image plan (frame.node).key m (k.point).state shape n
+      pub at_point : IsAtPoint (limits_of_cert plan cert) image plan (frame.node).key m (k.point).state shape n
       at_point = record {
         limits = limits_are plan cert.version;
         is_plan = ok;
@@ -221,18 +221,18 @@ module _ (image : ImageData) (plan : PlanData) (ok : IsPlan plan) (cert : CertDa
       entering rule key t small owes = node_for frame (k.point).state key t small (find_node key cert.nodes) refl (h.met (owed rule (enter key t)) owes) (h.entered (owed rule (enter key t)) owes)
 
       resuming : (rule : ℕ) (key : Key) (t : State) (q : ℕ) → (f : NodeFor frame (k.point).state key t) → Contains (duties_at image plan cert frame.node m.pc (k.point).state shape n) (owed rule (resume key q))
-          → IfSome (f.node).exit (λ x. PointFor frame.node q (state_after_exit (k.point).state x key.kind))
+          → IfSome (f.node).exit (λ x. PointFor frame.node q (state_after_return (k.point).state x key.kind))
       resuming rule key t q f owes =
           points_for frame.node q (k.point).state key.kind (f.node).exit
-          (if_some (λ n. IfSome n.exit (λ x. HasCoveringPoint frame.node q (state_after_exit (k.point).state x key.kind))) (find_node key cert.nodes) f.node (h.met (owed rule (resume key q)) owes) f.is)
+          (if_some (λ n. IfSome n.exit (λ x. HasCoveringPoint frame.node q (state_after_return (k.point).state x key.kind))) (find_node key cert.nodes) f.node (h.met (owed rule (resume key q)) owes) f.is)
 
       jumping : (q : ℕ) (t : State) → Contains (duties_at image plan cert frame.node m.pc (k.point).state shape n) (owed 4 (jump q t)) → PointFor frame.node q t
       jumping q t owes = point_for frame.node q t (find_point q (frame.node).points) refl (h.met (owed 4 (jump q t)) owes)
 
       -- ---- inside the frame
-      plain : (e : Event) → Fits plan m e → is_interrupt_taken m e ≡ false → StaysInFrame shape → is_trapping_instruction m e shape ≡ false → Steps image plan cert most m frame below (duties_at image plan cert frame.node m.pc (k.point).state shape n) e n (edge_way_by_trap m e shape (does m e shape n).pc) (does m e shape n)
+      plain : (e : Event) → Fits plan m e → is_interrupt_taken m e ≡ false → KeepsFrameAndContexts shape → is_trapping_instruction m e shape ≡ false → Steps image plan cert most m frame below (duties_at image plan cert frame.node m.pc (k.point).state shape n) e n (edge_way_by_trap m e shape (does m e shape n).pc) (does m e shape n)
       plain e fits none stays free =
-          let mv = moves_in_frame (limits_in plan cert) image plan (frame.node).key m e (k.point).state shape n at_point fits none stays free in
+          let mv = moves_in_frame (limits_of_cert plan cert) image plan (frame.node).key m e (k.point).state shape n at_point fits none stays free in
           let at = jumping (does m e shape n).pc mv.state mv.owes in
           let way : edge_way_by_trap m e shape (does m e shape n).pc ≡ to (does m e shape n).pc =
           ap (λ t. cond t (aln (does m e shape n).pc) (edge_way_of_shape shape (does m e shape n).pc)) free ∙ stays_to shape stays (does m e shape n).pc
@@ -243,7 +243,7 @@ module _ (image : ImageData) (plan : PlanData) (ok : IsPlan plan) (cert : CertDa
               frame = frame;
               below = below;
               kept = Invariant-moved image plan ok cert most m (does m e shape n) frame below k mv.state mv.moves
-                  (jump_long (limits_in plan cert) image plan (frame.node).key m.pc (k.point).state n h.regs shape (does m e shape n).pc mv.state mv.owes) at.point at.found at.covers;
+                  (jump_long (limits_of_cert plan cert) image plan (frame.node).key m.pc (k.point).state n h.regs shape (does m e shape n).pc mv.state mv.owes) at.point at.found at.covers;
               stands = at_standing (does m e shape n).pc m.pc frame below;
             };
             owes = (mv.state, mv.owes);
@@ -253,7 +253,7 @@ module _ (image : ImageData) (plan : PlanData) (ok : IsPlan plan) (cert : CertDa
       trapped : (e : Event) → is_trapping_instruction m e shape ≡ true → Steps image plan cert most m frame below (duties_at image plan cert frame.node m.pc (k.point).state shape n) e n (edge_way_by_trap m e shape (does m e shape n).pc) (does m e shape n)
       trapped e t =
           let small : IsKey (aln_key plan (frame.node).key) = record { kind = omega arith; entry = or_lt 32 plan.btv (2 * 2 ^ 5) (ok.words).btv (omega arith); prio = key_small.prio } in
-          let owes = traps_owed (limits_in plan cert) image plan (frame.node).key m e (k.point).state shape n at_point t in
+          let owes = traps_owed (limits_of_cert plan cert) image plan (frame.node).key m e (k.point).state shape n at_point t in
           let f = entering 10 (aln_key plan (frame.node).key) (aln_entry plan (frame.node).key (k.point).state) small owes in
           let b = began (set m.d 15 4) (handler_a m m.pc) (bit_or m.btv (2 * 2 ^ 5)) (handler_psw m.psw) false m.ccpn m.pc (handler_key 4 (bit_or m.btv (2 * 2 ^ 5)) ((frame.node).key).prio)
           (aln_begins image plan cert most is_cert accepted m words frame below k h.regs f.node f.found f.at f.room) in
@@ -265,11 +265,11 @@ module _ (image : ImageData) (plan : PlanData) (ok : IsPlan plan) (cert : CertDa
           }))
 
       -- ---- an interrupt
-      pub interrupted : (e : Event) → Fits plan m e → is_interrupt_taken m e ≡ true → Steps image plan cert most m frame below (duties_at image plan cert frame.node m.pc (k.point).state shape n) e n (irq (interrupt m e.irq).pc) (interrupt m e.irq)
+      pub interrupted : (e : Event) → Fits plan m e → is_interrupt_taken m e ≡ true → Steps image plan cert most m frame below (duties_at image plan cert frame.node m.pc (k.point).state shape n) e n (irq (after_interrupt m e.irq).pc) (after_interrupt m e.irq)
       interrupted e fits taken =
           let low = irq_lt ok m e fits in
           let small : IsKey (irq_key plan e.irq) = record { kind = omega arith; entry = or_lt 32 plan.biv (e.irq * 2 ^ 5) (ok.words).biv (omega arith); prio = low } in
-          let owes = interrupts_owed (limits_in plan cert) image plan (frame.node).key m e (k.point).state shape n at_point fits taken in
+          let owes = interrupts_owed (limits_of_cert plan cert) image plan (frame.node).key m e (k.point).state shape n at_point fits taken in
           let f = entering 11 (irq_key plan e.irq) (irq_entry plan (frame.node).key (k.point).state e.irq) small owes in
           let b = began m.d (handler_a m m.pc) (bit_or m.biv (e.irq * 2 ^ 5)) (handler_psw m.psw) false e.irq m.pc (handler_key 2 (bit_or m.biv (e.irq * 2 ^ 5)) e.irq)
           (irq_begins image plan cert most is_cert accepted m words frame below k h.regs e.irq f.node f.found f.at f.room) in
@@ -283,14 +283,14 @@ module _ (image : ImageData) (plan : PlanData) (ok : IsPlan plan) (cert : CertDa
     calls : (e : Event) (x : Target) (n : ℕ) → PointHolds image plan cert frame.node m.pc (k.point).state (Call x) n → Steps image plan cert most m frame below (duties_at image plan cert frame.node m.pc (k.point).state (Call x) n) e n (call (does m e (Call x) n).pc) (does m e (Call x) n)
     calls e x n h =
         let small : IsKey (call_key (frame.node).key (target_of m x)) = record { kind = omega arith; entry = target_lt m words x (shape_is image plan m.pc (Call x) n h.code); prio = key_small.prio } in
-        let owes = calls_owed (limits_in plan cert) image plan (frame.node).key m (k.point).state x n (at_point (Call x) n h) in
+        let owes = calls_owed (limits_of_cert plan cert) image plan (frame.node).key m (k.point).state x n (at_point (Call x) n h) in
         let f = entering (Call x) n h 5 (call_key (frame.node).key (target_of m x)) (call_entry (k.point).state) small owes.entered in
-        let exits = resuming (Call x) n h 4 (call_key (frame.node).key (target_of m x)) (call_entry (k.point).state) (machine_address_ahead m.pc n) f owes.back in
-        let b = began m.d (set m.a 11 (machine_address_ahead m.pc n)) (target_of m x) m.psw m.ie m.ccpn (machine_address_ahead m.pc n) (call_key (frame.node).key (target_of m x))
-        (call_begins image plan cert most is_cert accepted m words frame below k h.regs (target_of m x) (machine_address_ahead m.pc n) (moved-lt m.pc n) f.node f.found f.at exits f.room) in
+        let exits = resuming (Call x) n h 4 (call_key (frame.node).key (target_of m x)) (call_entry (k.point).state) (wrapping_sum m.pc n) f owes.back in
+        let b = began m.d (set m.a 11 (wrapping_sum m.pc n)) (target_of m x) m.psw m.ie m.ccpn (wrapping_sum m.pc n) (call_key (frame.node).key (target_of m x))
+        (call_begins image plan cert most is_cert accepted m words frame below k h.regs (target_of m x) (wrapping_sum m.pc n) (moved-lt m.pc n) f.node f.found f.at exits f.room) in
         subst (λ y. Steps image plan cert most m frame below (duties_at image plan cert frame.node m.pc (k.point).state (Call x) n) e n (call y.pc) y) (sym (call-is m k.running b.saves e x n))
         (record {
-          goes = Goes-as (entered_standing (λ j. call_key j (target_of m x)) (machine_address_ahead m.pc n) (target_of m x) m.pc frame below) b.goes;
+          goes = Goes-as (entered_standing (λ j. call_key j (target_of m x)) (wrapping_sum m.pc n) (target_of m x) m.pc frame below) b.goes;
           owes = (call_entry (k.point).state, owes.entered);
         })
 
@@ -300,22 +300,22 @@ module _ (image : ImageData) (plan : PlanData) (ok : IsPlan plan) (cert : CertDa
         let small : IsKey (sys_key plan (frame.node).key) = record { kind = omega arith; entry = or_lt 32 plan.btv (6 * 2 ^ 5) (ok.words).btv (omega arith); prio = key_small.prio } in
         let tin_small : tin < 2 ^ 32 = shape_is image plan m.pc (Syscall tin) n h.code in
         let f = entering (Syscall tin) n h 12 (sys_key plan (frame.node).key) (sys_entry plan (frame.node).key (k.point).state tin) small
-        (owes-syscall (limits_in plan cert) image plan (frame.node).key m.pc (k.point).state n tin) in
-        let exits = resuming (Syscall tin) n h 4 (sys_key plan (frame.node).key) (sys_entry plan (frame.node).key (k.point).state tin) (machine_address_ahead m.pc n) f
-        (owes-syscall_back (limits_in plan cert) image plan (frame.node).key m.pc (k.point).state n tin) in
-        let b = began (set m.d 15 tin) (handler_a m (machine_address_ahead m.pc n)) (bit_or m.btv (6 * 2 ^ 5)) (handler_psw m.psw) false m.ccpn (machine_address_ahead m.pc n) (handler_key 3 (bit_or m.btv (6 * 2 ^ 5)) ((frame.node).key).prio)
-        (sys_begins image plan cert most is_cert accepted m words frame below k h.regs tin tin_small (machine_address_ahead m.pc n) (moved-lt m.pc n) f.node f.found f.at exits f.room) in
-        subst (λ x. Steps image plan cert most m frame below (duties_at image plan cert frame.node m.pc (k.point).state (Syscall tin) n) e n (sys x.pc) x) (sym (syscall-is m k.running e tin n ∙ trap-is m k.running b.saves 6 tin (machine_address_ahead m.pc n)))
+        (owes-syscall (limits_of_cert plan cert) image plan (frame.node).key m.pc (k.point).state n tin) in
+        let exits = resuming (Syscall tin) n h 4 (sys_key plan (frame.node).key) (sys_entry plan (frame.node).key (k.point).state tin) (wrapping_sum m.pc n) f
+        (owes-syscall_back (limits_of_cert plan cert) image plan (frame.node).key m.pc (k.point).state n tin) in
+        let b = began (set m.d 15 tin) (handler_a m (wrapping_sum m.pc n)) (bit_or m.btv (6 * 2 ^ 5)) (handler_psw m.psw) false m.ccpn (wrapping_sum m.pc n) (handler_key 3 (bit_or m.btv (6 * 2 ^ 5)) ((frame.node).key).prio)
+        (sys_begins image plan cert most is_cert accepted m words frame below k h.regs tin tin_small (wrapping_sum m.pc n) (moved-lt m.pc n) f.node f.found f.at exits f.room) in
+        subst (λ x. Steps image plan cert most m frame below (duties_at image plan cert frame.node m.pc (k.point).state (Syscall tin) n) e n (sys x.pc) x) (sym (syscall-is m k.running e tin n ∙ trap-is m k.running b.saves 6 tin (wrapping_sum m.pc n)))
         (record {
-          goes = Goes-as (entered_standing (λ j. handler_key 3 (bit_or m.btv (6 * 2 ^ 5)) j.prio) (machine_address_ahead m.pc n) (bit_or m.btv (6 * 2 ^ 5)) m.pc frame below) b.goes;
+          goes = Goes-as (entered_standing (λ j. handler_key 3 (bit_or m.btv (6 * 2 ^ 5)) j.prio) (wrapping_sum m.pc n) (bit_or m.btv (6 * 2 ^ 5)) m.pc frame below) b.goes;
           owes = subst (λ v. OwesEntry (duties_at image plan cert frame.node m.pc (k.point).state (Syscall tin) n) 12 (handler_key 3 (bit_or v (6 * 2 ^ 5)) ((frame.node).key).prio)) (sym k.btv)
-              (sys_entry plan (frame.node).key (k.point).state tin, owes-syscall (limits_in plan cert) image plan (frame.node).key m.pc (k.point).state n tin);
+              (sys_entry plan (frame.node).key (k.point).state tin, owes-syscall (limits_of_cert plan cert) image plan (frame.node).key m.pc (k.point).state n tin);
         })
 
   -- ---- frames that end
   record Left (m : Machine) (frame : Frame) (below : List Frame) (x : Machine) : Type 0 where
-    pub goes : Goes image plan cert most x (frames_left (standing m.pc frame below))
-    pub owes : IsReturn x.pc (standing m.pc frame below)
+    pub goes : Goes image plan cert most x (frames_after_return (standing m.pc frame below))
+    pub owes : IsReturnTo x.pc (standing m.pc frame below)
 
   -- no frame is left below the start's
   left_to : (m : Machine) (words : IsMachine m) (frame : Frame) (below : List Frame) (k : Invariant image plan cert most m frame below) → length ((k.point).state).locals.items ≡ 0 → (frame.node).key.kind ≢ 0 →
@@ -332,13 +332,13 @@ module _ (image : ImageData) (plan : PlanData) (ok : IsPlan plan) (cert : CertDa
       })
 
   module _ (m : Machine) (words : IsMachine m) (frame : Frame) (below : List Frame) (k : Invariant image plan cert most m frame below) where
-    leaving : (rule n : ℕ) (shape : Shape) → (h : PointHolds image plan cert frame.node m.pc (k.point).state shape n) → Contains (duties_at image plan cert frame.node m.pc (k.point).state shape n) (owed rule (leave (exit_of (k.point).state))) → ExitFor frame.node (exit_of (k.point).state)
-    leaving rule n shape h owes = exit_for frame.node (exit_of (k.point).state) (frame.node).exit refl (h.met (owed rule (leave (exit_of (k.point).state))) owes)
+    leaving : (rule n : ℕ) (shape : Shape) → (h : PointHolds image plan cert frame.node m.pc (k.point).state shape n) → Contains (duties_at image plan cert frame.node m.pc (k.point).state shape n) (owed rule (leave (exit_of_state (k.point).state))) → ExitFor frame.node (exit_of_state (k.point).state)
+    leaving rule n shape h owes = exit_for frame.node (exit_of_state (k.point).state) (frame.node).exit refl (h.met (owed rule (leave (exit_of_state (k.point).state))) owes)
 
     returns : (e : Event) (n : ℕ) → PointHolds image plan cert frame.node m.pc (k.point).state Ret n → Left m frame below (does m e Ret n)
     returns e n h =
         let own = (h.own 6).returns refl in
-        let x = leaving 6 n Ret h (owes-ret (limits_in plan cert) image plan (frame.node).key m.pc (k.point).state n) in
+        let x = leaving 6 n Ret h (owes-ret (limits_of_cert plan cert) image plan (frame.node).key m.pc (k.point).state n) in
         left_to m words frame below k own.1 (λ z. let one = own.0 in omega arith) m.ie m.ccpn
         (by_return x.exit x.is own.0 (holds_exit plan (k.point).state (reg m) m.ie m.ccpn x.exit h.regs x.covers k.inside)) (does m e Ret n) (λ is. ret-is m k.running is e n)
 
@@ -350,7 +350,7 @@ module _ (image : ImageData) (plan : PlanData) (ok : IsPlan plan) (cert : CertDa
               left_to m words frame below k own.0 (λ z. elim handler.0 [ inl two ↦ omega arith | inr four ↦ omega arith ]) (pie_of m.core m.pcxi) (pcpn_of m.core m.pcxi) (from_handler handler.0 (k.lower_kept handler.1) refl refl)
               (does m e Rfe n) (λ is. rfe-is m k.running is e n)
           | inr three ↦
-              let x = leaving 7 n Rfe h (owes-rfe (limits_in plan cert) image plan (frame.node).key m.pc (k.point).state n three) in
+              let x = leaving 7 n Rfe h (owes-rfe (limits_of_cert plan cert) image plan (frame.node).key m.pc (k.point).state n three) in
               left_to m words frame below k own.0 (λ z. omega arith) (pie_of m.core m.pcxi) (pcpn_of m.core m.pcxi)
               (from_system x.exit m.ie m.ccpn x.is three (holds_exit plan (k.point).state (reg m) m.ie m.ccpn x.exit h.regs x.covers k.inside) refl refl) (does m e Rfe n) (λ is. rfe-is m k.running is e n)
         ]
@@ -379,17 +379,17 @@ module _ (image : ImageData) (plan : PlanData) (ok : IsPlan plan) (cert : CertDa
 
     restores_lower : (e : Event) (n : ℕ) → PointHolds image plan cert frame.node m.pc (k.point).state Rslcx n → Steps image plan cert most m frame below (duties_at image plan cert frame.node m.pc (k.point).state Rslcx n) e n (to (does m e Rslcx n).pc) (does m e Rslcx n)
     restores_lower e n h =
-        let at = jumping m words frame below k Rslcx n h (machine_address_ahead m.pc n) (state_after_lower_restore (k.point).state) (owes-rslcx (limits_in plan cert) image plan (frame.node).key m.pc (k.point).state n) in
-        let p = lower_popped image plan ok cert most few m words frame below k (machine_address_ahead m.pc n) ((h.own 8).room refl) h.regs at in
+        let at = jumping m words frame below k Rslcx n h (wrapping_sum m.pc n) (state_after_lower_restore (k.point).state) (owes-rslcx (limits_of_cert plan cert) image plan (frame.node).key m.pc (k.point).state n) in
+        let p = lower_popped image plan ok cert most few m words frame below k (wrapping_sum m.pc n) ((h.own 8).room refl) h.regs at in
         subst (λ x. Steps image plan cert most m frame below (duties_at image plan cert frame.node m.pc (k.point).state Rslcx n) e n (to x.pc) x) (sym (rslcx-is m k.running p.restores e n))
         (record {
-          goes = record { frame = with_locals frame p.areas p.flags; below = below; kept = p.kept; stands = locals_standing (machine_address_ahead m.pc n) m.pc frame p.areas p.flags below };
-          owes = (state_after_lower_restore (k.point).state, owes-rslcx (limits_in plan cert) image plan (frame.node).key m.pc (k.point).state n);
+          goes = record { frame = with_locals frame p.areas p.flags; below = below; kept = p.kept; stands = locals_standing (wrapping_sum m.pc n) m.pc frame p.areas p.flags below };
+          owes = (state_after_lower_restore (k.point).state, owes-rslcx (limits_of_cert plan cert) image plan (frame.node).key m.pc (k.point).state n);
         })
 
     -- ---- what the instruction at pc does
     module _ (e : Event) (fits : Fits plan m e) (none : is_interrupt_taken m e ≡ false) where
-      accesses : (shape : Shape) (n : ℕ) (h : PointHolds image plan cert frame.node m.pc (k.point).state shape n) → StaysInFrame shape → Steps image plan cert most m frame below (duties_at image plan cert frame.node m.pc (k.point).state shape n) e n (edge_way_by_trap m e shape (does m e shape n).pc) (does m e shape n)
+      accesses : (shape : Shape) (n : ℕ) (h : PointHolds image plan cert frame.node m.pc (k.point).state shape n) → KeepsFrameAndContexts shape → Steps image plan cert most m frame below (duties_at image plan cert frame.node m.pc (k.point).state shape n) e n (edge_way_by_trap m e shape (does m e shape n).pc) (does m e shape n)
       accesses shape n h stays =
           elim (cases_Bool (is_trapping_instruction m e shape)) [
             | inl t ↦ trapped m words frame below k shape n h e t
@@ -401,11 +401,11 @@ module _ (image : ImageData) (plan : PlanData) (ok : IsPlan plan) (cert : CertDa
       follows Ret n h = let l = returns e n h in record { goes = l.goes; owes = l.owes }
       follows Rfe n h = let l = comes_from e n h in record { goes = l.goes; owes = l.owes }
       follows Svlcx n h =
-          saves_lower e Svlcx n h (machine_address_ahead m.pc n) ((k.point).state).ie ((k.point).state).ccpn (owes-svlcx (limits_in plan cert) image plan (frame.node).key m.pc (k.point).state n) m.ie m.ccpn
+          saves_lower e Svlcx n h (wrapping_sum m.pc n) ((k.point).state).ie ((k.point).state).ccpn (owes-svlcx (limits_of_cert plan cert) image plan (frame.node).key m.pc (k.point).state n) m.ie m.ccpn
           (k.inside).enabled (k.inside).priority (does m e Svlcx n) (λ is. svlcx-is m k.running is e n)
       follows Rslcx n h = restores_lower e n h
       follows (Bisr c) n h =
-          saves_lower e (Bisr c) n h (machine_address_ahead m.pc n) true c (owes-bisr (limits_in plan cert) image plan (frame.node).key m.pc (k.point).state n c) true c
+          saves_lower e (Bisr c) n h (wrapping_sum m.pc n) true c (owes-bisr (limits_of_cert plan cert) image plan (frame.node).key m.pc (k.point).state n c) true c
           (λ t. t) (omega arith) (does m e (Bisr c) n) (λ is. bisr-is m k.running is e c n)
       follows (Syscall tin) n h = system m words frame below k e tin n h
       follows (Mtcr src number) n h = absurd ((h.own 13).writes refl)
@@ -414,7 +414,7 @@ module _ (image : ImageData) (plan : PlanData) (ok : IsPlan plan) (cert : CertDa
   -- ---- one event
   -- the frames of m after a step of an event to q, from what is fetched
   abbrev by : Machine → Event → Bool → Result (Shape × ℕ) Cause → ℕ → List RunFrame → List RunFrame
-  by m e taken f q fs = frames_after_edge m.pc (machine_address_ahead m.pc (fetched_size f)) e.irq (cond taken (irq q) (edge_way_in_fetch m e f q)) fs
+  by m e taken f q fs = frames_after_edge m.pc (wrapping_sum m.pc (fetched_size f)) e.irq (cond taken (irq q) (edge_way_in_fetch m e f q)) fs
 
   -- what a step keeps, and which way it goes
   pub record Done (m : Machine) (frame : Frame) (below : List Frame) (k : Invariant image plan cert most m frame below) (e : Event) (x : Machine) : Type 0 where
@@ -430,13 +430,13 @@ module _ (image : ImageData) (plan : PlanData) (ok : IsPlan plan) (cert : CertDa
       elim (cases_Bool (is_interrupt_taken m e)) [
         | inl taken ↦
             let s = interrupted m words frame below k r.shape r.size r.holds e fits taken in
-            subst (Done m frame below k e) (sym (ap (λ t. cond t (interrupt m e.irq) (after_found_instruction m e (fetched_instruction m))) taken))
+            subst (Done m frame below k e) (sym (ap (λ t. cond t (after_interrupt m e.irq) (after_fetch_result m e (fetched_instruction m))) taken))
             (record {
               shape = r.shape;
               size = r.size;
               code = (r.holds).code;
-              goes = Goes-as (ap (λ t. by m e t (fetched_instruction m) (interrupt m e.irq).pc (standing m.pc frame below)) (sym taken)) s.goes;
-              owes = subst (λ t. IsEdgeWayOwed (duties_at image plan cert frame.node m.pc (k.point).state r.shape r.size) (frame.node).key e.irq (standing m.pc frame below) (interrupt m e.irq).pc (cond t (irq (interrupt m e.irq).pc) (edge_way_in_fetch m e (fetched_instruction m) (interrupt m e.irq).pc)))
+              goes = Goes-as (ap (λ t. by m e t (fetched_instruction m) (after_interrupt m e.irq).pc (standing m.pc frame below)) (sym taken)) s.goes;
+              owes = subst (λ t. IsEdgeWayOwed (duties_at image plan cert frame.node m.pc (k.point).state r.shape r.size) (frame.node).key e.irq (standing m.pc frame below) (after_interrupt m e.irq).pc (cond t (irq (after_interrupt m e.irq).pc) (edge_way_in_fetch m e (fetched_instruction m) (after_interrupt m e.irq).pc)))
                   (sym taken) s.owes;
             })
         | inr none ↦

@@ -8,19 +8,19 @@ use Rattle.cfg_recover.specs.EdgeAndFrameLaws.{FramesHeld}
 use Rattle.cfg_recover.specs.EdgesAreOwed.{EdgesOwed}
 
 -- a promise of every certificate that the rules accept
-abbrev pub OfAccepted : (ImageData → PlanData → CertData → Type 0) → Type 0
-OfAccepted Promise =
+abbrev pub HoldsForAccepted : (ImageData → PlanData → CertData → Type 0) → Type 0
+HoldsForAccepted Promise =
     (image : ImageData) (plan : PlanData) (cert : CertData) → IsPlan plan → IsCert cert → Accepts image plan cert → Promise image plan cert
 
 -- each run is safe, with the need of the start's node
 abbrev pub AcceptedIsSafe : Type 0
-AcceptedIsSafe = OfAccepted (λ image plan cert. Safe image plan (certified_need image plan cert))
+AcceptedIsSafe = HoldsForAccepted (λ image plan cert. Safe image plan (certified_need image plan cert))
 
 -- the frames of each run are at points whose states hold the machine
 abbrev pub AcceptedHoldsFrames : Type 0
-AcceptedHoldsFrames = OfAccepted FramesHeld
+AcceptedHoldsFrames = HoldsForAccepted FramesHeld
 
 -- each step's edge, in every run, is a duty of the point of the newest frame, or the return to the
 -- frame before
 abbrev pub AcceptedOwesEdges : Type 0
-AcceptedOwesEdges = OfAccepted EdgesOwed
+AcceptedOwesEdges = HoldsForAccepted EdgesOwed

@@ -28,8 +28,8 @@ pub record AnswerSays (image : ImageData) (plan : PlanData) (cert : CertData) : 
   pub no : (r : ℕ) (k : Key) (p : ℕ) → IsCheckAnswer image plan cert (No r k p) → FirstFaultNamesFirstFailure image plan cert r k p
 
 -- what the checker's answers say holds for every image, plan and certificate
-abbrev pub AnswersSay : Type 0
-AnswersSay =
+abbrev pub AllAnswersSay : Type 0
+AllAnswersSay =
     (image : ImageData) (plan : PlanData) (cert : CertData) → image.entry < 2 ^ 32 → IsPlan plan → IsCert cert → AnswerSays image plan cert
 
 -- the law that a check's answers are exact both ways: a certificate with a first fault isn't

@@ -11,7 +11,7 @@ use Rattle.depth_cert.specs.Certs.{CertData}
 use Rattle.cfg_recover.specs.declared.flow_types.Leave.{Leave}
 use Rattle.cfg_recover.specs.declared.flow_types.Leave.TheVariants.{Stays, Ret, Rfe}
 use Rattle.cfg_recover.specs.Entries.{start_key}
-use Rattle.depth_cert.specs.Exits.{exit_of, state_after_exit, ExitCovers}
+use Rattle.depth_cert.specs.Exits.{exit_of_state, state_after_return, ExitCovers}
 use Rattle.cfg_recover.specs.Duties.{Owed}
 use Rattle.cfg_recover.specs.RulesHoldOrFail.{HasCoveringPoint, IsDutyMet, EntryNeedRuleHolds}
 
@@ -38,12 +38,12 @@ HasCoveringPoints node s targets = All (λ t. HasCoveringPoint node t s) targets
 
 -- where a frame of the entered node returns, at `back`, the node has a point that covers the state
 -- after the return
-abbrev pub GoesOnAfterReturn : NodeData → State → NodeData → ℕ → Option ℕ → Type 0
-GoesOnAfterReturn node s entered kind back = IfSome back (λ q. IfSome entered.exit (λ x. HasCoveringPoint node q (state_after_exit s x kind)))
+abbrev pub IsReturnMet : NodeData → State → NodeData → ℕ → Option ℕ → Type 0
+IsReturnMet node s entered kind back = IfSome back (λ q. IfSome entered.exit (λ x. HasCoveringPoint node q (state_after_return s x kind)))
 
 -- the certificate's node has an exit that covers the lower registers, IE and CCPN of the state
 abbrev pub HasCoveringExit : NodeData → State → Type 0
-HasCoveringExit node s = IsSomeAnd node.exit (λ y. ExitCovers y (exit_of s))
+HasCoveringExit node s = IsSomeAnd node.exit (λ y. ExitCovers y (exit_of_state s))
 
 -- what rule q asks of an instruction that leaves the node: K6 of RET, K7 of RFE in the handler of
 -- system calls
@@ -54,6 +54,6 @@ LeavingHolds node s Rfe q = (node.key).kind ≡ sys_kind → 7 ≡ q → HasCove
 
 -- what the checker tests of a node's own need for K14, apart from the duties: room for the locals
 -- and, at the start's entry, that the reserve stays free
-pub record HasOwnNeed (image : ImageData) (plan : PlanData) (node : NodeData) (point : Point) : Type 0 where
+pub record HasNeedForPoint (image : ImageData) (plan : PlanData) (node : NodeData) (point : Point) : Type 0 where
   pub locals : length (point.state).locals.items ≤ node.need
   pub start : node.key ≡ start_key image plan → point.addr ≡ image.entry → node.need ≤ plan.areas - plan.reserve

@@ -3,21 +3,21 @@ use Rattle.std.specs.Prelude.{◌≡◌, ◌≤◌, ◌+◌, ◌-◌, ℕ, true,
 use Rattle.tcd_plan.specs.PlanData.{PlanData}
 use Rattle.value_domain.specs.declared.values.Val.{Val}
 use Rattle.value_domain.specs.declared.states.State.{State}
-use Rattle.value_domain.specs.Values.{IsWellFormed, IsValue, IsBelow}
+use Rattle.value_domain.specs.Values.{IsWellFormed, IsInLattice, IsBelow}
 use Rattle.vd_transfer.specs.Registers.{a10_of}
 use Rattle.depth_cert.specs.declared.keys.Key.{Key}
 use Rattle.depth_cert.specs.Nodes.{NodeData}
 use Rattle.depth_cert.specs.Certs.{CertData}
-use Rattle.cfg_recover.specs.Entries.{irq_key, entry_state_with, irqs_of, entry_stack_with}
+use Rattle.cfg_recover.specs.Entries.{irq_key, state_with_stack, possible_irqs_of, entry_stack_from_a10}
 use Rattle.cfg_recover.specs.Duties.{Owed, owed, enter, interrupt_duties_of}
-use Rattle.cfg_recover.specs.RulesHoldOrFail.{limits_in}
+use Rattle.cfg_recover.specs.RulesHoldOrFail.{limits_of_cert}
 use Rattle.depth_check.specs.declared.last_interrupts.InterruptContext.{InterruptContext}
 use Rattle.depth_check.specs.declared.last_interrupts.LastInterrupts.{LastInterrupts}
 use Rattle.depth_check.specs.DutiesHold.{DutiesHold}
 
 -- the interrupt context of a state of the node, apart from A10: stack in use, IE, CCPN, and the
 -- areas left beside the locals
-pub record IsContext (context : InterruptContext) (node : NodeData) (s : State) : Type 0 where
+pub record IsContextExceptStack (context : InterruptContext) (node : NodeData) (s : State) : Type 0 where
   pub is : context.is ≡ (node.key).is
   pub ie : context.ie ≡ s.ie
   pub ccpn : context.ccpn ≡ s.ccpn
@@ -31,7 +31,7 @@ pub record FitsContextExceptStack (context : InterruptContext) (node : NodeData)
   pub spare : context.spare + length s.locals.items ≤ node.need
 
 -- a state has this context and, on the interrupt stack, its A10 is below the context's
-pub record IsBelowContext (context : InterruptContext) (node : NodeData) (s : State) : Type 0 where
+pub record FitsContext (context : InterruptContext) (node : NodeData) (s : State) : Type 0 where
   pub like : FitsContextExceptStack context node s
   pub sp : IsTrue context.is → IsBelow (a10_of s) context.sp
 
@@ -41,13 +41,13 @@ InterruptsHold plan cert node s = (q : ℕ) → DutiesHold cert node s (interrup
 
 -- the duties to enter handlers of interrupts, for a context that the checker keeps: those of all
 -- that may be taken in a state, with this A10 instead of the state's
-abbrev pub interrupt_entries_with : PlanData → Key → State → Val → List Owed
-interrupt_entries_with plan key s sp = map (λ p. owed 11 (enter (irq_key plan p) (entry_state_with (entry_stack_with plan key sp) false p true))) (irqs_of plan s)
+abbrev pub interrupt_entries_with_stack : PlanData → Key → State → Val → List Owed
+interrupt_entries_with_stack plan key s sp = map (λ p. owed 11 (enter (irq_key plan p) (state_with_stack (entry_stack_from_a10 plan key sp) false p true))) (possible_irqs_of plan s)
 
 -- the context's A10 is a value of the limits, and the entries hold in each state below the context
-pub record HoldsInContext (plan : PlanData) (cert : CertData) (context : InterruptContext) : Type 0 where
-  pub sp : IsValue (limits_in plan cert) context.sp
-  pub holds : (node : NodeData) (s : State) → IsBelowContext context node s → InterruptsHold plan cert node s
+pub record InterruptsHoldInContext (plan : PlanData) (cert : CertData) (context : InterruptContext) : Type 0 where
+  pub sp : IsInLattice (limits_of_cert plan cert) context.sp
+  pub holds : (node : NodeData) (s : State) → FitsContext context node s → InterruptsHold plan cert node s
 
 -- in both kept interrupt contexts, A10 is a well-formed value
 pub record AreStacksWellFormed (kept : LastInterrupts) : Type 0 where
@@ -56,9 +56,9 @@ pub record AreStacksWellFormed (kept : LastInterrupts) : Type 0 where
 
 -- the handlers' entries hold in both kept interrupt contexts
 pub record LastInterruptsHold (plan : PlanData) (cert : CertData) (kept : LastInterrupts) : Type 0 where
-  pub last : IfSome kept.last (HoldsInContext plan cert)
-  pub before : IfSome kept.before (HoldsInContext plan cert)
+  pub last : IfSome kept.last (InterruptsHoldInContext plan cert)
+  pub before : IfSome kept.before (InterruptsHoldInContext plan cert)
 
 -- with this A10 instead of the state's, all rules hold for the entries of the interrupt handlers
-abbrev pub InterruptsHoldWith : PlanData → CertData → NodeData → State → Val → Type 0
-InterruptsHoldWith plan cert node s sp = (q : ℕ) → DutiesHold cert node s (interrupt_entries_with plan node.key s sp) q
+abbrev pub InterruptsHoldWithStack : PlanData → CertData → NodeData → State → Val → Type 0
+InterruptsHoldWithStack plan cert node s sp = (q : ℕ) → DutiesHold cert node s (interrupt_entries_with_stack plan node.key s sp) q

@@ -6,13 +6,13 @@ use Rattle.tcd_plan.specs.PlanData.{PlanData}
 use Rattle.depth_cert.specs.declared.points.Point.{Point}
 use Rattle.depth_cert.specs.Nodes.{NodeData}
 use Rattle.depth_cert.specs.Certs.{CertData}
-use Rattle.cfg_recover.specs.RulesHoldOrFail.{limits_in, RuleHolds, HoldsAtEntry, RuleFails}
+use Rattle.cfg_recover.specs.RulesHoldOrFail.{limits_of_cert, RuleHolds, EntryRuleHolds, RuleFails}
 use Rattle.depth_check.specs.declared.nodes.Fault.{Fault}
 
 -- rule r at the address p is the first fault of a node
-pub record IsNodeFault (image : ImageData) (plan : PlanData) (cert : CertData) (node : NodeData) (r p : ℕ) : Type 0 where
+pub record IsFirstNodeFault (image : ImageData) (plan : PlanData) (cert : CertData) (node : NodeData) (r p : ℕ) : Type 0 where
   pub fails : RuleFails image plan cert r node.key p
-  pub entry : (HoldsAtEntry (limits_in plan cert) node → ⊥) → p * 2 ^ 4 + r ≤ (node.key).entry * 2 ^ 4 + 2
+  pub entry : (EntryRuleHolds (limits_of_cert plan cert) node → ⊥) → p * 2 ^ 4 + r ≤ (node.key).entry * 2 ^ 4 + 2
   pub points : (point : Point) (q : ℕ) → Contains node.points point → (RuleHolds image plan cert node point q → ⊥) → p * 2 ^ 4 + r ≤ point.addr * 2 ^ 4 + q
   pub rule : r ≤ 14
   pub addr : p < 2 ^ 32

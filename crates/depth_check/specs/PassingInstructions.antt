@@ -4,20 +4,20 @@ use Rattle.elf_image.specs.Images.{ImageData}
 use Rattle.tcd_plan.specs.PlanData.{PlanData}
 use Rattle.tc_isa.specs.declared.shapes.Shape.{Shape}
 use Rattle.tc_isa.specs.declared.shapes.Shape.TheVariants.{Jump, Nothing}
-use Rattle.tc_machine.specs.Instructions.{machine_address_ahead}
+use Rattle.tc_machine.specs.Instructions.{wrapping_sum}
 use Rattle.cfg_recover.specs.Code.{IsCode}
 use Rattle.cfg_recover.specs.LocalRules.{direct_target}
 
 -- an instruction of this shape and size at p, a nop or a jump, changes nothing and has one
 -- successor, this address
-abbrev pub IsPassingShape : ℕ → Shape → ℕ → ℕ → Type 0
-IsPassingShape p Nothing n next = machine_address_ahead p n ≡ next
-IsPassingShape p (Jump to) n next = direct_target p to ≡ Some next
-IsPassingShape p _ n next = ⊥
+abbrev pub IsNopOrJump : ℕ → Shape → ℕ → ℕ → Type 0
+IsNopOrJump p Nothing n next = wrapping_sum p n ≡ next
+IsNopOrJump p (Jump to) n next = direct_target p to ≡ Some next
+IsNopOrJump p _ n next = ⊥
 
 -- the instruction at p, a nop or a jump to one address, changes nothing, and goes on at `next`
-pub record HasPassingInstruction (image : ImageData) (plan : PlanData) (p next : ℕ) : Type 0 where
+pub record HasNopOrJump (image : ImageData) (plan : PlanData) (p next : ℕ) : Type 0 where
   pub shape : Shape
   pub size : ℕ
   pub code : IsCode image plan p shape size
-  pub passes : IsPassingShape p shape size next
+  pub passes : IsNopOrJump p shape size next

@@ -1,7 +1,7 @@
 // The check of a certificate.
 ghost use Rattle.std.specs.Prelude.{◌≡◌, IsNone, IfSome, Some};
 ghost use Rattle.depth_cert.specs.Nodes.{find_node};
-ghost use Rattle.cfg_recover.specs.RulesHoldOrFail.{HoldsAtStart};
+ghost use Rattle.cfg_recover.specs.RulesHoldOrFail.{StartRuleHolds};
 ghost use Rattle.depth_check.specs.CheckAnswers.{IsCheckAnswer, IfAnswerIsYes};
 ghost use Rattle.tc_machine.specs.Safe.{Safe};
 ghost use Rattle.cfg_recover.specs.Entries as entries;
@@ -32,8 +32,8 @@ pub fn check(image: &Image, plan: &Plan, cert: &Cert) -> Verdict
 /// the start state. Else `None`.
 #[inline(never)]
 pub(crate) fn start_node<'a>(image: &Image, plan: &Plan, cert: &'a Cert) -> Option<Node<'a>>
-    ensures none { IsNone result → HoldsAtStart image.now plan.now cert.now → ⊥ }
-    ensures holds { IfSome result (λ n. HoldsAtStart image.now plan.now cert.now) }
+    ensures none { IsNone result → StartRuleHolds image.now plan.now cert.now → ⊥ }
+    ensures holds { IfSome result (λ n. StartRuleHolds image.now plan.now cert.now) }
     ensures node { IfSome result
         (λ n. find_node (entries.start_key image.now plan.now) cert.now.nodes ≡ Some n) }
 {

@@ -2,18 +2,18 @@
 ghost use Rattle.std.specs.Prelude.{◌≡◌, length, ◌≤◌, ◌↔◌, IsTrue, IfSome, ◌+◌, [], ◌∷◌, unwrap_or};
 ghost use Rattle.std.specs.List.{flat_map};
 ghost use Rattle.depth_check.specs.LeastBroken.{FindsLeastBroken, FindsLeastBrokenByDuties};
-ghost use Rattle.depth_check.specs.DutiesHold.{GoesOnAfterReturn, LeavingHolds};
+ghost use Rattle.depth_check.specs.DutiesHold.{IsReturnMet, LeavingHolds};
 ghost use Rattle.depth_cert.specs.Keys.{call_kind};
 ghost use Rattle.value_domain.specs.State.{AreWellFormed};
 ghost use Rattle.vd_transfer.specs.Changes.{state_after};
 ghost use Rattle.tc_isa.specs.InBounds.{IsShape, IsTarget};
 ghost use Rattle.cfg_recover.specs.LocalFaults.{IsFaultlessShape};
-ghost use Rattle.cfg_recover.specs.Entries.{call_key, irqs_of};
+ghost use Rattle.cfg_recover.specs.Entries.{call_key, possible_irqs_of};
 ghost use Rattle.cfg_recover.specs.LocalRules.{targets_of};
 ghost use Rattle.cfg_recover.specs.Duties.{owed, enter, entry_and_return, entry_duties_of, misaligned_duties_of, interrupt_duties_of, duties_of};
 ghost use Rattle.cfg_recover.specs.FlowDuties.{duties_of_flow_return, duties_of_irqs};
-ghost use Rattle.cfg_recover.specs.SetOperations.{HoldsCachedResults};
-ghost use Rattle.depth_check.specs.CheckedRegisters.{IsHeldCall, RegisterCallsHoldAt, RegistersHoldAt};
+ghost use Rattle.cfg_recover.specs.SetOperations.{IsCorrectCache};
+ghost use Rattle.depth_check.specs.CheckedRegisters.{CallHolds, RegisterCallsHoldAt, CheckedRegistersHoldAt};
 ghost use Rattle.cfg_recover.specs.Entries as entries;
 ghost use Rattle.cfg_recover.specs.FlowDuties as flows;
 
@@ -43,13 +43,13 @@ pub(crate) fn rule_broken_by_duties(
 ) -> Option<u8>
     requires found { IsFaultlessShape at.now.bounds at.now.image at.now.plan
         at.now.node.key at.now.point.addr at.now.point.state found.now }
-    requires results { HoldsCachedResults at.now.bounds scratch.old.cache }
-    requires registers { RegistersHoldAt at.now scratch.old.registers }
+    requires results { IsCorrectCache at.now.bounds scratch.old.cache }
+    requires registers { CheckedRegistersHoldAt at.now scratch.old.registers }
     ensures found { FindsLeastBrokenByDuties at.now
         (duties_of at.now.bounds at.now.image at.now.plan at.now.node.key
         at.now.point.addr at.now.point.state found.now.shape found.now.size) result }
-    ensures results { HoldsCachedResults at.now.bounds scratch.new.cache }
-    ensures registers { RegistersHoldAt at.now scratch.new.registers }
+    ensures results { IsCorrectCache at.now.bounds scratch.new.cache }
+    ensures registers { CheckedRegistersHoldAt at.now scratch.new.registers }
 {
     let jumps = rule_broken_by_successors(at, found, scratch);
     let entered = rule_broken_by_call_or_syscall(
@@ -271,10 +271,10 @@ fn rule_broken_by_called_node(
 ) -> Option<u8>
     requires entry { AreWellFormed (state_after at.now.point.state entry.now).regs }
     requires kind { key.now.kind ≡ call_kind }
-    requires held { IfSome held.old (IsHeldCall at.now entry.now back) }
+    requires held { IfSome held.old (CallHolds at.now entry.now back) }
     ensures found { FindsLeastBrokenByDuties at.now
         (entry_and_return 5 key.now (state_after at.now.point.state entry.now) back) result }
-    ensures held { IfSome held.new (IsHeldCall at.now entry.now back) }
+    ensures held { IfSome held.new (CallHolds at.now entry.now back) }
 {
     if let Some(last) = *held {
         if at.cert.have_same_entry_and_exit(&last, key) {
@@ -360,7 +360,7 @@ fn is_return_met(
     back: Option<u32>,
 ) -> bool
     requires { AreWellFormed s.now.regs }
-    ensures { IsTrue result ↔ GoesOnAfterReturn node.now s.now entered.now kind back }
+    ensures { IsTrue result ↔ IsReturnMet node.now s.now entered.now kind back }
 {
     match back {
         Some(at) => has_point_after_return(node, at, s, entered, kind),
@@ -387,7 +387,7 @@ fn rule_broken_by_aln_entry(at: &PointCheck<'_, '_>) -> Option<u8>
 /// a checked point.
 #[inline(never)]
 fn rule_broken_by_possible_irqs(at: &PointCheck<'_, '_>, irqs: &[u8]) -> Option<u8>
-    requires { irqs.now ≡ irqs_of at.now.plan at.now.point.state }
+    requires { irqs.now ≡ possible_irqs_of at.now.plan at.now.point.state }
     ensures { FindsLeastBrokenByDuties at.now
         (interrupt_duties_of at.now.plan at.now.node.key at.now.point.state) result }
 {

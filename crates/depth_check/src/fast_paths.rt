@@ -3,13 +3,13 @@
 ghost use Rattle.std.specs.Prelude.{◌≡◌, IfSome, Some, IsTrue, Bool, [], ◌∷◌, ◌<◌};
 ghost use Rattle.std.specs.Option.{option_and};
 ghost use Rattle.depth_check.specs.LeastBroken.{FindsLeastBrokenByDuties};
-ghost use Rattle.value_domain.specs.State.{AreValues, Covers};
+ghost use Rattle.value_domain.specs.State.{AreInLattice, Covers};
 ghost use Rattle.vd_transfer.specs.EffectsOnStates.{transfer_of};
 ghost use Rattle.tcd_plan.specs.PlanData.{PlanData};
 ghost use Rattle.elf_image.specs.Images.{image_byte};
 ghost use Rattle.tc_isa.specs.declared.shapes.Shape.TheVariants.{Nothing};
 ghost use Rattle.cfg_recover.specs.Code.{IsCode};
-ghost use Rattle.depth_check.specs.PassingInstructions.{HasPassingInstruction};
+ghost use Rattle.depth_check.specs.PassingInstructions.{HasNopOrJump};
 ghost use Rattle.value_domain.specs.declared.values.Val.{Val};
 ghost use Rattle.value_domain.specs.declared.states.State.{State};
 ghost use Rattle.value_domain.specs.Limits.{Limits};
@@ -29,7 +29,7 @@ use tcd_plan::Plan;
 /// state. Such an instruction breaks no rule by itself and changes nothing. Without decoding nop16
 /// this spares 75 instructions if its word was decoded lately, else 330.
 pub(crate) fn next_after_nop_or_jump(at: &PointCheck<'_, '_>, codes: &mut KnownCodes) -> Option<u32>
-    ensures { IfSome result (HasPassingInstruction at.now.image at.now.plan at.now.point.addr) }
+    ensures { IfSome result (HasNopOrJump at.now.image at.now.plan at.now.point.addr) }
 {
     if at.point.next.is_none() {
         return None;
@@ -75,7 +75,7 @@ pub(crate) fn may_skip_change(shape: Shape) -> bool
 /// checker needn't refine values first.
 pub(crate) fn may_skip_refinement(shape: Shape) -> bool
     ensures { IsTrue result → (b : Limits) (plan : PlanData) (s : State) (side : Bool)
-        → AreValues b s.regs → IfSome (refine_of b plan shape s side) (Covers s) }
+        → AreInLattice b s.regs → IfSome (refine_of b plan shape s side) (Covers s) }
 {
     match shape {
         Shape::Branch { lowers, .. } => !lowers,

@@ -1,11 +1,11 @@
 // A fast path: entries of interrupts that hold in one state hold in other states too.
 ghost use Rattle.std.specs.Prelude.{◌≡◌, IfSome, IsTrue, IsSomeAnd, ◌<◌};
 ghost use Rattle.depth_cert.specs.Certs.{CertData};
-ghost use Rattle.value_domain.specs.State.{AreValues};
-ghost use Rattle.value_domain.specs.Values.{IsWellFormed, IsValue};
+ghost use Rattle.value_domain.specs.State.{AreInLattice};
+ghost use Rattle.value_domain.specs.Values.{IsWellFormed, IsInLattice};
 ghost use Rattle.vd_transfer.specs.Registers.{a10_of};
 ghost use Rattle.tcd_plan.specs.PlanData.{PlanData};
-ghost use Rattle.depth_check.specs.Interrupts.{IsContext, FitsContextExceptStack, IsBelowContext, InterruptsHold, AreStacksWellFormed, LastInterruptsHold, InterruptsHoldWith};
+ghost use Rattle.depth_check.specs.Interrupts.{IsContextExceptStack, FitsContextExceptStack, FitsContext, InterruptsHold, AreStacksWellFormed, LastInterruptsHold, InterruptsHoldWithStack};
 
 use crate::duty_rules::rule_broken_by_irqs;
 use crate::points::PointCheck;
@@ -54,9 +54,9 @@ impl LastInterrupts {
     /// Returns the join of the last kept context's A10 with the state's, if the state needs more
     /// only because of A10, or `None`.
     fn joined_stack(&self, b: &Bounds, node: &Node<'_>, s: &State) -> Option<Val>
-        requires last { IfSome self.now.last (λ a. IsValue b.now a.sp) }
-        requires values { AreValues b.now s.now.regs }
-        ensures value { IfSome result (IsValue b.now) }
+        requires last { IfSome self.now.last (λ a. IsInLattice b.now a.sp) }
+        requires values { AreInLattice b.now s.now.regs }
+        ensures value { IfSome result (IsInLattice b.now) }
         ensures stack { IfSome result (λ v. IsTrue node.now.key.is) }
     {
         match &self.last {
@@ -102,7 +102,7 @@ impl InterruptContext {
     /// Returns the interrupt context of a state of the node, with the stack pointer `sp` instead of
     /// its A10.
     fn of_state(node: &Node<'_>, s: &State, sp: Val) -> InterruptContext
-        ensures same { IsContext result node.now s.now }
+        ensures same { IsContextExceptStack result node.now s.now }
         ensures sp { result.sp ≡ sp }
     {
         InterruptContext {
@@ -131,7 +131,7 @@ impl InterruptContext {
 fn context_covers(context: &Option<InterruptContext>, node: &Node<'_>, s: &State) -> bool
     requires own { IfSome context.now (λ a. IsWellFormed a.sp) }
     requires stack { IsWellFormed (a10_of s.now) }
-    ensures { IsTrue result → IsSomeAnd context.now (λ a. IsBelowContext a node.now s.now) }
+    ensures { IsTrue result → IsSomeAnd context.now (λ a. FitsContext a node.now s.now) }
 {
     match context {
         Some(context) => context.fits_except_stack(node, s)
@@ -149,8 +149,8 @@ fn context_covers(context: &Option<InterruptContext>, node: &Node<'_>, s: &State
 fn stack_to_keep(at: &PointCheck<'_, '_>, kept: &LastInterrupts) -> Val
     requires holds { InterruptsHold at.now.plan at.now.cert at.now.node at.now.point.state }
     requires interrupts { LastInterruptsHold at.now.plan at.now.cert kept.now }
-    ensures value { IsValue at.now.bounds result }
-    ensures holds { InterruptsHoldWith at.now.plan at.now.cert at.now.node
+    ensures value { IsInLattice at.now.bounds result }
+    ensures holds { InterruptsHoldWithStack at.now.plan at.now.cert at.now.node
         at.now.point.state result }
 {
     let s = at.point.state;

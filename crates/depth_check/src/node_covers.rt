@@ -4,7 +4,7 @@ ghost use Rattle.cfg_recover.specs.RulesHoldOrFail.{HasCoveringPoint};
 ghost use Rattle.depth_check.specs.DutiesHold.{HasCoveringPoints, HasCoveringExit};
 ghost use Rattle.value_domain.specs.State.{AreWellFormed};
 ghost use Rattle.vd_transfer.specs.Changes.{state_after};
-ghost use Rattle.depth_cert.specs.Exits.{state_after_exit};
+ghost use Rattle.depth_cert.specs.Exits.{state_after_return};
 
 use crate::points::PointCheck;
 use packed_cert::Node;
@@ -93,7 +93,7 @@ pub(crate) fn has_point_after_return(
     requires { AreWellFormed s.now.regs }
     ensures { IsTrue result
         ↔ IfSome entered.now.exit
-        (λ x. HasCoveringPoint node.now at (state_after_exit s.now x kind)) }
+        (λ x. HasCoveringPoint node.now at (state_after_return s.now x kind)) }
 {
     let Some(exit) = entered.exit() else {
         return true;

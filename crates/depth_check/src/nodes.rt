@@ -1,10 +1,10 @@
 // The rules of a node, and its first fault.
 ghost use Rattle.std.specs.Prelude.{◌≡◌, All, ◌<◌, ◌^◌, Contains, MatchOption, ◌↔◌, IsTrue};
-ghost use Rattle.cfg_recover.specs.RulesHoldOrFail.{limits_in, HoldsAtNode, HoldsAtEntry};
+ghost use Rattle.cfg_recover.specs.RulesHoldOrFail.{limits_of_cert, RulesHoldAtNode, EntryRuleHolds};
 ghost use Rattle.value_domain.specs.State.{AreWellFormed};
-ghost use Rattle.cfg_recover.specs.SetOperations.{HoldsCachedResults};
+ghost use Rattle.cfg_recover.specs.SetOperations.{IsCorrectCache};
 ghost use Rattle.depth_check.specs.Interrupts.{LastInterruptsHold};
-ghost use Rattle.depth_check.specs.NodeFaults.{IsNodeFault};
+ghost use Rattle.depth_check.specs.NodeFaults.{IsFirstNodeFault};
 ghost use Rattle.depth_check.specs.NodeFaults as nodes;
 
 use crate::fast_paths::NO_REGISTERS;
@@ -44,15 +44,15 @@ pub(crate) fn first_node_fault<'a>(
     node: &Node<'a>,
     scratch: &mut NodeScratch<'a>,
 ) -> Option<Fault>
-    requires limits { b.now ≡ limits_in plan.now cert.now }
+    requires limits { b.now ≡ limits_of_cert plan.now cert.now }
     requires points { All (λ p. AreWellFormed p.state.regs) node.now.points }
     requires member { Contains cert.now.nodes node.now }
     requires interrupts { LastInterruptsHold plan.now cert.now scratch.old.interrupts }
-    requires results { HoldsCachedResults b.now scratch.old.point.cache }
-    ensures fault { MatchOption result (HoldsAtNode image.now plan.now cert.now node.now)
-        (λ f. IsNodeFault image.now plan.now cert.now node.now f.rule f.addr) }
+    requires results { IsCorrectCache b.now scratch.old.point.cache }
+    ensures fault { MatchOption result (RulesHoldAtNode image.now plan.now cert.now node.now)
+        (λ f. IsFirstNodeFault image.now plan.now cert.now node.now f.rule f.addr) }
     ensures interrupts { LastInterruptsHold plan.now cert.now scratch.new.interrupts }
-    ensures results { HoldsCachedResults b.now scratch.new.point.cache }
+    ensures results { IsCorrectCache b.now scratch.new.point.cache }
 {
     let entry = node.key.entry;
     let good = entry_rule_holds(b, node);
@@ -128,7 +128,7 @@ fn point_address_fits_word(addr: u32)
 /// Returns true if K2 holds at a node's entry: a point stands there, and the values of the exit, if
 /// any, are the plan's.
 pub(crate) fn entry_rule_holds(b: &Bounds, node: &Node<'_>) -> bool
-    ensures { IsTrue result ↔ HoldsAtEntry b.now node.now }
+    ensures { IsTrue result ↔ EntryRuleHolds b.now node.now }
 {
     if node.point(node.key.entry).is_none() {
         return false;

@@ -2,15 +2,15 @@
 ghost use Rattle.std.specs.Prelude.{◌≡◌, IfSome, ◌↔◌, IsTrue};
 ghost use Rattle.cfg_recover.specs.RulesHoldOrFail.{RuleHolds};
 ghost use Rattle.depth_check.specs.LeastBroken.{FindsLeastBroken};
-ghost use Rattle.value_domain.specs.State.{AreValues};
+ghost use Rattle.value_domain.specs.State.{AreInLattice};
 ghost use Rattle.vd_transfer.specs.Registers.{a10_of};
-ghost use Rattle.cfg_recover.specs.SetOperations.{HoldsCachedResults};
-ghost use Rattle.depth_check.specs.CheckedRegisters.{RegistersHoldAt};
+ghost use Rattle.cfg_recover.specs.SetOperations.{IsCorrectCache};
+ghost use Rattle.depth_check.specs.CheckedRegisters.{CheckedRegistersHoldAt};
 ghost use Rattle.depth_check.specs.Interrupts.{InterruptsHold, AreStacksWellFormed, LastInterruptsHold};
 ghost use Rattle.vd_transfer.specs.Changes.{state_after};
 ghost use Rattle.vd_transfer.specs.EffectsOnStates.{transfer_of};
 ghost use Rattle.cfg_recover.specs.LocalFaults.{IsFaultlessShape};
-ghost use Rattle.cfg_recover.specs.Duties.{loaded_for_duties};
+ghost use Rattle.cfg_recover.specs.Duties.{value_loaded_by_shape};
 ghost use Rattle.tcd_plan.specs.PlanData.{PlanData};
 ghost use Rattle.value_domain.specs.Values.{IsWellFormed};
 ghost use Rattle.depth_cert.specs.Certs.{CertData};
@@ -106,12 +106,12 @@ pub(crate) fn blank_change() -> Change {
 /// Returns the least rule that fails at a checked point, on a fast path or by its instruction,
 /// duties and need. `None` if all hold.
 pub(crate) fn rule_broken_at(at: &PointCheck<'_, '_>, scratch: &mut PointScratch) -> Option<u8>
-    requires results { HoldsCachedResults at.now.bounds scratch.old.cache }
-    requires registers { RegistersHoldAt at.now scratch.old.registers }
+    requires results { IsCorrectCache at.now.bounds scratch.old.cache }
+    requires registers { CheckedRegistersHoldAt at.now scratch.old.registers }
     ensures found { FindsLeastBroken
         (RuleHolds at.now.image at.now.plan at.now.cert at.now.node at.now.point) result }
-    ensures results { HoldsCachedResults at.now.bounds scratch.new.cache }
-    ensures registers { RegistersHoldAt at.now scratch.new.registers }
+    ensures results { IsCorrectCache at.now.bounds scratch.new.cache }
+    ensures registers { CheckedRegistersHoldAt at.now scratch.new.registers }
 {
     let _bounds = at.bounds;
     let Some(next) = next_after_nop_or_jump(at, &mut scratch.codes) else {
@@ -129,14 +129,14 @@ pub(crate) fn rule_broken_at(at: &PointCheck<'_, '_>, scratch: &mut PointScratch
 pub(crate) fn write_change_at(at: &PointCheck<'_, '_>, found: &Located, scratch: &mut PointScratch)
     requires found { IsFaultlessShape at.now.bounds at.now.image at.now.plan
         at.now.node.key at.now.point.addr at.now.point.state found.now }
-    requires results { HoldsCachedResults at.now.bounds scratch.old.cache }
+    requires results { IsCorrectCache at.now.bounds scratch.old.cache }
     ensures change { state_after at.now.point.state scratch.new.change
         ≡ transfer_of at.now.bounds at.now.plan found.now.shape at.now.point.state
-        (loaded_for_duties at.now.bounds at.now.image at.now.plan at.now.point.state
+        (value_loaded_by_shape at.now.bounds at.now.image at.now.plan at.now.point.state
         found.now.shape) }
-    ensures values { AreValues at.now.bounds
+    ensures values { AreInLattice at.now.bounds
         (state_after at.now.point.state scratch.new.change).regs }
-    ensures results { HoldsCachedResults at.now.bounds scratch.new.cache }
+    ensures results { IsCorrectCache at.now.bounds scratch.new.cache }
     ensures registers { scratch.new.registers ≡ scratch.old.registers }
 {
     let s = at.point.state;
@@ -174,7 +174,7 @@ pub(crate) fn point_of_walk<'b>(
     ensures again { IsTrue result.again → (plan : PlanData) (cert : CertData)
         → LastInterruptsHold plan cert interrupts.now
         → InterruptsHold plan cert node.now walk.now.current }
-    ensures known { IsTrue result.known → IsTrue known × AreValues b.now walk.now.anew }
+    ensures known { IsTrue result.known → IsTrue known × AreInLattice b.now walk.now.anew }
     ensures next { IfSome result.next (IsNextWithSameState walk.now) }
     ensures walk { result.walk.now ≡ walk.now }
 {
@@ -192,7 +192,7 @@ pub(crate) fn point_of_walk<'b>(
 /// Returns true if each of these register values, of a checked point or an exit, is a value of the
 /// plan, as K2 asks.
 pub(crate) fn are_in_lattice(b: &Bounds, vs: &[Val]) -> bool
-    ensures { IsTrue result ↔ AreValues b.now vs.now }
+    ensures { IsTrue result ↔ AreInLattice b.now vs.now }
 {
     for v in vs {
         if !is_value(b, v) {
@@ -204,8 +204,8 @@ pub(crate) fn are_in_lattice(b: &Bounds, vs: &[Val]) -> bool
 
 /// Returns whether all values of the checked point's state are values of the plan, as K2 asks.
 pub(crate) fn is_point_in_lattice(b: &Bounds, point: CurrentPoint<'_>) -> bool
-    requires { IsTrue point.known → AreValues b.now point.state.now.regs }
-    ensures { IsTrue result ↔ AreValues b.now point.entry.state.now.regs }
+    requires { IsTrue point.known → AreInLattice b.now point.state.now.regs }
+    ensures { IsTrue result ↔ AreInLattice b.now point.entry.state.now.regs }
 {
     if point.known {
         return true;
@@ -217,12 +217,12 @@ pub(crate) fn is_point_in_lattice(b: &Bounds, point: CurrentPoint<'_>) -> bool
 /// instruction, its duties or its need.
 #[inline(never)]
 fn rule_broken_by_decoded_point(at: &PointCheck<'_, '_>, scratch: &mut PointScratch) -> Option<u8>
-    requires results { HoldsCachedResults at.now.bounds scratch.old.cache }
-    requires registers { RegistersHoldAt at.now scratch.old.registers }
+    requires results { IsCorrectCache at.now.bounds scratch.old.cache }
+    requires registers { CheckedRegistersHoldAt at.now scratch.old.registers }
     ensures found { FindsLeastBroken (RuleHolds at.now.image at.now.plan at.now.cert
         at.now.node at.now.point) result }
-    ensures results { HoldsCachedResults at.now.bounds scratch.new.cache }
-    ensures registers { RegistersHoldAt at.now scratch.new.registers }
+    ensures results { IsCorrectCache at.now.bounds scratch.new.cache }
+    ensures registers { CheckedRegistersHoldAt at.now scratch.new.registers }
 {
     let node = at.node;
     let s = at.point.state;

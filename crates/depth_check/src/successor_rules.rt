@@ -3,10 +3,10 @@ ghost use Rattle.std.specs.Prelude.{◌≡◌, ◌+◌, [], unwrap_or, ◌<◌, 
 ghost use Rattle.depth_check.specs.LeastBroken.{FindsLeastBrokenByDuties};
 ghost use Rattle.tc_isa.specs.InBounds.{IsShape, IsTarget};
 ghost use Rattle.cfg_recover.specs.LocalFaults.{IsFaultlessShape};
-ghost use Rattle.cfg_recover.specs.LocalRules.{targets_of, targets_named_by};
+ghost use Rattle.cfg_recover.specs.LocalRules.{targets_of, targets_of_value};
 ghost use Rattle.cfg_recover.specs.Duties.{jumps_to, jump_on, next_duty_of, successor_duties_of};
-ghost use Rattle.cfg_recover.specs.SetOperations.{HoldsCachedResults};
-ghost use Rattle.depth_check.specs.CheckedRegisters.{RegistersHoldAt, RegisterJumpsHoldAt};
+ghost use Rattle.cfg_recover.specs.SetOperations.{IsCorrectCache};
+ghost use Rattle.depth_check.specs.CheckedRegisters.{CheckedRegistersHoldAt, RegisterJumpsHoldAt};
 ghost use Rattle.vd_transfer.specs.Registers.{reg_of};
 ghost use Rattle.vd_transfer.specs.Branches.{refine_of};
 
@@ -27,13 +27,13 @@ pub(crate) fn rule_broken_by_successors(
 ) -> Option<u8>
     requires found { IsFaultlessShape at.now.bounds at.now.image at.now.plan
         at.now.node.key at.now.point.addr at.now.point.state found.now }
-    requires results { HoldsCachedResults at.now.bounds scratch.old.cache }
-    requires registers { RegistersHoldAt at.now scratch.old.registers }
+    requires results { IsCorrectCache at.now.bounds scratch.old.cache }
+    requires registers { CheckedRegistersHoldAt at.now scratch.old.registers }
     ensures found { FindsLeastBrokenByDuties at.now
         (successor_duties_of at.now.bounds at.now.image at.now.plan at.now.point.addr
         at.now.point.state found.now.shape found.now.size) result }
-    ensures results { HoldsCachedResults at.now.bounds scratch.new.cache }
-    ensures registers { RegistersHoldAt at.now scratch.new.registers }
+    ensures results { IsCorrectCache at.now.bounds scratch.new.cache }
+    ensures registers { CheckedRegistersHoldAt at.now scratch.new.registers }
 {
     let addr = at.point.addr;
     let next = addr.wrapping_add(found.size);
@@ -97,11 +97,11 @@ fn rule_broken_by_next(
 ) -> Option<u8>
     requires found { IsFaultlessShape at.now.bounds at.now.image at.now.plan
         at.now.node.key at.now.point.addr at.now.point.state found.now }
-    requires results { HoldsCachedResults at.now.bounds scratch.old.cache }
+    requires results { IsCorrectCache at.now.bounds scratch.old.cache }
     ensures found { FindsLeastBrokenByDuties at.now
         (next_duty_of at.now.bounds at.now.image at.now.plan at.now.point.addr
         at.now.point.state found.now.shape found.now.size) result }
-    ensures results { HoldsCachedResults at.now.bounds scratch.new.cache }
+    ensures results { IsCorrectCache at.now.bounds scratch.new.cache }
     ensures registers { scratch.new.registers ≡ scratch.old.registers }
 {
     if may_skip_change(found.shape) {
@@ -160,7 +160,7 @@ fn rule_broken_by_ji(at: &PointCheck<'_, '_>, r: u8, jumped: &mut Option<u8>) ->
     requires jumped { RegisterJumpsHoldAt at.now jumped.old }
     ensures found { FindsLeastBrokenByDuties at.now
         (jumps_to at.now.point.state
-        (unwrap_or (targets_named_by (reg_of at.now.plan at.now.point.state r)) [])) result }
+        (unwrap_or (targets_of_value (reg_of at.now.plan at.now.point.state r)) [])) result }
     ensures jumped { RegisterJumpsHoldAt at.now jumped.new }
 {
     if *jumped == Some(r) {
@@ -186,11 +186,11 @@ fn rule_broken_by_changed_state(
 ) -> Option<u8>
     requires found { IsFaultlessShape at.now.bounds at.now.image at.now.plan
         at.now.node.key at.now.point.addr at.now.point.state found.now }
-    requires results { HoldsCachedResults at.now.bounds scratch.old.cache }
+    requires results { IsCorrectCache at.now.bounds scratch.old.cache }
     ensures found { FindsLeastBrokenByDuties at.now
         (next_duty_of at.now.bounds at.now.image at.now.plan at.now.point.addr
         at.now.point.state found.now.shape found.now.size) result }
-    ensures results { HoldsCachedResults at.now.bounds scratch.new.cache }
+    ensures results { IsCorrectCache at.now.bounds scratch.new.cache }
     ensures registers { scratch.new.registers ≡ scratch.old.registers }
 {
     write_change_at(at, found, scratch);

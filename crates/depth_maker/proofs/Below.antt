@@ -5,15 +5,15 @@ use Rattle.elf_image.specs.Images.{ImageData}
 use Rattle.tcd_plan.specs.PlanData.{PlanData}
 use Rattle.value_domain.specs.declared.states.State.{State}
 use Rattle.value_domain.specs.Limits.{Limits}
-use Rattle.value_domain.specs.State.{Covers, joined_states}
+use Rattle.value_domain.specs.State.{Covers, state_join_if_any}
 use Rattle.depth_cert.specs.declared.keys.Key.{Key}
 use Rattle.cfg_recover.specs.Entries.{start_state}
-use Rattle.depth_cert.specs.Exits.{state_after_exit}
+use Rattle.depth_cert.specs.Exits.{state_after_return}
 use Rattle.cfg_recover.specs.Duties.{Duty, jump, enter, resume, leave}
-use Rattle.cfg_recover.specs.Assignments.{Place, point, exit, Assignment, is_same_place, CoversAt, IsBelowAt, raised_at_place, asked_by_duty, asked_by_resume, HasDuty, AsksFor, Joins, Derived, begins, joins, Closed, first_place, AllFaultless}
+use Rattle.cfg_recover.specs.Assignments.{Place, point, exit, Assignment, is_same_place, AssignmentCovers, IsAssignmentBelow, joined_at_place, asked_by_duty, asked_by_resume, HasDuty, AsksFor, Joins, Derived, begins, joins, Closed, start_place, ArePointsFaultless}
 use Rattle.depth_cert.specs.Known.{Known, state, leaving, CoversKnown, joined_known}
 use Rattle.depth_cert.specs.WellFormed.{IsWellFormedState, IsWellFormedKnown}
-use Rattle.cfg_recover.specs.CertRefusals.{HasManyNodes, HasManyPoints, IsPastCertLimits, IsFaultInAssignment, own, locals, IsRefusalFault, derived, limits}
+use Rattle.cfg_recover.specs.CertRefusals.{HasTooManyNodes, HasTooManyPoints, IsPastCertLimits, IsFaultInAssignment, own, locals, IsRefusalFault, derived, limits}
 use Rattle.depth_maker.specs.DutiesMonotone.{IsDutyBelow}
 use Rattle.depth_maker.specs.WellFormedAssignments.{IsWellFormedDuty, AllWellFormed}
 use Rattle.depth_maker.specs.MakerLaws.{AreMakerLaws}
@@ -34,7 +34,7 @@ module _ (b : Limits) (image : ImageData) (plan : PlanData) (laws : AreMakerLaws
       let f : (exit key, leaving x) ≡ (y, v) = cc in subst (IsWellFormedKnown b) (ap (λ (p : Place × Known). p.1) f) pd
 
   -- two duties, of which one asks for no more
-  incoming_rises : (a c : Assignment) → IsBelowAt a c → AllWellFormed b a → AllWellFormed b c → (key : Key) (s t : State) → IsWellFormedState b s → IsWellFormedState b t → Covers t s → (d e : Duty) → IsDutyBelow d e
+  incoming_rises : (a c : Assignment) → IsAssignmentBelow a c → AllWellFormed b a → AllWellFormed b c → (key : Key) (s t : State) → IsWellFormedState b s → IsWellFormedState b t → Covers t s → (d e : Duty) → IsDutyBelow d e
       → (y : Place) (v : Known) → asked_by_duty a key s d ≡ Some (y, v) → (w : Known) × (asked_by_duty c key t e ≡ Some (y, w)) × CoversKnown w v
   incoming_rises a c below pa pc key s t ps pt ts (jump q u) (jump r w) h y v is =
       let f : (point key q, state u) ≡ (y, v) = cc in
@@ -49,9 +49,9 @@ module _ (b : Limits) (image : ImageData) (plan : PlanData) (laws : AreMakerLaws
       let there : c (exit k) ≡ Some (leaving up.0) = o.at ∙ ap (λ (w : Known). Some w) up.1 in
       let px = pa (exit k) (leaving m.0) m.1 in
       let py = pc (exit k) (leaving up.0) there in (
-        state (state_after_exit t up.0 k.kind),
-        ap (λ (n : Key). asked_by_duty c key t (resume n r)) (sym h.0) ∙ ap (λ (n : ℕ). asked_by_duty c key t (resume k n)) (sym h.1) ∙ ap (asked_by_resume key t k q) there ∙ ap (λ (p : Place). Some (p, state (state_after_exit t up.0 k.kind))) m.2,
-        subst (CoversKnown (state (state_after_exit t up.0 k.kind))) m.3 (laws.after_grows s t m.0 up.0 k.kind ps pt px py ts up.2),
+        state (state_after_return t up.0 k.kind),
+        ap (λ (n : Key). asked_by_duty c key t (resume n r)) (sym h.0) ∙ ap (λ (n : ℕ). asked_by_duty c key t (resume k n)) (sym h.1) ∙ ap (asked_by_resume key t k q) there ∙ ap (λ (p : Place). Some (p, state (state_after_return t up.0 k.kind))) m.2,
+        subst (CoversKnown (state (state_after_return t up.0 k.kind))) m.3 (laws.after_grows s t m.0 up.0 k.kind ps pt px py ts up.2),
       )
   incoming_rises a c below pa pc key s t ps pt ts (leave x) (leave z) h y v is =
       let f : (exit key, leaving x) ≡ (y, v) = cc in
@@ -78,9 +78,9 @@ module _ (b : Limits) (image : ImageData) (plan : PlanData) (laws : AreMakerLaws
       asked_well_formed a k.key k.before k.duty y v cells (cells (point k.key k.addr) (state k.before) (k.has).at) (duty_well_formed a k.key k.addr k.before k.duty cells k.has) k.asks
 
   -- ---- below a closed one
-  module _ (c : Assignment) (closed : Closed b image plan c) (faultless : AllFaultless b image plan c) (pc : AllWellFormed b c) where
+  module _ (c : Assignment) (closed : Closed b image plan c) (faultless : ArePointsFaultless b image plan c) (pc : AllWellFormed b c) where
     -- a duty of a smaller assignment's point, and the closed one's that asks for no less
-    pub duty_above : (a : Assignment) → IsBelowAt a c → AllWellFormed b a → (key : Key) (p : ℕ) (s : State) (d : Duty) → HasDuty b image plan a key p s d
+    pub duty_above : (a : Assignment) → IsAssignmentBelow a c → AllWellFormed b a → (key : Key) (p : ℕ) (s : State) (d : Duty) → HasDuty b image plan a key p s d
         → (t : State) × (e : Duty) × HasDuty b image plan c key p t e × Covers t s × IsWellFormedState b t × IsDutyBelow d e
     duty_above a below pa key p s d h =
         let o = below (point key p) (state s) h.at in
@@ -97,7 +97,7 @@ module _ (b : Limits) (image : ImageData) (plan : PlanData) (laws : AreMakerLaws
           subst (λ (u : Duty). IsDutyBelow u (e.0).duty) h.is (e.2).duty,
         )
 
-    pub asks_covered : (a : Assignment) → IsBelowAt a c → AllWellFormed b a → (y : Place) (v : Known) → AsksFor b image plan a y v → CoversAt c y v
+    pub asks_covered : (a : Assignment) → IsAssignmentBelow a c → AllWellFormed b a → (y : Place) (v : Known) → AsksFor b image plan a y v → AssignmentCovers c y v
     asks_covered a below pa y v k =
         let up = duty_above a below pa k.key k.addr k.before k.duty k.has in
         let r = incoming_rises a c below pa pc k.key k.before up.0 (pa (point k.key k.addr) (state k.before) (k.has).at) up.4 up.3 k.duty up.1 up.5 y v k.asks in
@@ -105,7 +105,7 @@ module _ (b : Limits) (image : ImageData) (plan : PlanData) (laws : AreMakerLaws
         let o = closed.duties y r.0 there in
         record { known = o.known; at = o.at; covers = laws.covers_through v r.0 o.known (asks_well_formed a y v pa k) (asks_well_formed c y r.0 pc there) o.covers r.2 }
 
-    raised_covered : (o : Option Known) (v known top : Known) → ((w : Known) → o ≡ Some w → IsWellFormedKnown b w × CoversKnown top w) → IsWellFormedKnown b v → IsWellFormedKnown b top → CoversKnown top v → raised_at_place b o v ≡ Some known
+    raised_covered : (o : Option Known) (v known top : Known) → ((w : Known) → o ≡ Some w → IsWellFormedKnown b w × CoversKnown top w) → IsWellFormedKnown b v → IsWellFormedKnown b top → CoversKnown top v → joined_at_place b o v ≡ Some known
         → IsWellFormedKnown b known × CoversKnown top known
     raised_covered None v known top old pv pt h is = let e : v ≡ known = cc in (subst (IsWellFormedKnown b) e pv, subst (CoversKnown top) e h)
     raised_covered (Some w) v known top old pv pt h is =
@@ -115,7 +115,7 @@ module _ (b : Limits) (image : ImageData) (plan : PlanData) (laws : AreMakerLaws
         (laws.joined_well_formed w v known g.0 pv is, subst (CoversKnown top) e l.2)
 
     -- one join stays below
-    pub joined_below : (a after : Assignment) (y : Place) → IsBelowAt a c × AllWellFormed b a → Joins b image plan a after y → IsBelowAt after c × AllWellFormed b after
+    pub joined_below : (a after : Assignment) (y : Place) → IsAssignmentBelow a c × AllWellFormed b a → Joins b image plan a after y → IsAssignmentBelow after c × AllWellFormed b after
     joined_below a after y stays j =
         let top = asks_covered a stays.0 stays.1 y j.value j.asks in
         let ptop = pc y top.known top.at in
@@ -123,7 +123,7 @@ module _ (b : Limits) (image : ImageData) (plan : PlanData) (laws : AreMakerLaws
         λ w at. (let h = stays.0 y w at in
         (stays.1 y w at, (let same : h.known ≡ top.known = (let q : Some h.known ≡ Some top.known = sym h.at ∙ top.at in cc) in subst (λ (k : Known). CoversKnown k w) same h.covers))) in
         let new = raised_covered (a y) j.value j.known top.known old (asks_well_formed a y j.value stays.1 j.asks) ptop top.covers j.raises in
-        let each : (x : Place) (s : Known) → after x ≡ Some s → CoversAt c x s × IsWellFormedKnown b s =
+        let each : (x : Place) (s : Known) → after x ≡ Some s → AssignmentCovers c x s × IsWellFormedKnown b s =
         λ x s at. elim (from_if (is_same_place x y) j.known (a x) (after x) s (j.is x) at) [
           | inl h ↦ (let e = place_tells x y h.0 in
               (record { known = top.known; at = ap c e ∙ top.at; covers = subst (CoversKnown top.known) h.1 new.1 }, subst (IsWellFormedKnown b) h.1 new.0))
@@ -131,22 +131,22 @@ module _ (b : Limits) (image : ImageData) (plan : PlanData) (laws : AreMakerLaws
         ] in
         ((λ x s at. (each x s at).0), (λ x s at. (each x s at).1))
 
-    start_below : (a : Assignment) → ((x : Place) → a x ≡ (if is_same_place x (first_place image plan) then Some (state (start_state plan)) else None)) → IsBelowAt a c × AllWellFormed b a
+    start_below : (a : Assignment) → ((x : Place) → a x ≡ (if is_same_place x (start_place image plan) then Some (state (start_state plan)) else None)) → IsAssignmentBelow a c × AllWellFormed b a
     start_below a is =
-        let each : (x : Place) (s : Known) → a x ≡ Some s → CoversAt c x s × IsWellFormedKnown b s =
-        λ x s at. elim (from_if (is_same_place x (first_place image plan)) (state (start_state plan)) None (a x) s (is x) at) [
-          | inl h ↦ (let e = place_tells x (first_place image plan) h.0 in
+        let each : (x : Place) (s : Known) → a x ≡ Some s → AssignmentCovers c x s × IsWellFormedKnown b s =
+        λ x s at. elim (from_if (is_same_place x (start_place image plan)) (state (start_state plan)) None (a x) s (is x) at) [
+          | inl h ↦ (let e = place_tells x (start_place image plan) h.0 in
               (record { known = closed.start.known; at = ap c e ∙ closed.start.at; covers = subst (CoversKnown closed.start.known) h.1 closed.start.covers }, subst (IsWellFormedKnown b) h.1 laws.start_well_formed))
           | inr h ↦ (let q : None ≡ Some s = h.1 in cc)
         ] in
         ((λ x s at. (each x s at).0), (λ x s at. (each x s at).1))
 
-    pub derived_below : (a : Assignment) → Derived b image plan a → IsBelowAt a c × AllWellFormed b a
+    pub derived_below : (a : Assignment) → Derived b image plan a → IsAssignmentBelow a c × AllWellFormed b a
     derived_below _ (begins a is) = start_below a is
     derived_below _ (joins a after y d j) = joined_below a after y (derived_below a d) j
 
     -- so no point of a derived one has a fault of its own, and no join fails
-    pub derived_faultless : (a : Assignment) → Derived b image plan a → AllFaultless b image plan a
+    pub derived_faultless : (a : Assignment) → Derived b image plan a → ArePointsFaultless b image plan a
     derived_faultless a d k p s at =
         let h = derived_below a d in
         let o = h.0 (point k p) (state s) at in
@@ -163,14 +163,14 @@ module _ (b : Limits) (image : ImageData) (plan : PlanData) (laws : AreMakerLaws
         let l = laws.joined_least w v top.known (h.1 y w at) (asks_well_formed a y v h.1 k) (pc y top.known top.at) (subst (λ (z : Known). CoversKnown z w) same o.covers) top.covers in
         let q : None ≡ Some l.0 = sym none ∙ l.1 in cc
 
-    stands_above : (a : Assignment) → IsBelowAt a c → (x : Place) → IsSome (a x) → IsSome (c x)
+    stands_above : (a : Assignment) → IsAssignmentBelow a c → (x : Place) → IsSome (a x) → IsSome (c x)
     stands_above a below x some = at (a x) refl some where
       at : (o : Option Known) → a x ≡ o → IsSome o → IsSome (c x)
       at None e is = cc
       at (Some s) e is = let d = below x s e in subst (λ (o : Option Known). IsSome o) (sym d.at) refl
 
     -- a limit that a derived one passes is passed by the closed one
-    pub nodes_above : (a : Assignment) → IsBelowAt a c → HasManyNodes a → HasManyNodes c
+    pub nodes_above : (a : Assignment) → IsAssignmentBelow a c → HasTooManyNodes a → HasTooManyNodes c
     nodes_above a below h = record {
       keys = h.keys;
       distinct = h.distinct;
@@ -178,7 +178,7 @@ module _ (b : Limits) (image : ImageData) (plan : PlanData) (laws : AreMakerLaws
       more = h.more;
     }
 
-    pub points_above : (a : Assignment) → IsBelowAt a c → HasManyPoints a → HasManyPoints c
+    pub points_above : (a : Assignment) → IsAssignmentBelow a c → HasTooManyPoints a → HasTooManyPoints c
     points_above a below h = record {
       places = h.places;
       distinct = h.distinct;
@@ -186,14 +186,14 @@ module _ (b : Limits) (image : ImageData) (plan : PlanData) (laws : AreMakerLaws
       more = h.more;
     }
 
-    large_above : (a : Assignment) → IsBelowAt a c → IsPastCertLimits a → IsPastCertLimits c
+    large_above : (a : Assignment) → IsAssignmentBelow a c → IsPastCertLimits a → IsPastCertLimits c
     large_above a below h = elim h [ inl n ↦ inl (nodes_above a below n) | inr n ↦ inr (points_above a below n) ]
 
     -- if there is a closed one without faults and within the limits, no derived one has a fault
     fault_of : (a : Assignment) (r : ℕ) (k : Key) (p : ℕ) → Derived b image plan a → IsFaultInAssignment b image plan a r k p → ⊥
     fault_of a _ _ _ d (own r k p s at is) = is.fails (derived_faultless a d k p s at r)
     fault_of a _ _ _ d (locals k p s t at asks none) = derived_joins a d (point k p) (state t) (state s) asks at (unjoined s t none) where
-      unjoined : (s t : State) → joined_states b s t ≡ None → joined_known b (state s) (state t) ≡ None
+      unjoined : (s t : State) → state_join_if_any b s t ≡ None → joined_known b (state s) (state t) ≡ None
       unjoined s t e = rw e refl
 
     pub fault_refuted : (IsPastCertLimits c → ⊥) → (r : ℕ) (k : Key) (p : ℕ) → IsRefusalFault b image plan r k p → ⊥

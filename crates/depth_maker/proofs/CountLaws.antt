@@ -10,25 +10,25 @@ use Rattle.tcd_plan.specs.PlanData.{PlanData}
 use Rattle.value_domain.specs.Limits.{Limits}
 use Rattle.depth_cert.specs.declared.keys.Key.{Key}
 use Rattle.depth_cert.specs.Keys.{is_same_key}
-use Rattle.cfg_recover.specs.Assignments.{Place, point, exit, Assignment, is_same_place, frame_of_place, Joins, Derived}
+use Rattle.cfg_recover.specs.Assignments.{Place, point, exit, Assignment, is_same_place, key_of_place, Joins, Derived}
 use Rattle.depth_cert.specs.Known.{Known}
 use Rattle.cfg_recover.specs.CertRefusals.{IsPastCertLimits, IsRefusalFault, limits}
-use Rattle.depth_maker.specs.AssignmentCounts.{ListsPointsAndFrames, AreFewEnough}
+use Rattle.depth_maker.specs.AssignmentCounts.{ListsPointsAndFrames, AreWithinCertLimits}
 use Rattle.frame_places.proofs.KeyLaws.{key_tells, key_same}
 use Rattle.depth_maker.proofs.PlaceLaws.{place_tells, place_same}
 use Rattle.depth_maker.proofs.Sizes.{decides, any_contained, no_more}
 use Rattle.depth_maker.proofs.Reached.{entry_of, asked_where}
 
 -- ---- within
-pub counted_within : (a : Assignment) (ps : List Place) (ks : List Key) → ListsPointsAndFrames a ps ks → AreFewEnough ps ks → IsPastCertLimits a → ⊥
+pub counted_within : (a : Assignment) (ps : List Place) (ks : List Key) → ListsPointsAndFrames a ps ks → AreWithinCertLimits ps ks → IsPastCertLimits a → ⊥
 counted_within a ps ks c few h =
     elim h [
       | inl n ↦
           let le = no_more is_same_key key_tells key_same n.keys ks n.distinct
           (λ k i. let s = n.stand k i in
           elim s.2 [
-            | inl e ↦ subst (λ (y : Place). Contains ks (frame_of_place y)) e (c.frames s.0 s.1)
-            | inr e ↦ subst (λ (y : Place). Contains ks (frame_of_place y)) e.1 (c.frames s.0 s.1)
+            | inl e ↦ subst (λ (y : Place). Contains ks (key_of_place y)) e (c.frames s.0 s.1)
+            | inr e ↦ subst (λ (y : Place). Contains ks (key_of_place y)) e.1 (c.frames s.0 s.1)
           ]) in
           absurd (omega (arith, n.more, few.frames, le))
       | inr n ↦
@@ -71,13 +71,13 @@ module _ (b : Limits) (image : ImageData) (plan : PlanData) (a after : Assignmen
     points = λ k p h. elim (before (point k p) h) [ inl e ↦ c.points k p (subst (λ (z : Place). IsSome (a z)) (sym e) old) | inr g ↦ c.points k p g ];
     known = λ x i. let s = c.known x i in (stays x s.0, s.1);
     once = c.once;
-    frames = λ x h. elim (before x h) [ inl e ↦ subst (λ (z : Place). Contains ks (frame_of_place z)) (sym e) (c.frames y old) | inr g ↦ c.frames x g ];
+    frames = λ x h. elim (before x h) [ inl e ↦ subst (λ (z : Place). Contains ks (key_of_place z)) (sym e) (c.frames y old) | inr g ↦ c.frames x g ];
     entered = λ k i. stays (entry_of k) (c.entered k i);
     once_each = c.once_each;
   }
 
   -- the frame of an asked place is there, or its entry is asked for
-  pub frame_stands : (ps : List Place) (ks : List Key) → ListsPointsAndFrames a ps ks → Contains ks (frame_of_place y) ⊎ ((k : Key) × (y ≡ entry_of k))
+  pub frame_stands : (ps : List Place) (ks : List Key) → ListsPointsAndFrames a ps ks → Contains ks (key_of_place y) ⊎ ((k : Key) × (y ≡ entry_of k))
   frame_stands ps ks c =
       let k = j.asks in
       elim (asked_where a k.key k.before k.duty y j.value k.asks) [
@@ -94,7 +94,7 @@ module _ (b : Limits) (image : ImageData) (plan : PlanData) (a after : Assignmen
     frames = λ x h.
         elim (before x h) [
           | inl e ↦ elim (frame_stands ps ks c) [
-            | inl has ↦ subst (λ (z : Place). Contains ks (frame_of_place z)) (sym e) has
+            | inl has ↦ subst (λ (z : Place). Contains ks (key_of_place z)) (sym e) has
             | inr n ↦ absurd (let f : exit l ≡ entry_of n.0 = sym is ∙ n.1 in cc)
           ]
           | inr g ↦ c.frames x g
@@ -127,7 +127,7 @@ module _ (b : Limits) (image : ImageData) (plan : PlanData) (a after : Assignmen
       points = more_points;
       known = more_known;
       once = distinct_more is_same_place place_tells place_same ps y c.once absent;
-      frames = λ x h. elim (before x h) [ inl e ↦ subst (λ (z : Place). Contains ks (frame_of_place z)) (sym (e ∙ is)) has | inr g ↦ c.frames x g ];
+      frames = λ x h. elim (before x h) [ inl e ↦ subst (λ (z : Place). Contains ks (key_of_place z)) (sym (e ∙ is)) has | inr g ↦ c.frames x g ];
       entered = λ k i. stays (entry_of k) (c.entered k i);
       once_each = c.once_each;
     }
@@ -140,16 +140,16 @@ module _ (b : Limits) (image : ImageData) (plan : PlanData) (a after : Assignmen
       once = distinct_more is_same_place place_tells place_same ps y c.once absent;
       frames = λ x h.
           elim (before x h) [
-            | inl e ↦ subst (λ (z : Place). Contains (ks ++ l ∷ []) (frame_of_place z)) (sym (e ∙ is)) (Contains-push ks l)
-            | inr g ↦ Contains-append_left ks (l ∷ []) (frame_of_place x) (c.frames x g)
+            | inl e ↦ subst (λ (z : Place). Contains (ks ++ l ∷ []) (key_of_place z)) (sym (e ∙ is)) (Contains-push ks l)
+            | inr g ↦ Contains-append_left ks (l ∷ []) (key_of_place x) (c.frames x g)
           ];
       entered = λ k i.
           elim (Contains-push_cases ks l k i) [
             | inl old ↦ stays (entry_of k) (c.entered k old)
             | inr e ↦ elim (frame_stands ps ks c) [
-              | inl has ↦ absurd (fresh (subst (λ (z : Place). Contains ks (frame_of_place z)) is has))
+              | inl has ↦ absurd (fresh (subst (λ (z : Place). Contains ks (key_of_place z)) is has))
               | inr n ↦
-                  let same : l ≡ n.0 = ap frame_of_place (sym is ∙ n.1) in
+                  let same : l ≡ n.0 = ap key_of_place (sym is ∙ n.1) in
                   subst (λ (z : Key). IsSome (after (entry_of z))) (sym same ∙ e) (subst (λ (z : Place). IsSome (after z)) n.1 added)
             ]
           ];
@@ -157,7 +157,7 @@ module _ (b : Limits) (image : ImageData) (plan : PlanData) (a after : Assignmen
     }
 
     -- ---- a limit is passed
-    passed : Derived b image plan a → AreFewEnough ps ks → IsPastCertLimits after → IsRefusalFault b image plan 15 l q
+    passed : Derived b image plan a → AreWithinCertLimits ps ks → IsPastCertLimits after → IsRefusalFault b image plan 15 l q
     passed d few more =
         limits l q (record {
           before = a;
@@ -169,7 +169,7 @@ module _ (b : Limits) (image : ImageData) (plan : PlanData) (a after : Assignmen
           more = more;
         })
 
-    pub passed_points : Derived b image plan a → AreFewEnough ps ks → length ps ≡ 2 ^ 16 → IsRefusalFault b image plan 15 l q
+    pub passed_points : Derived b image plan a → AreWithinCertLimits ps ks → length ps ≡ 2 ^ 16 → IsRefusalFault b image plan 15 l q
     passed_points d few full =
         passed d few (inr (record {
           places = ps ++ y ∷ [];
@@ -178,7 +178,7 @@ module _ (b : Limits) (image : ImageData) (plan : PlanData) (a after : Assignmen
           more = omega (arith, length-append ps (y ∷ []), full);
         }))
 
-    pub passed_frames : Derived b image plan a → AreFewEnough ps ks → (Contains ks l → ⊥) → length ks ≡ 2048 → IsRefusalFault b image plan 15 l q
+    pub passed_frames : Derived b image plan a → AreWithinCertLimits ps ks → (Contains ks l → ⊥) → length ks ≡ 2048 → IsRefusalFault b image plan 15 l q
     passed_frames d few fresh full =
         let m = counted_entry fresh in
         passed d few (inl (record {

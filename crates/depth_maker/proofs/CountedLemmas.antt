@@ -11,10 +11,10 @@ use Rattle.tcd_plan.specs.PlanData.{PlanData}
 use Rattle.value_domain.specs.Limits.{Limits}
 use Rattle.depth_cert.specs.declared.keys.Key.{Key}
 use Rattle.depth_cert.specs.Keys.{is_same_key}
-use Rattle.cfg_recover.specs.Assignments.{Place, point, exit, Assignment, is_same_place, frame_of_place, AsksFor, Joins, Derived, raised_at_place}
+use Rattle.cfg_recover.specs.Assignments.{Place, point, exit, Assignment, is_same_place, key_of_place, AsksFor, Joins, Derived, joined_at_place}
 use Rattle.depth_cert.specs.Known.{Known}
 use Rattle.cfg_recover.specs.CertRefusals.{IsRefusalFault}
-use Rattle.depth_maker.specs.AssignmentCounts.{ListsPointsAndFrames, AreFewEnough, IsCountedIn}
+use Rattle.depth_maker.specs.AssignmentCounts.{ListsPointsAndFrames, AreWithinCertLimits, ListsTablePlaces}
 use Rattle.depth_maker.proofs.CountLaws.{none_some, distinct_more, frame_stands, counted_rises, counted_exit, counted_point, counted_entry, passed_points, passed_frames}
 use Rattle.depth_maker.proofs.Reached.{entry_of}
 use Rattle.depth_maker.proofs.PlaceLaws.{place_tells, place_same}
@@ -23,10 +23,10 @@ use Rattle.frame_places.specs.declared.places.Spot.{Spot}
 use Rattle.frame_places.specs.declared.places.Spot.TheVariants.{Point, Exit}
 use Rattle.frame_places.specs.declared.refusals.Refusal.{Refusal}
 use Rattle.frame_places.specs.declared.refusals.Refusal.TheVariants.{Fault, NoMemory}
-use Rattle.frame_places.specs.Marks.{value_for}
+use Rattle.frame_places.specs.Marks.{value_of_place}
 use Rattle.frame_places.specs.declared.places.Marked.{Marked}
 use Rattle.depth_maker.specs.SpotsAsPlaces.{spot_of, place_of_spot}
-use Rattle.frame_places.specs.Counting.{counted_points_after, counted_frames_after, IsCountRefusal}
+use Rattle.frame_places.specs.Counting.{points_after_flow, frames_after_flow, IsRule15Refusal}
 use Rattle.depth_maker.specs.Answers.{RefusalNamesFault}
 
 -- few spots are few places
@@ -34,19 +34,19 @@ places_length : (ps : List Spot) → length (map place_of_spot ps) ≡ length ps
 places_length [] = refl
 places_length (p ∷ ps) = ap (λ (n : ℕ). suc n) (places_length ps)
 
-pub are_few : (ps : List Spot) (ks : List Key) → length ps ≤ 2 ^ 16 → length ks ≤ 2048 → AreFewEnough (map place_of_spot ps) ks
+pub are_few : (ps : List Spot) (ks : List Key) → length ps ≤ 2 ^ 16 → length ks ≤ 2048 → AreWithinCertLimits (map place_of_spot ps) ks
 are_few ps ks p k = record { points = omega (arith, places_length ps); frames = k }
 
-pub few_spots : (ps : List Spot) (ks : List Key) → AreFewEnough (map place_of_spot ps) ks → (length ps ≤ 2 ^ 16) × (length ks ≤ 2048)
+pub few_spots : (ps : List Spot) (ks : List Key) → AreWithinCertLimits (map place_of_spot ps) ks → (length ps ≤ 2 ^ 16) × (length ks ≤ 2048)
 few_spots ps ks few = (let h = few.points in omega (arith, h, places_length ps), few.frames)
 
 -- the same table
 pub counted_again : {S T : Type 0} (cells : IndexMap Spot (Marked Known) S) (after : IndexMap Spot (Marked Known) T) (ps qs : List Spot) (ks js : List Key)
-    → ((q : Place) → value_for after (spot_of q) ≡ value_for cells (spot_of q)) → qs ≡ ps → js ≡ ks → IsCountedIn cells ps ks → IsCountedIn after qs js
+    → ((q : Place) → value_of_place after (spot_of q) ≡ value_of_place cells (spot_of q)) → qs ≡ ps → js ≡ ks → ListsTablePlaces cells ps ks → ListsTablePlaces after qs js
 counted_again cells after ps qs ks js same p k c = record {
   each = subst (λ (a : Assignment). ListsPointsAndFrames a (map place_of_spot qs) js) (λ i q. sym (same q) i)
-      (subst (λ (l : List Spot). ListsPointsAndFrames (λ q. value_for cells (spot_of q)) (map place_of_spot l) js) (sym p) (subst (λ (l : List Key). ListsPointsAndFrames (λ q. value_for cells (spot_of q)) (map place_of_spot ps) l) (sym k) c.each));
-  few = subst (λ (l : List Spot). AreFewEnough (map place_of_spot l) js) (sym p) (subst (λ (l : List Key). AreFewEnough (map place_of_spot ps) l) (sym k) c.few);
+      (subst (λ (l : List Spot). ListsPointsAndFrames (λ q. value_of_place cells (spot_of q)) (map place_of_spot l) js) (sym p) (subst (λ (l : List Key). ListsPointsAndFrames (λ q. value_of_place cells (spot_of q)) (map place_of_spot ps) l) (sym k) c.each));
+  few = subst (λ (l : List Spot). AreWithinCertLimits (map place_of_spot l) js) (sym p) (subst (λ (l : List Key). AreWithinCertLimits (map place_of_spot ps) l) (sym k) c.few);
 }
 
 -- an entry point is that of its own frame
@@ -70,7 +70,7 @@ module _ (b : Limits) (image : ImageData) (plan : PlanData) (a after : Assignmen
   pub counted_more : ListsPointsAndFrames after (ps ++ point k p ∷ []) (if p == k.entry then ks ++ k ∷ [] else ks)
   counted_more = added (p == k.entry) refl
 
-  pub passing : Derived b image plan a → AreFewEnough ps ks → (length ps ≡ 2 ^ 16) ⊎ ((p ≡ k.entry) × (length ks ≡ 2048)) → IsRefusalFault b image plan 15 k p
+  pub passing : Derived b image plan a → AreWithinCertLimits ps ks → (length ps ≡ 2 ^ 16) ⊎ ((p ≡ k.entry) × (length ks ≡ 2048)) → IsRefusalFault b image plan 15 k p
   passing d few h =
       elim h [
         | inl full ↦ passed_points b image plan a after (point k p) j ps ks c k p refl new d few full
@@ -83,23 +83,23 @@ none_of (Some v) e = cc
 
 -- ---- one join
 module _ {S T : Type 0} (b : Limits) (image : ImageData) (plan : PlanData) (cells : IndexMap Spot (Marked Known) S) (after : IndexMap Spot (Marked Known) T) where
-  at_spot : (t : Bool) (y : Spot) (ps : List Spot) (ks : List Key) → Joins b image plan (λ q. value_for cells (spot_of q)) (λ q. value_for after (spot_of q)) (place_of_spot y)
-      → ListsPointsAndFrames (λ q. value_for cells (spot_of q)) (map place_of_spot ps) ks → is_some (value_for cells y) ≡ t
-      → ListsPointsAndFrames (λ q. value_for after (spot_of q)) (map place_of_spot (counted_points_after t ps y)) (counted_frames_after t ks y)
-  at_spot true (Point k p) ps ks j c e = counted_rises b image plan (λ q. value_for cells (spot_of q)) (λ q. value_for after (spot_of q)) (point k p) j (map place_of_spot ps) ks c e
-  at_spot true (Exit k) ps ks j c e = counted_rises b image plan (λ q. value_for cells (spot_of q)) (λ q. value_for after (spot_of q)) (exit k) j (map place_of_spot ps) ks c e
-  at_spot false (Exit k) ps ks j c e = counted_exit b image plan (λ q. value_for cells (spot_of q)) (λ q. value_for after (spot_of q)) (exit k) j (map place_of_spot ps) ks k c refl
+  at_spot : (t : Bool) (y : Spot) (ps : List Spot) (ks : List Key) → Joins b image plan (λ q. value_of_place cells (spot_of q)) (λ q. value_of_place after (spot_of q)) (place_of_spot y)
+      → ListsPointsAndFrames (λ q. value_of_place cells (spot_of q)) (map place_of_spot ps) ks → is_some (value_of_place cells y) ≡ t
+      → ListsPointsAndFrames (λ q. value_of_place after (spot_of q)) (map place_of_spot (points_after_flow t ps y)) (frames_after_flow t ks y)
+  at_spot true (Point k p) ps ks j c e = counted_rises b image plan (λ q. value_of_place cells (spot_of q)) (λ q. value_of_place after (spot_of q)) (point k p) j (map place_of_spot ps) ks c e
+  at_spot true (Exit k) ps ks j c e = counted_rises b image plan (λ q. value_of_place cells (spot_of q)) (λ q. value_of_place after (spot_of q)) (exit k) j (map place_of_spot ps) ks c e
+  at_spot false (Exit k) ps ks j c e = counted_exit b image plan (λ q. value_of_place cells (spot_of q)) (λ q. value_of_place after (spot_of q)) (exit k) j (map place_of_spot ps) ks k c refl
   at_spot false (Point k p) ps ks j c e =
-      subst (λ (l : List Place). ListsPointsAndFrames (λ q. value_for after (spot_of q)) l (if p == k.entry then ks ++ k ∷ [] else ks)) (sym (map-append place_of_spot ps (Point k p ∷ [])))
-      (counted_more b image plan (λ q. value_for cells (spot_of q)) (λ q. value_for after (spot_of q)) k p j (map place_of_spot ps) ks c (none_of (value_for cells (Point k p)) e))
+      subst (λ (l : List Place). ListsPointsAndFrames (λ q. value_of_place after (spot_of q)) l (if p == k.entry then ks ++ k ∷ [] else ks)) (sym (map-append place_of_spot ps (Point k p ∷ [])))
+      (counted_more b image plan (λ q. value_of_place cells (spot_of q)) (λ q. value_of_place after (spot_of q)) k p j (map place_of_spot ps) ks c (none_of (value_of_place cells (Point k p)) e))
 
 pub counted_after : {S T : Type 0} (b : Limits) (image : ImageData) (plan : PlanData) (cells : IndexMap Spot (Marked Known) S) (after : IndexMap Spot (Marked Known) T) (ps qs : List Spot) (ks js : List Key) (y : Spot)
-    → Joins b image plan (λ q. value_for cells (spot_of q)) (λ q. value_for after (spot_of q)) (place_of_spot y) → qs ≡ counted_points_after (is_some (value_for cells y)) ps y
-    → js ≡ counted_frames_after (is_some (value_for cells y)) ks y → AreFewEnough (map place_of_spot qs) js → IsCountedIn cells ps ks → IsCountedIn after qs js
+    → Joins b image plan (λ q. value_of_place cells (spot_of q)) (λ q. value_of_place after (spot_of q)) (place_of_spot y) → qs ≡ points_after_flow (is_some (value_of_place cells y)) ps y
+    → js ≡ frames_after_flow (is_some (value_of_place cells y)) ks y → AreWithinCertLimits (map place_of_spot qs) js → ListsTablePlaces cells ps ks → ListsTablePlaces after qs js
 counted_after b image plan cells after ps qs ks js y j p k few c = record {
-  each = subst (λ (l : List Spot). ListsPointsAndFrames (λ q. value_for after (spot_of q)) (map place_of_spot l) js) (sym p)
-      (subst (λ (l : List Key). ListsPointsAndFrames (λ q. value_for after (spot_of q)) (map place_of_spot (counted_points_after (is_some (value_for cells y)) ps y)) l) (sym k)
-      (at_spot b image plan cells after (is_some (value_for cells y)) y ps ks j c.each refl));
+  each = subst (λ (l : List Spot). ListsPointsAndFrames (λ q. value_of_place after (spot_of q)) (map place_of_spot l) js) (sym p)
+      (subst (λ (l : List Key). ListsPointsAndFrames (λ q. value_of_place after (spot_of q)) (map place_of_spot (points_after_flow (is_some (value_of_place cells y)) ps y)) l) (sym k)
+      (at_spot b image plan cells after (is_some (value_of_place cells y)) y ps ks j c.each refl));
   few = few;
 }
 
@@ -109,14 +109,14 @@ full_places ps n P (inr h) = inr h
 
 -- a limit is passed
 pub limit_passed : {S : Type 0} (b : Limits) (image : ImageData) (plan : PlanData) (cells : IndexMap Spot (Marked Known) S) (ps : List Spot) (ks : List Key) (y : Spot) (v : Known)
-    → Derived b image plan (λ q. value_for cells (spot_of q)) → AsksFor b image plan (λ q. value_for cells (spot_of q)) (place_of_spot y) v → IsCountedIn cells ps ks
-    → (e : Refusal) → IsCountRefusal (is_some (value_for cells y)) ps ks y e → RefusalNamesFault b image plan e
+    → Derived b image plan (λ q. value_of_place cells (spot_of q)) → AsksFor b image plan (λ q. value_of_place cells (spot_of q)) (place_of_spot y) v → ListsTablePlaces cells ps ks
+    → (e : Refusal) → IsRule15Refusal (is_some (value_of_place cells y)) ps ks y e → RefusalNamesFault b image plan e
 limit_passed b image plan cells ps ks y v d asks c NoMemory h = tt
 limit_passed b image plan cells ps ks (Exit k) v d asks c (Fault rule x) h = absurd h.3
 limit_passed b image plan cells ps ks (Point k p) v d asks c (Fault rule x) h =
-    let new = none_of (value_for cells (Point k p)) h.2 in
-    let a : Assignment = λ q. value_for cells (spot_of q) in
-    let j : Joins b image plan a (λ z. if is_same_place z (point k p) then Some v else a z) (point k p) = record { value = v; asks = asks; known = v; raises = ap (λ o. raised_at_place b o v) new; is = λ z. refl } in
+    let new = none_of (value_of_place cells (Point k p)) h.2 in
+    let a : Assignment = λ q. value_of_place cells (spot_of q) in
+    let j : Joins b image plan a (λ z. if is_same_place z (point k p) then Some v else a z) (point k p) = record { value = v; asks = asks; known = v; raises = ap (λ o. joined_at_place b o v) new; is = λ z. refl } in
     (k, p, ap place_of_spot h.1, subst (λ (n : ℕ). IsRefusalFault b image plan n k p) (sym h.0) (passing b image plan a (λ z. if is_same_place z (point k p) then Some v else a z) k p j (map place_of_spot ps) ks c.each new d c.few (full_places ps _ _ h.3)))
 
 -- ---- the start
@@ -143,15 +143,15 @@ module _ (a : Assignment) (k : Key) (v : Known) (is : (x : Place) → a x ≡ (i
     points = λ j p h. subst (Contains (point k k.entry ∷ [])) (only_start (point j p) h) (Contains-push [] (point k k.entry));
     known = λ x i. subst (λ (z : Place). IsSome (a z) × ((j : Key) × (p : ℕ) × (z ≡ point j p))) (alone (point k k.entry) x i) (start_known, (k, k.entry, refl));
     once = distinct_more is_same_place place_tells place_same [] (point k k.entry) (none_once is_same_place) (λ i. absurd (omega (arith, i.1)));
-    frames = λ x h. subst (λ (z : Place). Contains (k ∷ []) (frame_of_place z)) (only_start x h) (Contains-push [] k);
+    frames = λ x h. subst (λ (z : Place). Contains (k ∷ []) (key_of_place z)) (only_start x h) (Contains-push [] k);
     entered = λ j i. subst (λ (z : Key). IsSome (a (entry_of z))) (alone k j i) start_known;
     once_each = distinct_more is_same_key key_tells key_same [] k (none_once is_same_key) (λ i. absurd (omega (arith, i.1)));
   }
 
 pub counted_start : {S : Type 0} (cells : IndexMap Spot (Marked Known) S) (ps : List Spot) (ks : List Key) (k : Key) (v : Known)
-    → ((q : Place) → value_for cells (spot_of q) ≡ (if is_same_place q (point k k.entry) then Some v else None)) → ps ≡ Point k k.entry ∷ [] → ks ≡ k ∷ [] → IsCountedIn cells ps ks
+    → ((q : Place) → value_of_place cells (spot_of q) ≡ (if is_same_place q (point k k.entry) then Some v else None)) → ps ≡ Point k k.entry ∷ [] → ks ≡ k ∷ [] → ListsTablePlaces cells ps ks
 counted_start cells ps ks k v is p e = record {
-  each = subst (λ (l : List Spot). ListsPointsAndFrames (λ q. value_for cells (spot_of q)) (map place_of_spot l) ks) (sym p)
-      (subst (λ (l : List Key). ListsPointsAndFrames (λ q. value_for cells (spot_of q)) (point k k.entry ∷ []) l) (sym e) (start_counted (λ q. value_for cells (spot_of q)) k v is));
+  each = subst (λ (l : List Spot). ListsPointsAndFrames (λ q. value_of_place cells (spot_of q)) (map place_of_spot l) ks) (sym p)
+      (subst (λ (l : List Key). ListsPointsAndFrames (λ q. value_of_place cells (spot_of q)) (point k k.entry ∷ []) l) (sym e) (start_counted (λ q. value_of_place cells (spot_of q)) k v is));
   few = are_few ps ks (rw p (omega arith)) (rw e (omega arith));
 }

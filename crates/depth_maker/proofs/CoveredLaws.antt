@@ -11,7 +11,7 @@ use Rattle.depth_cert.specs.declared.keys.Key.{Key}
 use Rattle.depth_cert.specs.Keys.{call_kind}
 use Rattle.depth_cert.specs.Known.{Known, CoversKnown, joined_known, state}
 use Rattle.depth_cert.specs.WellFormed.{IsWellFormedState, IsWellFormedKnown}
-use Rattle.cfg_recover.specs.Assignments.{Assignment, CoversAt, Joins, Place, point}
+use Rattle.cfg_recover.specs.Assignments.{Assignment, AssignmentCovers, Joins, Place, point}
 use Rattle.cfg_recover.specs.Duties.{Owed, enter, owed}
 use Rattle.cfg_recover.specs.Entries.{call_key}
 use Rattle.cfg_recover.proofs.Members.{contains_map}
@@ -57,17 +57,17 @@ same_frame : (h : LastCall) (k : Key) (targets : List ℕ) (v : Known) → IsCal
 same_frame h k targets v of q = λ i. record { kind = call_kind; entry = q; prio = of.prio i; is = of.is i }
 
 -- the state of a covered call is covered at each entry
-pub call_covers : (b : Limits) (a : Assignment) (h : LastCall) (k : Key) (targets : List ℕ) → AreCallsCovered b a h → IsCallOf h k targets h.entry → (q : ℕ) → Contains targets q → CoversAt a (point (call_key k q) q) h.entry
+pub call_covers : (b : Limits) (a : Assignment) (h : LastCall) (k : Key) (targets : List ℕ) → AreCallsCovered b a h → IsCallOf h k targets h.entry → (q : ℕ) → Contains targets q → AssignmentCovers a (point (call_key k q) q) h.entry
 call_covers b a h k targets entered of q c =
-    subst (λ (l : Key). CoversAt a (point l q) h.entry) (same_frame h k targets h.entry of q) (entered.each q (subst (λ (l : List ℕ). Contains l q) (sym of.targets) c))
+    subst (λ (l : Key). AssignmentCovers a (point l q) h.entry) (same_frame h k targets h.entry of q) (entered.each q (subst (λ (l : List ℕ). Contains l q) (sym of.targets) c))
 
 -- a call with a state that is covered at each entry
-pub call_new : (b : Limits) (a : Assignment) (h : LastCall) (k : Key) (targets : List ℕ) (v : Known) → IsCallOf h k targets v → IsWellFormedKnown b v → ((q : ℕ) → Contains targets q → CoversAt a (point (call_key k q) q) v) → AreCallsCovered b a h
+pub call_new : (b : Limits) (a : Assignment) (h : LastCall) (k : Key) (targets : List ℕ) (v : Known) → IsCallOf h k targets v → IsWellFormedKnown b v → ((q : ℕ) → Contains targets q → AssignmentCovers a (point (call_key k q) q) v) → AreCallsCovered b a h
 call_new b a h k targets v of well_formed covered = record {
   well_formed = subst (IsWellFormedKnown b) (sym of.entry) well_formed;
   each = λ q c.
-      subst (λ (w : Known). CoversAt a (point (called_key h q) q) w) (sym of.entry)
-      (subst (λ (l : Key). CoversAt a (point l q) v) (sym (same_frame h k targets v of q)) (covered q (subst (λ (l : List ℕ). Contains l q) of.targets c)));
+      subst (λ (w : Known). AssignmentCovers a (point (called_key h q) q) w) (sym of.entry)
+      (subst (λ (l : Key). AssignmentCovers a (point l q) v) (sym (same_frame h k targets v of q)) (covered q (subst (λ (l : List ℕ). Contains l q) of.targets c)));
 }
 
 -- the entries that a call asks for are covered
@@ -80,7 +80,7 @@ call_settles b image plan laws t k p u s h targets entered of well_formed below 
 
 -- what two states ask of a place is covered there, so their join is
 pub both_covered : (b : Limits) (image : ImageData) (plan : PlanData) (laws : AreMakerLaws b image plan) (a : Assignment) (y : Place) (v w e : Known) → AllWellFormed b a → IsWellFormedKnown b v → IsWellFormedKnown b w → joined_known b v w ≡ Some e
-    → CoversAt a y v → CoversAt a y w → CoversAt a y e
+    → AssignmentCovers a y v → AssignmentCovers a y w → AssignmentCovers a y e
 both_covered b image plan laws a y v w e all pv pw is old new =
     let same : old.known ≡ new.known = (let f : Some old.known ≡ Some new.known = sym old.at ∙ new.at in cc) in
     let l = laws.joined_least v w new.known pv pw (all y new.known new.at) (subst (λ (z : Known). CoversKnown z v) same old.covers) new.covers in

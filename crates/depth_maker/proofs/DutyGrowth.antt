@@ -10,32 +10,32 @@ use Rattle.tc_isa.specs.declared.shapes.Cond.{Cond}
 use Rattle.tc_isa.specs.declared.shapes.Shape.{Shape}
 use Rattle.tc_isa.specs.declared.shapes.Shape.TheVariants.{Compute, Load, Store, Branch, Jump, Call, Ret, Rfe, Syscall}
 use Rattle.tc_isa.specs.InBounds.{IsShape}
-use Rattle.tc_machine.specs.Instructions.{machine_address_ahead}
+use Rattle.tc_machine.specs.Instructions.{wrapping_sum}
 use Rattle.value_domain.specs.declared.values.Val.{Val}
 use Rattle.value_domain.specs.declared.states.State.{State}
 use Rattle.value_domain.specs.Limits.{Limits}
 use Rattle.value_domain.specs.Values.{IsBelow, any_val, word_val}
 use Rattle.value_domain.specs.State.{Covers, AreBelow, is_lower_slot}
 use Rattle.vd_transfer.specs.Branches.{refine_of}
-use Rattle.vd_transfer.specs.EffectsOnStates.{address_of}
-use Rattle.vd_transfer.specs.Registers.{set_reg}
-use Rattle.vd_transfer.specs.Soundness.{IsSoundSetting}
+use Rattle.vd_transfer.specs.EffectsOnStates.{address_of_access}
+use Rattle.vd_transfer.specs.Registers.{with_reg_value}
+use Rattle.vd_transfer.specs.Soundness.{MeetSoundnessPremises}
 use Rattle.vd_transfer.proofs.HoldLaws.{same_length}
 use Rattle.store_ranges.proofs.Growth.{loads_grow}
 use Rattle.depth_cert.specs.declared.keys.Key.{Key}
 use Rattle.cfg_recover.specs.Code.{IsCode}
-use Rattle.cfg_recover.specs.Entries.{entry_stack_of, entry_state_with, call_entry, aln_entry, sys_entry}
-use Rattle.depth_cert.specs.Exits.{lower_values, exit_of, values_with_lower_from, ExitCovers}
+use Rattle.cfg_recover.specs.Entries.{entry_stack_of, state_with_stack, call_entry, aln_entry, sys_entry}
+use Rattle.depth_cert.specs.Exits.{lower_values, exit_of_state, values_after_return_from, ExitCovers}
 use Rattle.store_ranges.specs.Accesses.{are_aligned}
 use Rattle.cfg_recover.specs.LocalFaults.{IsFaultless}
-use Rattle.cfg_recover.specs.Duties.{jump, Owed, owed, loaded_for_duties, may_be_misaligned, duties_of}
+use Rattle.cfg_recover.specs.Duties.{jump, Owed, owed, value_loaded_by_shape, may_be_misaligned, duties_of}
 use Rattle.cfg_recover.proofs.CodeLaws.{IsCode-bounded}
 use Rattle.cfg_recover.proofs.EntryLaws.{lower_length, entry_length}
 use Rattle.depth_cert.proofs.ExitValues.{after-at, with_lower_length}
 use Rattle.cfg_recover.proofs.DutyView.{DutyAt, next, straight, taken, target, called, called_back, system, system_back, misaligned, interrupt, returns, resumes, duty_at, duty_listed}
 pub use Rattle.cfg_recover.proofs.Members.{contained_map, contained_flat, contained_filter}
 use Rattle.cfg_recover.proofs.Members.{contains_filter}
-use Rattle.depth_maker.specs.DutiesMonotone.{IsDutyBelow, IsOwedBelow, DutiesMonotone, ReturnStatesMonotone}
+use Rattle.depth_maker.specs.DutiesMonotone.{IsDutyBelow, IsOwedBelow, DutiesAreMonotone, ReturnStatesAreMonotone}
 use Rattle.depth_maker.proofs.StateGrowth.{reg_grows, set_covers}
 use Rattle.depth_maker.proofs.EffectGrowth.{transfer_covers, address_grows, address_value, branch_grows}
 use Rattle.depth_maker.proofs.OwnGrowth.{targets_within, aligned_falls, setting_of}
@@ -71,7 +71,7 @@ lower_below vs ws lv lw below r lt =
       | inr a ↦ rw (lower-a vs r lv a within, lower-a ws r lw a within) (below (16 + (r - 8)) (omega arith))
     ]
 
-pub exit_covers : (s t : State) → length s.regs ≡ 27 → length t.regs ≡ 27 → Covers t s → ExitCovers (exit_of t) (exit_of s)
+pub exit_covers : (s t : State) → length s.regs ≡ 27 → length t.regs ≡ 27 → Covers t s → ExitCovers (exit_of_state t) (exit_of_state s)
 exit_covers s t ls lt c = record { lower = lower_below s.regs t.regs ls lt c.regs; enabled = c.context.0; priority = c.context.1 }
 
 -- a lower register's place in an exit
@@ -82,7 +82,7 @@ lower_place i e =
       | inr a ↦ let h = and_parts (leb 16 i) (ltb i 22) a in let low = leb-true 16 i h.0 in let high = ltb-true i 22 h.1 in rw (le-ltb i 8 (omega arith)) (omega arith)
     ]
 
-after_regs : (vs ws xs ys : List Val) → length vs ≡ 27 → length ws ≡ 27 → length xs ≡ 14 → AreBelow vs ws → AreBelow xs ys → AreBelow (values_with_lower_from 0 xs vs) (values_with_lower_from 0 ys ws)
+after_regs : (vs ws xs ys : List Val) → length vs ≡ 27 → length ws ≡ 27 → length xs ≡ 14 → AreBelow vs ws → AreBelow xs ys → AreBelow (values_after_return_from 0 xs vs) (values_after_return_from 0 ys ws)
 after_regs vs ws xs ys lv lw lx below there r lt =
     let within : r < length vs = omega (arith, with_lower_length xs vs) in
     rw (after-at xs vs r within, after-at ys ws r (omega arith))
@@ -91,7 +91,7 @@ after_regs vs ws xs ys lv lw lx below there r lt =
       | inr f ↦ rw f (below r within)
     ])
 
-pub after_grows : ReturnStatesMonotone
+pub after_grows : ReturnStatesAreMonotone
 after_grows b s t x y kind ps pt px py c d = record {
   regs = after_regs s.regs t.regs x.lower y.lower ps.regs pt.regs px.regs c.regs d.lower;
   context = elim (cases_Bool (eqb kind 1)) [
@@ -102,13 +102,13 @@ after_grows b s t x y kind ps pt px py c d = record {
 }
 
 -- ---- entries
-pub entry_covers : (v w : Val) (ie : Bool) (m n : ℕ) (lower : Bool) → IsBelow v w → n ≤ m → Covers (entry_state_with w ie n lower) (entry_state_with v ie m lower)
+pub entry_covers : (v w : Val) (ie : Bool) (m n : ℕ) (lower : Bool) → IsBelow v w → n ≤ m → Covers (state_with_stack w ie n lower) (state_with_stack v ie m lower)
 entry_covers v w ie m n lower below le =
     set_covers (record { regs = replicate 27 any_val; ie = ie; ccpn = m; lower = lower; locals = record { items = [] } })
     (record { regs = replicate 27 any_val; ie = ie; ccpn = n; lower = lower; locals = record { items = [] } }) 26 v w (length-replicate 27 any_val) (length-replicate 27 any_val)
     (record { regs = λ r lt x i. i; context = ((λ e. e), le, (λ e. e)); locals = tt }) below
 
-module _ (b : Limits) (image : ImageData) (plan : PlanData) (key : Key) (p : ℕ) (s t : State) (whole : IsImage image) (low : IsSoundSetting b plan s) (high : IsSoundSetting b plan t) (c : Covers t s) where
+module _ (b : Limits) (image : ImageData) (plan : PlanData) (key : Key) (p : ℕ) (s t : State) (whole : IsImage image) (low : MeetSoundnessPremises b plan s) (high : MeetSoundnessPremises b plan t) (c : Covers t s) where
   stack_grows : IsBelow (entry_stack_of plan key s) (entry_stack_of plan key t)
   stack_grows = elim (cases_Bool key.is) [ inl e ↦ rw e (reg_grows plan s t low.regs high.regs c.regs 26) | inr e ↦ rw e (λ x m. m) ]
 
@@ -120,20 +120,20 @@ module _ (b : Limits) (image : ImageData) (plan : PlanData) (key : Key) (p : ℕ
       let v = entry_stack_of plan key s in
       let w = entry_stack_of plan key t in
       let c1 = set_covers s t 26 v w low.regs high.regs c stack_grows in
-      let c2 = set_covers (set_reg s 26 v) (set_reg t 26 w) 15 (word_val tin) (word_val tin) (same_length s v _ ∙ low.regs) (same_length t w _ ∙ high.regs) c1 (λ x m. m) in
+      let c2 = set_covers (with_reg_value s 26 v) (with_reg_value t 26 w) 15 (word_val tin) (word_val tin) (same_length s v _ ∙ low.regs) (same_length t w _ ∙ high.regs) c1 (λ x m. m) in
       record { regs = c2.regs; context = ((λ e. e), c2.context.1, (λ e. e)); locals = tt }
 
   aln_covers : Covers (aln_entry plan key t) (aln_entry plan key s)
   aln_covers =
       let v = entry_stack_of plan key s in
       let w = entry_stack_of plan key t in
-      set_covers (entry_state_with v false s.ccpn true) (entry_state_with w false t.ccpn true) 15 (word_val 4) (word_val 4)
+      set_covers (state_with_stack v false s.ccpn true) (state_with_stack w false t.ccpn true) 15 (word_val 4) (word_val 4)
       (entry_length v false s.ccpn true) (entry_length w false t.ccpn true) (entry_covers v w false s.ccpn t.ccpn true stack_grows c.context.1) (λ x m. m)
 
   -- ---- the parts
-  loaded_grows : (shape : Shape) → IsShape shape → IsBelow (loaded_for_duties b image plan s shape) (loaded_for_duties b image plan t shape)
+  loaded_grows : (shape : Shape) → IsShape shape → IsBelow (value_loaded_by_shape b image plan s shape) (value_loaded_by_shape b image plan t shape)
   loaded_grows (Compute op dst x y) is = λ x m. m
-  loaded_grows (Load dst base offset size signed after) is = loads_grow b image plan (address_of b plan (Load dst base offset size signed after) s) (address_of b plan (Load dst base offset size signed after) t) size signed low.plan whole is.3 (address_value b plan (Load dst base offset size signed after) s low is) (address_value b plan (Load dst base offset size signed after) t high is) (address_grows b plan s t low high c (Load dst base offset size signed after) is)
+  loaded_grows (Load dst base offset size signed after) is = loads_grow b image plan (address_of_access b plan (Load dst base offset size signed after) s) (address_of_access b plan (Load dst base offset size signed after) t) size signed low.plan whole is.3 (address_value b plan (Load dst base offset size signed after) s low is) (address_value b plan (Load dst base offset size signed after) t high is) (address_grows b plan s t low high c (Load dst base offset size signed after) is)
   loaded_grows (Branch test x y by lowers) is = λ x m. m
   loaded_grows _ is = λ x m. m
 
@@ -158,9 +158,9 @@ module _ (b : Limits) (image : ImageData) (plan : PlanData) (key : Key) (p : ℕ
         let k = (branch_grows b plan s t test x y by lowers side low high c is u e).1 in
         above (Branch test x y by lowers) (owed 4 (jump q u)) (owed 4 (jump q k.0)) (at k.0 k.1) refl (refl, k.3)
 
-    not_aligned : (shape : Shape) (size : ℕ) → IsShape shape → not (are_aligned (address_of b plan shape s) size) ≡ true → not (are_aligned (address_of b plan shape t) size) ≡ true
+    not_aligned : (shape : Shape) (size : ℕ) → IsShape shape → not (are_aligned (address_of_access b plan shape s) size) ≡ true → not (are_aligned (address_of_access b plan shape t) size) ≡ true
     not_aligned shape size is =
-        not_falls _ _ (aligned_falls b plan s t low high c (address_of b plan shape s) (address_of b plan shape t) size (address_value b plan shape s low is) (address_value b plan shape t high is) (address_grows b plan s t low high c shape is))
+        not_falls _ _ (aligned_falls b plan s t low high c (address_of_access b plan shape s) (address_of_access b plan shape t) size (address_value b plan shape s low is) (address_value b plan shape t high is) (address_grows b plan s t low high c shape is))
 
     misaligned_grows : (shape : Shape) → IsShape shape → may_be_misaligned b plan s shape ≡ true → may_be_misaligned b plan t shape ≡ true
     misaligned_grows (Load dst base offset size signed after) is e = not_aligned (Load dst base offset size signed after) size is e
@@ -170,9 +170,9 @@ module _ (b : Limits) (image : ImageData) (plan : PlanData) (key : Key) (p : ℕ
     above_by : (shape : Shape) (d : Owed) → IsCode image plan p shape n → DutyAt b image plan key p s n shape d → Above shape d
     above_by _ d code (next shape e) =
         let is = IsCode-bounded image plan p shape n code in
-        above shape d _ (next shape e) refl (refl, transfer_covers b plan s t low high c shape (loaded_for_duties b image plan s shape) (loaded_for_duties b image plan t shape) is (loaded_grows shape is))
-    above_by _ d code (straight test x y by lowers u e) = side_above test x y by lowers false (machine_address_ahead p n) u (IsCode-bounded image plan p _ n code) e (straight test x y by lowers)
-    above_by _ d code (taken test x y by lowers u e) = side_above test x y by lowers true (machine_address_ahead p by) u (IsCode-bounded image plan p _ n code) e (taken test x y by lowers)
+        above shape d _ (next shape e) refl (refl, transfer_covers b plan s t low high c shape (value_loaded_by_shape b image plan s shape) (value_loaded_by_shape b image plan t shape) is (loaded_grows shape is))
+    above_by _ d code (straight test x y by lowers u e) = side_above test x y by lowers false (wrapping_sum p n) u (IsCode-bounded image plan p _ n code) e (straight test x y by lowers)
+    above_by _ d code (taken test x y by lowers u e) = side_above test x y by lowers true (wrapping_sum p by) u (IsCode-bounded image plan p _ n code) e (taken test x y by lowers)
     above_by _ d code (target to q i) = above (Jump to) d _ (target to q (targets_within b plan s t low high c p to (((faultless 5).own (Jump to) n code).targets refl) q i)) refl (refl, c)
     above_by _ d code (called to q i) = above (Call to) d _ (called to q (targets_within b plan s t low high c p to (((faultless 5).own (Call to) n code).targets refl) q i)) refl (refl, call_covers)
     above_by _ d code (called_back to q i) = above (Call to) d d (called_back to q (targets_within b plan s t low high c p to (((faultless 5).own (Call to) n code).targets refl) q i)) refl (refl, refl)
@@ -184,6 +184,6 @@ module _ (b : Limits) (image : ImageData) (plan : PlanData) (key : Key) (p : ℕ
     above_by _ d code returns = above Ret d _ returns refl (exit_covers s t low.regs high.regs c)
     above_by _ d code (resumes e) = above Rfe d _ (resumes e) refl (exit_covers s t low.regs high.regs c)
 
-pub duties_grow : DutiesMonotone
+pub duties_grow : DutiesAreMonotone
 duties_grow b image plan key p s t shape n d ground ps pt c faultless code i =
     (above_by b image plan key p s t ground.is_image (setting_of b image plan s ground ps) (setting_of b image plan t ground pt) c faultless n shape d code (duty_at b image plan key p s n shape d i))

@@ -4,11 +4,11 @@ use Rattle.std.specs.Prelude.{filter, if◌then◌else◌, map, nat_lt}
 use Rattle.tcd_plan.specs.PlanData.{PlanData}
 use Rattle.value_domain.specs.declared.states.State.{State}
 use Rattle.depth_cert.specs.declared.keys.Key.{Key}
-use Rattle.cfg_recover.specs.Entries.{irq_key, irq_entry, irqs_of}
+use Rattle.cfg_recover.specs.Entries.{irq_key, irq_entry, possible_irqs_of}
 use Rattle.cfg_recover.specs.Duties.{owed, enter, interrupt_duties_of}
 
 -- without interrupts there is no duty
-pub interrupts_none : (plan : PlanData) (key : Key) (s : State) (irqs : List ℕ) → irqs ≡ irqs_of plan s → length irqs ≡ 0 → [] ≡ interrupt_duties_of plan key s
+pub interrupts_none : (plan : PlanData) (key : Key) (s : State) (irqs : List ℕ) → irqs ≡ possible_irqs_of plan s → length irqs ≡ 0 → [] ≡ interrupt_duties_of plan key s
 interrupts_none plan key s [] e len = ap (λ (l : List ℕ). map (λ p. owed 11 (enter (irq_key plan p) (irq_entry plan key s p))) l) e
 interrupts_none plan key s (p ∷ ps) e len = absurd (omega arith)
 

@@ -8,23 +8,23 @@ use Rattle.tcd_plan.specs.PlanData.{PlanData}
 use Rattle.value_domain.specs.declared.states.State.{State}
 use Rattle.depth_cert.specs.declared.keys.Key.{Key}
 use Rattle.cfg_recover.specs.Duties.{interrupt_duties_of, entered_keys}
-use Rattle.cfg_recover.specs.Entries.{irqs_of, irq_key}
+use Rattle.cfg_recover.specs.Entries.{possible_irqs_of, irq_key}
 use Rattle.cfg_recover.proofs.Members.{contains_first, contains_map}
 use Rattle.frame_places.specs.Numbers.{frame_number_in}
-use Rattle.depth_maker.specs.InterruptHandlers.{AreHandlers, handler_nodes_above, taken_handlers}
+use Rattle.depth_maker.specs.InterruptHandlers.{AreHandlersOfIrqs, handler_nodes_above, taken_handlers}
 use Rattle.depth_maker.specs.declared.interrupt_handlers.Handler.{Handler}
 use Rattle.depth_maker.proofs.EnteredLemmas.{entered_irqs}
 use Rattle.depth_maker.proofs.InterruptLaws.{takes}
 
 -- ---- the list
-pub handlers_none : (plan : PlanData) (frames : List Key) (hs : List Handler) → hs ≡ [] → AreHandlers plan frames [] hs
+pub handlers_none : (plan : PlanData) (frames : List Key) (hs : List Handler) → hs ≡ [] → AreHandlersOfIrqs plan frames [] hs
 handlers_none plan frames hs none = record {
   priorities = ap (λ (l : List Handler). map (λ (h : Handler). h.prio) l) none;
   each = λ h c known. absurd (let n = ap (λ (l : List Handler). length l) none in omega (arith, c.1, n));
 }
 
 pub handlers_more : (plan : PlanData) (frames : List Key) (irqs : List ℕ) (i : ℕ) (hs new : List Handler) (h : Handler) → i < length irqs → new ≡ hs ++ h ∷ [] → h.prio ≡ get_or irqs i 0
-    → (Contains frames (irq_key plan h.prio) → h.node ≡ frame_number_in frames (irq_key plan h.prio)) → AreHandlers plan frames (take i irqs) hs → AreHandlers plan frames (take (i + 1) irqs) new
+    → (Contains frames (irq_key plan h.prio) → h.node ≡ frame_number_in frames (irq_key plan h.prio)) → AreHandlersOfIrqs plan frames (take i irqs) hs → AreHandlersOfIrqs plan frames (take (i + 1) irqs) new
 handlers_more plan frames irqs i hs new h lt more prio node are = record {
   priorities =
       ap (map (λ (x : Handler). x.prio)) more ∙ map-append (λ (x : Handler). x.prio) hs (h ∷ []) ∙ ap (λ (l : List ℕ). l ++ h.prio ∷ []) are.priorities
@@ -76,16 +76,16 @@ taken_by : (on : Bool) (m : ℕ) (number : ℕ → ℕ) (hs : List Handler) (irq
 taken_by true m number hs irqs is agree = numbers_above m number hs (λ h c lt. agree h c refl lt) ∙ ap (λ (l : List ℕ). map number (filter (λ p. nat_lt m p) l)) is
 taken_by false m number hs irqs is agree = refl
 
-pub nodes_taken-is : (plan : PlanData) (frames : List Key) (key : Key) (s : State) (hs : List Handler) → AreHandlers plan frames plan.irqs hs → ((k : Key) → Contains (entered_keys (interrupt_duties_of plan key s)) k → Contains frames k)
+pub nodes_taken-is : (plan : PlanData) (frames : List Key) (key : Key) (s : State) (hs : List Handler) → AreHandlersOfIrqs plan frames plan.irqs hs → ((k : Key) → Contains (entered_keys (interrupt_duties_of plan key s)) k → Contains frames k)
     → taken_handlers s.ie s.ccpn hs ≡ map (frame_number_in frames) (entered_keys (interrupt_duties_of plan key s))
 nodes_taken-is plan frames key s hs are known =
-    let keys = entered_irqs plan key s (irqs_of plan s) in
+    let keys = entered_irqs plan key s (possible_irqs_of plan s) in
     let member : (h : Handler) → Contains hs h → IsTrue s.ie → nat_lt s.ccpn h.prio ≡ true → Contains frames (irq_key plan h.prio) =
     λ h c on lt.
     known (irq_key plan h.prio)
     (subst (λ (l : List Key). Contains l (irq_key plan h.prio)) (sym keys)
-    (contains_map (irq_key plan) (irqs_of plan s) h.prio
+    (contains_map (irq_key plan) (possible_irqs_of plan s) h.prio
     (takes s.ie s.ccpn plan.irqs h.prio on (subst (λ (l : List ℕ). Contains l h.prio) are.priorities (contains_map (λ (x : Handler). x.prio) hs h c)) (ltb-true s.ccpn h.prio lt)))) in
     taken_by s.ie s.ccpn (λ p. frame_number_in frames (irq_key plan p)) hs plan.irqs are.priorities (λ h c on lt. are.each h c (member h c on lt))
-    ∙ mapped_twice (frame_number_in frames) (irq_key plan) (irqs_of plan s)
+    ∙ mapped_twice (frame_number_in frames) (irq_key plan) (possible_irqs_of plan s)
     ∙ ap (map (frame_number_in frames)) (sym keys)

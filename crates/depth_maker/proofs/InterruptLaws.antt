@@ -9,14 +9,14 @@ use Rattle.value_domain.specs.declared.values.Val.{Val}
 use Rattle.value_domain.specs.declared.states.State.{State}
 use Rattle.value_domain.specs.Limits.{Limits}
 use Rattle.value_domain.specs.State.{Covers}
-use Rattle.value_domain.specs.Values.{IsBelow, IsValue, any_val, word_val}
-use Rattle.vd_transfer.specs.Registers.{slot}
+use Rattle.value_domain.specs.Values.{IsBelow, IsInLattice, any_val, word_val}
+use Rattle.vd_transfer.specs.Registers.{register_slot}
 use Rattle.depth_cert.specs.declared.keys.Key.{Key}
 use Rattle.depth_cert.specs.Known.{CoversKnown, Known, leaving, state}
 use Rattle.depth_cert.specs.WellFormed.{IsWellFormedState}
-use Rattle.cfg_recover.specs.Assignments.{Assignment, CoversAt, Joins, Place, point}
+use Rattle.cfg_recover.specs.Assignments.{Assignment, AssignmentCovers, Joins, Place, point}
 use Rattle.cfg_recover.specs.Duties.{Owed, enter, interrupt_duties_of, owed}
-use Rattle.cfg_recover.specs.Entries.{irqs_of, entry_state_with, irq_entry, irq_key, entry_stack_of}
+use Rattle.cfg_recover.specs.Entries.{possible_irqs_of, state_with_stack, irq_entry, irq_key, entry_stack_of}
 use Rattle.cfg_recover.proofs.EntryLaws.{entry_length}
 use Rattle.cfg_recover.proofs.Members.{contains_filter, contains_map}
 use Rattle.depth_maker.specs.WellFormedAssignments.{IsWellFormedDuty, AllWellFormed}
@@ -41,7 +41,7 @@ one_stays b image plan laws a after y well_formed j (Some x) h = record {
       let e = h.each p c lt in
       record {
         well_formed = e.well_formed;
-        covers = covers_stays b image plan laws a after y well_formed j (point (irq_key plan p) (irq_key plan p).entry) (state (entry_state_with (context_stack plan x) false p true)) e.well_formed e.covers;
+        covers = covers_stays b image plan laws a after y well_formed j (point (irq_key plan p) (irq_key plan p).entry) (state (state_with_stack (context_stack plan x) false p true)) e.well_formed e.covers;
       };
 }
 
@@ -83,11 +83,11 @@ stacks_below false true v w x e h = absurd (let no : true ≡ false = e in cc)
 stacks_below false false v w x e h = λ z m. m
 
 stack_below : (plan : PlanData) (k : Key) (s : State) (h : InterruptContext) → IsWithinContext h k.is s → IsBelow (entry_stack_of plan k s) (context_stack plan h)
-unfolding slot
+unfolding register_slot
 stack_below plan k s h asks = stacks_below k.is h.is (slice_index_or s.regs 22 any_val) h.sp (word_val plan.isp) asks.same asks.below
 
 stack_same : (plan : PlanData) (k : Key) (s : State) (h : InterruptContext) → IsContextOf h k.is s → context_stack plan h ≡ entry_stack_of plan k s
-unfolding slot
+unfolding register_slot
 stack_same plan k s h from =
     ap (λ (t : Bool). if t then h.sp else word_val plan.isp) from.same ∙ ap (λ (v : Val). if k.is then v else word_val plan.isp) from.sp
 
@@ -100,18 +100,18 @@ covers_less (leaving x) v u same h c = absurd h
 pub interrupts_settle : (b : Limits) (plan : PlanData) (t : TableView) (k : Key) (p : ℕ) (s : State) (h : InterruptContext) → AreHandlersCovered b plan t.cells h → IsWithinContext h k.is s → (d : Owed) → Contains (interrupt_duties_of plan k s) d
     → IsDutySettled t k p s d.duty
 interrupts_settle b plan t k p s h entered asks d c =
-    let r = contained_map (λ (q : ℕ). owed 11 (enter (irq_key plan q) (irq_entry plan k s q))) (irqs_of plan s) d c in
+    let r = contained_map (λ (q : ℕ). owed 11 (enter (irq_key plan q) (irq_entry plan k s q))) (possible_irqs_of plan s) d c in
     let q = r.0 in
     let i = taken s.ie s.ccpn plan.irqs q r.1 in
     let e = entered.each q i.0 (omega (arith, i.1, asks.above)) in
     let v = context_stack plan h in
     let w = entry_stack_of plan k s in
-    let less : Covers (entry_state_with v false q true) (entry_state_with w false q true) = entry_covers w v false q q true (stack_below plan k s h asks) (omega arith) in
-    let covered : CoversAt t.cells (point (irq_key plan q) (irq_key plan q).entry) (state (irq_entry plan k s q)) =
+    let less : Covers (state_with_stack v false q true) (state_with_stack w false q true) = entry_covers w v false q q true (stack_below plan k s h asks) (omega arith) in
+    let covered : AssignmentCovers t.cells (point (irq_key plan q) (irq_key plan q).entry) (state (irq_entry plan k s q)) =
     record {
       known = (e.covers).known;
       at = (e.covers).at;
-      covers = covers_less (e.covers).known (entry_state_with v false q true) (entry_state_with w false q true) (entry_length w false q true ∙ sym (entry_length v false q true)) (e.covers).covers less;
+      covers = covers_less (e.covers).known (state_with_stack v false q true) (state_with_stack w false q true) (entry_length w false q true ∙ sym (entry_length v false q true)) (e.covers).covers less;
     } in
     subst (λ (o : Owed). IsDutySettled t k p s o.duty) r.2 covered
 
@@ -119,14 +119,14 @@ interrupts_settle b plan t k p s h entered asks d c =
 pub interrupts_new : (b : Limits) (plan : PlanData) (t : TableView) (k : Key) (p : ℕ) (s : State) (h : InterruptContext) → IsContextOf h k.is s → IsWellFormedState b s → IsTrue s.ie
     → ((d : Owed) → Contains (interrupt_duties_of plan k s) d → IsWellFormedDuty b d.duty) → ((d : Owed) → Contains (interrupt_duties_of plan k s) d → IsDutySettled t k p s d.duty) → AreHandlersCovered b plan t.cells h
 interrupts_new b plan t k p s h from ps on well_formed settled = record {
-  stack = subst (IsValue b) (sym from.sp) (ps.values 22 (omega (arith, ps.regs)));
+  stack = subst (IsInLattice b) (sym from.sp) (ps.values 22 (omega (arith, ps.regs)));
   each = λ q c lt.
       let f : ℕ → Owed = λ (q : ℕ). owed 11 (enter (irq_key plan q) (irq_entry plan k s q)) in
-      let i = contains_map f (irqs_of plan s) q (takes s.ie s.ccpn plan.irqs q on c (omega (arith, lt, from.ccpn))) in
+      let i = contains_map f (possible_irqs_of plan s) q (takes s.ie s.ccpn plan.irqs q on c (omega (arith, lt, from.ccpn))) in
       let e = sym (stack_same plan k s h from) in
       record {
-        well_formed = subst (λ (v : Val). IsWellFormedState b (entry_state_with v false q true)) e (well_formed (f q) i);
-        covers = subst (λ (v : Val). CoversAt t.cells (point (irq_key plan q) (irq_key plan q).entry) (state (entry_state_with v false q true))) e (settled (f q) i);
+        well_formed = subst (λ (v : Val). IsWellFormedState b (state_with_stack v false q true)) e (well_formed (f q) i);
+        covers = subst (λ (v : Val). AssignmentCovers t.cells (point (irq_key plan q) (irq_key plan q).entry) (state (state_with_stack v false q true))) e (settled (f q) i);
       };
 }
 

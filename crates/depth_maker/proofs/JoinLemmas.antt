@@ -7,14 +7,14 @@ use Rattle.std.specs.declared.alloc.Global.{Global}
 use Rattle.elf_image.specs.Images.{ImageData}
 use Rattle.tcd_plan.specs.PlanData.{PlanData}
 use Rattle.value_domain.specs.Limits.{Limits}
-use Rattle.cfg_recover.specs.Assignments.{Place, is_same_place, CoversAt, AsksFor, raised_at_place, Joins}
+use Rattle.cfg_recover.specs.Assignments.{Place, is_same_place, AssignmentCovers, AsksFor, joined_at_place, Joins}
 use Rattle.depth_cert.specs.declared.keys.Key.{Key}
-use Rattle.depth_cert.specs.Known.{Known, known_priority, joined_known}
+use Rattle.depth_cert.specs.Known.{Known, known_ccpn, joined_known}
 use Rattle.cfg_recover.specs.CertRefusals.{derived}
 use Rattle.depth_maker.specs.MakerLaws.{AreMakerLaws}
 use Rattle.depth_maker.specs.TableView.{view_of_table}
-use Rattle.depth_maker.specs.Joins.{QueuesPlaceAndReaders, JoinKeeps, IsJoinedAt, IsJoinedAlone}
-use Rattle.depth_maker.specs.TableInvariant.{ViewInvariantHolds, TableInvariantHolds, TableReadsExits, CellsWellFormed}
+use Rattle.depth_maker.specs.Joins.{QueuesPlaceAndReaders, JoinKeepsPlaces, IsJoinedAt, RaisesOnlyPlace}
+use Rattle.depth_maker.specs.TableInvariant.{ViewInvariantHolds, TableInvariantHolds, OnlyExitsHaveReaders, AreKnownWellFormed}
 use Rattle.depth_maker.proofs.TableLaws.{table_rises, settled_stays, joined_covers, derived_well_formed}
 use Rattle.depth_maker.proofs.PlaceKinds.{unjoined_fault}
 use Rattle.frame_places.specs.declared.places.Spot.{Spot}
@@ -34,8 +34,8 @@ use Rattle.depth_maker.specs.TableLevels.{level_of_place}
 use Rattle.depth_maker.proofs.CoveredLaws.{covered_stay}
 use Rattle.frame_places.proofs.SpotLemmas.{equal_spots_are_same}
 use Rattle.depth_maker.proofs.SpotLemmas.{forth, agrees}
-use Rattle.frame_places.specs.Marks.{AllListed, is_idle, is_queued, mark_for, value_for, AreKnown, ForgetsReaders, IsAmongReaders, Requeues}
-use Rattle.depth_maker.specs.AssignmentCounts.{AreFewEnough, IsCountedIn}
+use Rattle.frame_places.specs.Marks.{AreQueuedPlacesListed, is_idle, is_queued, mark_of_place, value_of_place, AreKnownPlaces, ForgetsReaders, IsAmongReaders, RequeuesPlaces}
+use Rattle.depth_maker.specs.AssignmentCounts.{AreWithinCertLimits, ListsTablePlaces}
 use Rattle.depth_maker.specs.Answers.{RefusalNamesFault}
 use Rattle.frame_places.proofs.MarkLemmas.{sides}
 use Rattle.frame_places.proofs.ReaderLemmas.{still_reads, read_already}
@@ -46,21 +46,21 @@ idle_not_queued (Some Queued) e = cc
 idle_not_queued _ e = refl
 
 -- ---- the values of a table
-pub cells_well_formed : (b : Limits) (image : ImageData) (plan : PlanData) (laws : AreMakerLaws b image plan) (t : made.Table) → TableInvariantHolds b image plan t → CellsWellFormed b t.places
+pub cells_well_formed : (b : Limits) (image : ImageData) (plan : PlanData) (laws : AreMakerLaws b image plan) (t : made.Table) → TableInvariantHolds b image plan t → AreKnownWellFormed b t.places
 unfolding view_of_table
 cells_well_formed b image plan laws t fine q v at =
-    derived_well_formed b image plan laws (view_of_table t).cells (fine.table).derived (place_of_spot q) v (ap (value_for t.places) (forth q) ∙ at)
+    derived_well_formed b image plan laws (view_of_table t).cells (fine.table).derived (place_of_spot q) v (ap (value_of_place t.places) (forth q) ∙ at)
 
 -- v was joined at y alone, and then the readers of y were queued
 module _ (b : Limits) (image : ImageData) (plan : PlanData) (laws : AreMakerLaws b image plan) (s m t : made.Table) (y : Spot) (v : Known)
-    (asks : AsksFor b image plan (view_of_table s).cells (place_of_spot y) v) (rose : IsJoinedAlone b s m y v) (tells : Requeues m.places t.places (IsAmongReaders (get spot_eq s.readers y)))
-    (listed : AllListed t.places (all_work t.work)) (near : t.near ≡ m.near) (readers : ForgetsReaders m.readers t.readers y) (covered : t.covered ≡ m.covered) (points : t.points.items ≡ m.points.items)
-    (frames : t.frames.items ≡ m.frames.items) (fine : TableInvariantHolds b image plan s) (small : known_priority v < 256) where
+    (asks : AsksFor b image plan (view_of_table s).cells (place_of_spot y) v) (rose : RaisesOnlyPlace b s m y v) (tells : RequeuesPlaces m.places t.places (IsAmongReaders (get spot_eq s.readers y)))
+    (listed : AreQueuedPlacesListed t.places (all_work t.work)) (near : t.near ≡ m.near) (readers : ForgetsReaders m.readers t.readers y) (covered : t.covered ≡ m.covered) (points : t.points.items ≡ m.points.items)
+    (frames : t.frames.items ≡ m.frames.items) (fine : TableInvariantHolds b image plan s) (small : known_ccpn v < 256) where
   abbrev u : Known
   u = rose.known
 
   -- as after one step
-  after : (q : Spot) → value_for t.places q ≡ (if spot_eq y q then Some u else value_for s.places q)
+  after : (q : Spot) → value_of_place t.places q ≡ (if spot_eq y q then Some u else value_of_place s.places q)
   after q = tells.values q ∙ (rose.puts).values q
 
   readers_stay : (z x : Spot) → IsAmongReaders (get spot_eq s.readers z) x → (IsAmongReaders (get spot_eq s.readers y) x → ⊥) → IsAmongReaders (get spot_eq t.readers z) x
@@ -70,12 +70,12 @@ module _ (b : Limits) (image : ImageData) (plan : PlanData) (laws : AreMakerLaws
   read_before : (z x : Spot) → IsAmongReaders (get spot_eq t.readers z) x → IsAmongReaders (get spot_eq s.readers z) x
   read_before z x h = subst (λ r. IsAmongReaders (get spot_eq r z) x) rose.readers (read_already m.readers t.readers y readers z x h)
 
-  marks_by : (q : Spot) → ((mark_for t.places q ≡ Some Queued) × ((spot_eq y q ≡ true) ⊎ IsAmongReaders (get spot_eq s.readers y) q))
-      ⊎ ((mark_for t.places q ≡ mark_for s.places q) × (spot_eq y q ≡ false) × (IsAmongReaders (get spot_eq s.readers y) q → ⊥))
+  marks_by : (q : Spot) → ((mark_of_place t.places q ≡ Some Queued) × ((spot_eq y q ≡ true) ⊎ IsAmongReaders (get spot_eq s.readers y) q))
+      ⊎ ((mark_of_place t.places q ≡ mark_of_place s.places q) × (spot_eq y q ≡ false) × (IsAmongReaders (get spot_eq s.readers y) q → ⊥))
   marks_by q =
       elim (tells.marks q) [
         | inl l ↦ inl (l.0, inr l.1)
-        | inr r ↦ elim (sides (spot_eq y q) (Some Queued) (mark_for s.places q) (mark_for m.places q) ((rose.puts).marks q)) [
+        | inr r ↦ elim (sides (spot_eq y q) (Some Queued) (mark_of_place s.places q) (mark_of_place m.places q) ((rose.puts).marks q)) [
           | inl l ↦ inl (r.0 ∙ l.1, inl l.0)
           | inr n ↦ inr (r.0 ∙ n.1, n.0, r.1)
         ]
@@ -91,8 +91,8 @@ module _ (b : Limits) (image : ImageData) (plan : PlanData) (laws : AreMakerLaws
     value = v;
     asks = asks;
     known = u;
-    raises = ap (λ (z : Spot). raised_at_place b (value_for s.places z) v) (forth y) ∙ rose.raises;
-    is = λ q. after (spot_of q) ∙ ap (λ x. if x then Some u else value_for s.places (spot_of q)) (test q);
+    raises = ap (λ (z : Spot). joined_at_place b (value_of_place s.places z) v) (forth y) ∙ rose.raises;
+    is = λ q. after (spot_of q) ∙ ap (λ x. if x then Some u else value_of_place s.places (spot_of q)) (test q);
   }
 
   the_marks : QueuesPlaceAndReaders (view_of_table s) (view_of_table t) (place_of_spot y)
@@ -106,37 +106,37 @@ module _ (b : Limits) (image : ImageData) (plan : PlanData) (laws : AreMakerLaws
     reads = λ z x h none. readers_stay (spot_of z) (spot_of x) h (λ i. none (subst (λ (q : Spot). IsAmongReaders (get spot_eq s.readers q) (spot_of x)) (sym (forth y)) i));
   }
 
-  not_same : (q : Spot) → spot_eq y q ≡ false → value_for t.places q ≡ value_for s.places q
-  not_same q e = after q ∙ ap (λ x. if x then Some u else value_for s.places q) e
+  not_same : (q : Spot) → spot_eq y q ≡ false → value_of_place t.places q ≡ value_of_place s.places q
+  not_same q e = after q ∙ ap (λ x. if x then Some u else value_of_place s.places q) e
 
-  known_stays : (q : Spot) → IsSome (value_for s.places q) → IsSome (value_for t.places q)
+  known_stays : (q : Spot) → IsSome (value_of_place s.places q) → IsSome (value_of_place t.places q)
   known_stays q h =
-      elim (sides (spot_eq y q) (Some u) (value_for s.places q) (value_for t.places q) (after q)) [
+      elim (sides (spot_eq y q) (Some u) (value_of_place s.places q) (value_of_place t.places q) (after q)) [
         | inl l ↦ subst (λ (o : Option Known). IsSome o) (sym l.1) refl
         | inr r ↦ subst (λ (o : Option Known). IsSome o) (sym r.1) h
       ]
 
   the_table : ViewInvariantHolds b image plan (view_of_table t)
   unfolding view_of_table
-  the_table = table_rises b image plan laws (view_of_table s) (view_of_table t) (place_of_spot y) fine.table the_joining the_marks (λ x e. idle_not_queued (mark_for t.places (spot_of x)) e)
+  the_table = table_rises b image plan laws (view_of_table s) (view_of_table t) (place_of_spot y) fine.table the_joining the_marks (λ x e. idle_not_queued (mark_of_place t.places (spot_of x)) e)
 
-  read_case : (z x : Spot) → IsAmongReaders (get spot_eq s.readers z) x → (IsAmongReaders (get spot_eq s.readers y) x → ⊥) → (e : Bool) → spot_eq y z ≡ e → value_for t.places z ≡ value_for s.places z
+  read_case : (z x : Spot) → IsAmongReaders (get spot_eq s.readers z) x → (IsAmongReaders (get spot_eq s.readers y) x → ⊥) → (e : Bool) → spot_eq y z ≡ e → value_of_place t.places z ≡ value_of_place s.places z
   read_case z x h none true e = absurd (none (subst (λ (k : Spot). IsAmongReaders (get spot_eq s.readers k) x) (sym (equal_spots_are_same y z e)) h))
   read_case z x h none false e = not_same z e
 
-  few : AreFewEnough (map place_of_spot t.points.items) t.frames.items
-  few = subst (λ (l : List Spot). AreFewEnough (map place_of_spot l) t.frames.items) (sym points) (subst (λ (l : List Key). AreFewEnough (map place_of_spot m.points.items) l) (sym frames) rose.few)
+  few : AreWithinCertLimits (map place_of_spot t.points.items) t.frames.items
+  few = subst (λ (l : List Spot). AreWithinCertLimits (map place_of_spot l) t.frames.items) (sym points) (subst (λ (l : List Key). AreWithinCertLimits (map place_of_spot m.points.items) l) (sym frames) rose.few)
 
-  the_counted : IsCountedIn t.places t.points.items t.frames.items
+  the_counted : ListsTablePlaces t.places t.points.items t.frames.items
   unfolding view_of_table the_joining
   the_counted = counted_after b image plan s.places t.places s.points.items t.points.items s.frames.items t.frames.items y the_joining (points ∙ rose.points) (frames ∙ rose.frames) few fine.counted
 
-  higher : level_of_place (value_for s.places y) < level_of_place (Some u)
+  higher : level_of_place (value_of_place s.places y) < level_of_place (Some u)
   higher =
-      rank_rises b image plan laws (value_for s.places y) v u (cells_well_formed b image plan laws s fine y)
+      rank_rises b image plan laws (value_of_place s.places y) v u (cells_well_formed b image plan laws s fine y)
       (asks_well_formed b image plan laws (view_of_table s).cells (place_of_spot y) v (derived_well_formed b image plan laws (view_of_table s).cells (fine.table).derived) asks) rose.raises rose.new small
 
-  the_keeping : JoinKeeps b image plan s t
+  the_keeping : JoinKeepsPlaces b image plan s t
   unfolding view_of_table
   the_keeping = record {
     each = λ x free.
@@ -155,7 +155,7 @@ module _ (b : Limits) (image : ImageData) (plan : PlanData) (laws : AreMakerLaws
           | inr r ↦ read_case z x h r.2 (spot_eq y z) refl
         ];
     settled = λ k p w d free ps pd h. settled_stays b image plan laws (view_of_table s) (view_of_table t) (place_of_spot y) fine.table the_joining the_marks k p w d free ps pd h;
-    rises = inl (level_rises s t y u (is_some (value_for s.places y)) after (points ∙ rose.points) (frames ∙ rose.frames) the_counted higher);
+    rises = inl (level_rises s t y u (is_some (value_of_place s.places y)) after (points ∙ rose.points) (frames ∙ rose.frames) the_counted higher);
     near = near ∙ rose.near;
     numbers = λ n q h. tells.numbers n q ((rose.puts).numbers n q h);
   }
@@ -186,19 +186,19 @@ module _ (b : Limits) (image : ImageData) (plan : PlanData) (laws : AreMakerLaws
   }
 
 -- the readers of y are known still, and only exits are read
-pub told_known : (b : Limits) (image : ImageData) (plan : PlanData) (s m : made.Table) (y : Spot) (v : Known) → TableInvariantHolds b image plan s → IsJoinedAlone b s m y v → AreKnown m.places (IsAmongReaders (get spot_eq m.readers y))
+pub told_known : (b : Limits) (image : ImageData) (plan : PlanData) (s m : made.Table) (y : Spot) (v : Known) → TableInvariantHolds b image plan s → RaisesOnlyPlace b s m y v → AreKnownPlaces m.places (IsAmongReaders (get spot_eq m.readers y))
 told_known b image plan s m y v fine rose q h =
-    let before : IsSome (value_for s.places q) = fine.readers y q (subst (λ r. IsAmongReaders (get spot_eq r y) q) rose.readers h) in
-    elim (sides (spot_eq y q) (Some rose.known) (value_for s.places q) (value_for m.places q) ((rose.puts).values q)) [
+    let before : IsSome (value_of_place s.places q) = fine.readers y q (subst (λ r. IsAmongReaders (get spot_eq r y) q) rose.readers h) in
+    elim (sides (spot_eq y q) (Some rose.known) (value_of_place s.places q) (value_of_place m.places q) ((rose.puts).values q)) [
       | inl l ↦ subst (λ (o : Option Known). IsSome o) (sym l.1) refl
       | inr r ↦ subst (λ (o : Option Known). IsSome o) (sym r.1) before
     ]
 
-pub exits_after : (b : Limits) (image : ImageData) (plan : PlanData) (s m : made.Table) (y : Spot) (v : Known) → TableInvariantHolds b image plan s → IsJoinedAlone b s m y v → TableReadsExits m.readers
+pub exits_after : (b : Limits) (image : ImageData) (plan : PlanData) (s m : made.Table) (y : Spot) (v : Known) → TableInvariantHolds b image plan s → RaisesOnlyPlace b s m y v → OnlyExitsHaveReaders m.readers
 exits_after b image plan s m y v fine rose k p q h = fine.exits k p q (subst (λ r. IsAmongReaders (get spot_eq r (Point k p)) q) rose.readers h)
 
 -- nothing had to be done
-pub stays_joined : (b : Limits) (image : ImageData) (plan : PlanData) (s : made.Table) (y : Spot) (v : Known) → TableInvariantHolds b image plan s → CoversAt (λ q. value_for s.places (spot_of q)) (place_of_spot y) v → IsJoinedAt b image plan s s y v
+pub stays_joined : (b : Limits) (image : ImageData) (plan : PlanData) (s : made.Table) (y : Spot) (v : Known) → TableInvariantHolds b image plan s → AssignmentCovers (λ q. value_of_place s.places (spot_of q)) (place_of_spot y) v → IsJoinedAt b image plan s s y v
 unfolding view_of_table
 stays_joined b image plan s y v fine covers = record {
   fine = fine;
@@ -207,9 +207,9 @@ stays_joined b image plan s y v fine covers = record {
 }
 
 -- a join that fails is a fault
-pub the_answer : (b : Limits) (image : ImageData) (plan : PlanData) (s : made.Table) (y : Spot) (w v : Known) → TableInvariantHolds b image plan s → AsksFor b image plan (view_of_table s).cells (place_of_spot y) v → value_for s.places y ≡ Some w
+pub the_answer : (b : Limits) (image : ImageData) (plan : PlanData) (s : made.Table) (y : Spot) (w v : Known) → TableInvariantHolds b image plan s → AsksFor b image plan (view_of_table s).cells (place_of_spot y) v → value_of_place s.places y ≡ Some w
     → joined_known b w v ≡ None → RefusalNamesFault b image plan (Fault 8 y)
 unfolding view_of_table
 the_answer b image plan s y w v fine asks at none =
-    let f = unjoined_fault b image plan (view_of_table s).cells (fine.table).derived (place_of_spot y) v w asks (ap (value_for s.places) (forth y) ∙ at) none in
+    let f = unjoined_fault b image plan (view_of_table s).cells (fine.table).derived (place_of_spot y) v w asks (ap (value_of_place s.places) (forth y) ∙ at) none in
     (f.0, f.1, f.2, derived (view_of_table s).cells 8 f.0 f.1 (fine.table).derived f.3)

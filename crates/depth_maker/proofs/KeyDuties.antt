@@ -10,7 +10,7 @@ use Rattle.tc_isa.specs.declared.shapes.Target.{Target}
 use Rattle.tc_isa.specs.declared.shapes.Target.TheVariants as target
 use Rattle.tc_isa.specs.declared.shapes.Shape.{Shape}
 use Rattle.tc_isa.specs.InBounds.{IsShape, IsTarget}
-use Rattle.tc_machine.specs.Instructions.{machine_address_ahead}
+use Rattle.tc_machine.specs.Instructions.{wrapping_sum}
 use Rattle.value_domain.specs.declared.values.Val.{Val}
 use Rattle.value_domain.specs.declared.values.Val.TheVariants.{Set, Span}
 use Rattle.value_domain.specs.declared.states.State.{State}
@@ -19,13 +19,13 @@ use Rattle.value_domain.specs.Sets.{Among}
 use Rattle.value_domain.specs.Values.{IsWellFormed}
 use Rattle.value_domain.proofs.SetLaws.{among_distinct}
 use Rattle.vd_transfer.specs.Registers.{reg_of}
-use Rattle.vd_transfer.specs.Soundness.{IsSoundSetting}
+use Rattle.vd_transfer.specs.Soundness.{MeetSoundnessPremises}
 use Rattle.vd_transfer.proofs.HoldLaws.{reg_value}
 use Rattle.store_ranges.proofs.Covers.{among_map}
 use Rattle.depth_cert.specs.declared.keys.Key.{Key}
 use Rattle.depth_cert.specs.Keys.{IsKey}
 use Rattle.cfg_recover.specs.Entries.{call_key, irq_key, sys_key, aln_key}
-use Rattle.cfg_recover.specs.LocalRules.{targets_named_by, targets_of}
+use Rattle.cfg_recover.specs.LocalRules.{targets_of_value, targets_of}
 use Rattle.cfg_recover.specs.Duties.{Duty, enter, resume, Owed, duties_of}
 use Rattle.cfg_recover.proofs.DutyView.{DutyAt, called, called_back, system, system_back, misaligned, interrupt, duty_at}
 use Rattle.depth_maker.proofs.OwnGrowth.{among_contained}
@@ -38,7 +38,7 @@ HasKey (resume k q) = IsKey k
 HasKey _ = Unit {0}
 
 -- ---- addresses
-named_small : (v : Val) → IsWellFormed v → (x : ℕ) → Among x (unwrap_or (targets_named_by v) []) → x < 2 ^ 32
+named_small : (v : Val) → IsWellFormed v → (x : ℕ) → Among x (unwrap_or (targets_of_value v) []) → x < 2 ^ 32
 named_small (Set ws) well x i =
     let m = among_map (λ w. w / 2 * 2) x ws (among_distinct x (map (λ w. w / 2 * 2) ws) i) in
     let lt = well.below m.0 m.1 in
@@ -57,11 +57,11 @@ irqs_among : (plan : PlanData) (s : State) (v : Bool) (q : ℕ) → Contains (if
 irqs_among plan s false q c = absurd (omega (arith, c.1))
 irqs_among plan s true q c = (contained_filter (λ p. ltb s.ccpn p) plan.irqs q c).0
 
-module _ (b : Limits) (image : ImageData) (plan : PlanData) (key : Key) (p : ℕ) (s : State) (set : IsSoundSetting b plan s) (is_key : IsKey key) where
+module _ (b : Limits) (image : ImageData) (plan : PlanData) (key : Key) (p : ℕ) (s : State) (set : MeetSoundnessPremises b plan s) (is_key : IsKey key) where
   pub target_small : (to : Target) → IsTarget to → (x : ℕ) → Contains (unwrap_or (targets_of plan s p to) []) x → x < 2 ^ 32
-  target_small (target.Rel by) is x c = elim (among_contained (machine_address_ahead p by ∷ []) x c) [ inl e ↦ (let f : x ≡ (p + by) % 2 ^ 32 = e in omega arith) | inr n ↦ absurd n ]
+  target_small (target.Rel by) is x c = elim (among_contained (wrapping_sum p by ∷ []) x c) [ inl e ↦ (let f : x ≡ (p + by) % 2 ^ 32 = e in omega arith) | inr n ↦ absurd n ]
   target_small (target.Abs y) is x c = elim (among_contained (y ∷ []) x c) [ inl e ↦ (let f : x ≡ y = e in omega (arith, is)) | inr n ↦ absurd n ]
-  target_small (target.Reg r) is x c = named_small (reg_of plan s r) (reg_value b plan s r set).well x (among_contained (unwrap_or (targets_named_by (reg_of plan s r)) []) x c)
+  target_small (target.Reg r) is x c = named_small (reg_of plan s r) (reg_value b plan s r set).well x (among_contained (unwrap_or (targets_of_value (reg_of plan s r)) []) x c)
 
   call_is : (x : ℕ) → x < 2 ^ 32 → IsKey (call_key key x)
   call_is x lt = record { kind = omega arith; entry = lt; prio = is_key.prio }

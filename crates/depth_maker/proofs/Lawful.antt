@@ -8,7 +8,7 @@ use Rattle.value_domain.specs.declared.values.Val.{Val}
 use Rattle.value_domain.specs.declared.states.State.{State}
 use Rattle.value_domain.specs.Limits.{Limits, AreLimits}
 use Rattle.value_domain.specs.Values.{any_val, word_val, join_of}
-use Rattle.value_domain.specs.State.{Covers, joined_states, state_join_of, joined_regs}
+use Rattle.value_domain.specs.State.{Covers, state_join_if_any, state_join_of, joined_regs}
 use Rattle.value_domain.proofs.JoinLaws.{join_least, joined_least}
 use Rattle.value_domain.proofs.RegLaws.{get_or-joined, length-joined, length-and}
 use Rattle.depth_cert.specs.declared.points.Exit.{Exit}
@@ -18,7 +18,7 @@ use Rattle.depth_cert.specs.Known.{Known, state, leaving, CoversKnown, joined_kn
 use Rattle.depth_cert.specs.WellFormed.{IsWellFormedState, IsWellFormedExit, IsWellFormedKnown}
 use Rattle.cfg_recover.proofs.EntryLaws.{entry_length}
 use Rattle.cfg_recover.proofs.FlowStates.{entry_values}
-use Rattle.depth_maker.specs.DutiesMonotone.{IsGround}
+use Rattle.depth_maker.specs.DutiesMonotone.{AreMakerInputs}
 use Rattle.depth_maker.proofs.StateGrowth.{below_same, below_through, covers_same, covers_through, same_locals, set_locals}
 use Rattle.depth_maker.proofs.EffectGrowth.{word_value}
 use Rattle.depth_maker.proofs.OwnGrowth.{faults_fall}
@@ -44,7 +44,7 @@ known_through b (leaving x) (state t) u ps pt h k = absurd k
 known_through b (leaving x) (leaving y) (state u) ps pt h k = absurd h
 
 -- ---- states
-joined_parts : (b : Limits) (s t u : State) → joined_states b s t ≡ Some u → (length s.locals.items ≡ length t.locals.items) × (state_join_of b s t ≡ u)
+joined_parts : (b : Limits) (s t u : State) → state_join_if_any b s t ≡ Some u → (length s.locals.items ≡ length t.locals.items) × (state_join_of b s t ≡ u)
 joined_parts b s t u e =
     elim (cases_Bool (eqb (length s.locals.items) (length t.locals.items))) [
       | inl same ↦ (eqb-true _ _ same, (let f : Some (state_join_of b s t) ≡ Some u = rw same at e in cc))
@@ -117,8 +117,8 @@ module _ (b : Limits) (limits : AreLimits b) where
 
   -- ---- both
   known_join : (v w u : Known) → IsWellFormedKnown b v → IsWellFormedKnown b w → joined_known b v w ≡ Some u → IsWellFormedKnown b u × CoversKnown u v × CoversKnown u w
-  known_join (state s) (state t) u pv pw e = at (joined_states b s t) refl e where
-    at : (o : Option State) → joined_states b s t ≡ o → option_map state o ≡ Some u → IsWellFormedKnown b u × CoversKnown u (state s) × CoversKnown u (state t)
+  known_join (state s) (state t) u pv pw e = at (state_join_if_any b s t) refl e where
+    at : (o : Option State) → state_join_if_any b s t ≡ o → option_map state o ≡ Some u → IsWellFormedKnown b u × CoversKnown u (state s) × CoversKnown u (state t)
     at None f g = absurd (let h : None ≡ Some u = g in cc)
     at (Some j) f g =
         let k = joined_parts b s t j f in
@@ -141,7 +141,7 @@ module _ (b : Limits) (limits : AreLimits b) where
   known_least (leaving x) (state t) (leaving z) pv pw pd h k = absurd k
   known_least (leaving x) (leaving y) (state d) pv pw pd h k = absurd h
 
-start_well_formed : (b : Limits) (image : ImageData) (plan : PlanData) → IsGround b image plan → IsWellFormedState b (start_state plan)
+start_well_formed : (b : Limits) (image : ImageData) (plan : PlanData) → AreMakerInputs b image plan → IsWellFormedState b (start_state plan)
 start_well_formed b image plan ground =
     let small = (ground.is_plan).words.sp in
     record {
@@ -150,7 +150,7 @@ start_well_formed b image plan ground =
       few = omega (arith, ap length (set_locals (record { regs = replicate 27 any_val; ie = plan.start_ie; ccpn = plan.start_ccpn; lower = false; locals = record { items = [] } }) 26 (word_val plan.sp)));
     }
 
-pub lawful : (b : Limits) (image : ImageData) (plan : PlanData) → IsGround b image plan → AreMakerLaws b image plan
+pub lawful : (b : Limits) (image : ImageData) (plan : PlanData) → AreMakerInputs b image plan → AreMakerLaws b image plan
 lawful b image plan ground = record {
   covers_same = known_same;
   covers_through = known_through b;

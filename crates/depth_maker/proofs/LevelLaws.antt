@@ -10,14 +10,14 @@ use Rattle.value_domain.specs.declared.values.Val.TheVariants.{Set, Span}
 use Rattle.value_domain.specs.declared.states.State.{State}
 use Rattle.value_domain.specs.Limits.{Limits, AreLimits}
 use Rattle.value_domain.specs.Sets.{Among, Within, IsAscending}
-use Rattle.value_domain.specs.Values.{IsBelow, IsWellFormed, span_len, first_in_span, members}
-use Rattle.value_domain.specs.State.{AreBelow, AreWellFormed, Covers, FlagsImpliedBy}
+use Rattle.value_domain.specs.Values.{IsBelow, IsWellFormed, span_len, first_member_quotient, members}
+use Rattle.value_domain.specs.State.{AreBelow, AreWellFormed, Covers, FlagsImply}
 use Rattle.value_domain.proofs.CoverLaws.{among_member, has_step, length-multiples, member_among, step_cases}
 use Rattle.value_domain.proofs.SetLaws.{length_within}
 use Rattle.depth_cert.specs.Keys.{cert_flag_byte}
 use Rattle.depth_cert.specs.declared.points.Exit as exits
-use Rattle.cfg_recover.specs.Assignments.{raised_at_place}
-use Rattle.depth_cert.specs.Known.{Known, state, leaving, CoversKnown, known_priority}
+use Rattle.cfg_recover.specs.Assignments.{joined_at_place}
+use Rattle.depth_cert.specs.Known.{Known, state, leaving, CoversKnown, known_ccpn}
 use Rattle.depth_cert.specs.WellFormed.{IsWellFormedState, IsWellFormedExit, IsWellFormedKnown}
 use Rattle.depth_maker.specs.TableLevels.{level_of_place, level_of_known, level_of_values}
 use Rattle.depth_maker.specs.MakerLaws.{AreMakerLaws}
@@ -64,7 +64,7 @@ count_most =
 
 size_most : (v : Val) → IsWellFormed v → length (members v) ≤ 2 ^ 32
 size_most (Set ws) w = omega (arith, w.few)
-size_most (Span lo last step) w = omega (arith, length-multiples (span_len lo last step) (first_in_span lo step) (2 ^ step), count_most step w.0 lo last w.2)
+size_most (Span lo last step) w = omega (arith, length-multiples (span_len lo last step) (first_member_quotient lo step) (2 ^ step), count_most step w.0 lo last w.2)
 
 -- ---- registers
 head : (v : Val) (vs : List Val) → AreWellFormed (v ∷ vs) → IsWellFormed v
@@ -131,13 +131,13 @@ count_cons : (x : Bool) (xs : List Bool) → count_by not (x ∷ xs) ≡ cert_fl
 count_cons true xs = sum_by-cons (λ (y : Bool). cond (not y) 1 0) true xs
 count_cons false xs = sum_by-cons (λ (y : Bool). cond (not y) 1 0) false xs
 
-locals_below : (us xs : List Bool) → FlagsImpliedBy us xs → count_by not xs ≤ count_by not us
+locals_below : (us xs : List Bool) → FlagsImply us xs → count_by not xs ≤ count_by not us
 locals_below [] [] h = omega arith
 locals_below [] (x ∷ xs) h = absurd h
 locals_below (u ∷ us) [] h = absurd h
 locals_below (u ∷ us) (x ∷ xs) h = omega (arith, count_cons u us, count_cons x xs, clear_below x u h.0, locals_below us xs h.1)
 
-locals_back : (us xs : List Bool) → FlagsImpliedBy us xs → count_by not us ≤ count_by not xs → FlagsImpliedBy xs us
+locals_back : (us xs : List Bool) → FlagsImply us xs → count_by not us ≤ count_by not xs → FlagsImply xs us
 locals_back [] [] h le = tt
 locals_back [] (x ∷ xs) h le = absurd h
 locals_back (u ∷ us) [] h le = absurd h
@@ -181,21 +181,21 @@ exit_back b x y px py c small le =
       priority = omega (arith, le, regs, ie, prio, small);
     }
 
-known_back : (b : Limits) (w u : Known) → IsWellFormedKnown b w → IsWellFormedKnown b u → CoversKnown u w → known_priority u < 256 → level_of_known u ≤ level_of_known w → CoversKnown w u
+known_back : (b : Limits) (w u : Known) → IsWellFormedKnown b w → IsWellFormedKnown b u → CoversKnown u w → known_ccpn u < 256 → level_of_known u ≤ level_of_known w → CoversKnown w u
 known_back b (state s) (state u) ps pu c small le = state_back b s u ps pu c small le
 known_back b (leaving x) (leaving y) px py c small le = exit_back b x y px py c small le
 known_back b (state s) (leaving y) ps py c small le = absurd c
 known_back b (leaving x) (state u) px pu c small le = absurd c
 
-priority_falls : (u v : Known) → CoversKnown u v → known_priority u ≤ known_priority v
+priority_falls : (u v : Known) → CoversKnown u v → known_ccpn u ≤ known_ccpn v
 priority_falls (state u) (state s) c = c.context.1
 priority_falls (leaving y) (leaving x) c = c.priority
 priority_falls (state u) (leaving x) c = absurd c
 priority_falls (leaving y) (state s) c = absurd c
 
 -- the join of something that isn't covered has a higher rank
-pub rank_rises : (b : Limits) (image : ImageData) (plan : PlanData) → AreMakerLaws b image plan → (o : Option Known) (v u : Known) → ((w : Known) → o ≡ Some w → IsWellFormedKnown b w) → IsWellFormedKnown b v → raised_at_place b o v ≡ Some u
-    → ((w : Known) → o ≡ Some w → CoversKnown w v → ⊥) → known_priority v < 256 → level_of_place o < level_of_place (Some u)
+pub rank_rises : (b : Limits) (image : ImageData) (plan : PlanData) → AreMakerLaws b image plan → (o : Option Known) (v u : Known) → ((w : Known) → o ≡ Some w → IsWellFormedKnown b w) → IsWellFormedKnown b v → joined_at_place b o v ≡ Some u
+    → ((w : Known) → o ≡ Some w → CoversKnown w v → ⊥) → known_ccpn v < 256 → level_of_place o < level_of_place (Some u)
 rank_rises b image plan laws None v u po pv is new small = omega arith
 rank_rises b image plan laws (Some w) v u po pv is new small =
     let pw = po w refl in

@@ -7,13 +7,13 @@ use Rattle.std.proofs.lemmas.Nat.{pow-add}
 use Rattle.elf_image.specs.Images.{ImageData, image_byte}
 use Rattle.tcd_plan.specs.declared.plans.Device.{Device}
 use Rattle.tcd_plan.specs.PlanData.{PlanData, IsPlan, is_plan_device}
-use Rattle.csa_chain.specs.MemoryBytes.{extend_loaded_bytes}
+use Rattle.csa_chain.specs.MemoryBytes.{load_result}
 use Rattle.tc_machine.proofs.ShapeWords.{extended_lt}
 use Rattle.value_domain.specs.declared.values.Val.{Val}
 use Rattle.value_domain.specs.declared.values.Val.TheVariants.{Set, Span}
 use Rattle.value_domain.specs.Limits.{Limits, AreLimits}
 use Rattle.value_domain.specs.Sets.{Among}
-use Rattle.value_domain.specs.Values.{IsValue, range}
+use Rattle.value_domain.specs.Values.{IsInLattice, multiples_in_range}
 use Rattle.value_domain.proofs.CoverLaws.{cover_least, range_among}
 use Rattle.value_domain.proofs.ExtentLaws.{among_append}
 use Rattle.store_ranges.specs.Accesses.{IsAccessSize}
@@ -24,23 +24,23 @@ use Rattle.store_ranges.proofs.Finds.{found_all}
 use Rattle.store_ranges.proofs.LoadLaws.{answers_some, device_bounds}
 use Rattle.store_ranges.proofs.Sound.{held_parts, one_more_byte}
 
-extended_small : (size : ℕ) (signed : Bool) (x : ℕ) → IsAccessSize size → x < 2 ^ (8 * size) → extend_loaded_bytes signed size x < 2 ^ 32
-extended_small size signed x (inl e) lt = subst (λ n. extend_loaded_bytes signed n x < 2 ^ 32) (sym e) (at signed (subst (λ n. x < 2 ^ (8 * n)) e lt)) where
-  at : (signed : Bool) → x < 2 ^ 8 → extend_loaded_bytes signed 1 x < 2 ^ 32
+extended_small : (size : ℕ) (signed : Bool) (x : ℕ) → IsAccessSize size → x < 2 ^ (8 * size) → load_result signed size x < 2 ^ 32
+extended_small size signed x (inl e) lt = subst (λ n. load_result signed n x < 2 ^ 32) (sym e) (at signed (subst (λ n. x < 2 ^ (8 * n)) e lt)) where
+  at : (signed : Bool) → x < 2 ^ 8 → load_result signed 1 x < 2 ^ 32
   at true lt = extended_lt x (2 ^ 8) (nat_lt x (2 ^ 7)) lt (omega arith)
   at false lt = omega arith
-extended_small size signed x (inr (inl e)) lt = subst (λ n. extend_loaded_bytes signed n x < 2 ^ 32) (sym e) (at signed (subst (λ n. x < 2 ^ (8 * n)) e lt)) where
-  at : (signed : Bool) → x < 2 ^ 16 → extend_loaded_bytes signed 2 x < 2 ^ 32
+extended_small size signed x (inr (inl e)) lt = subst (λ n. load_result signed n x < 2 ^ 32) (sym e) (at signed (subst (λ n. x < 2 ^ (8 * n)) e lt)) where
+  at : (signed : Bool) → x < 2 ^ 16 → load_result signed 2 x < 2 ^ 32
   at true lt = extended_lt x (2 ^ 16) (nat_lt x (2 ^ 15)) lt (omega arith)
   at false lt = omega arith
-extended_small size signed x (inr (inr e)) lt = subst (λ n. extend_loaded_bytes signed n x < 2 ^ 32) (sym e) (at signed (subst (λ n. x < 2 ^ (8 * n)) e lt)) where
-  at : (signed : Bool) → x < 2 ^ 32 → extend_loaded_bytes signed 4 x < 2 ^ 32
+extended_small size signed x (inr (inr e)) lt = subst (λ n. load_result signed n x < 2 ^ 32) (sym e) (at signed (subst (λ n. x < 2 ^ (8 * n)) e lt)) where
+  at : (signed : Bool) → x < 2 ^ 32 → load_result signed 4 x < 2 ^ 32
   at true lt = extended_lt x (2 ^ 32) (nat_lt x (2 ^ 31)) lt (omega arith)
   at false lt = lt
 
 all_below : (size : ℕ) (signed : Bool) (z : ℕ) → IsAccessSize size → Among z (all_loaded_words size signed) → z < 2 ^ 32
 all_below size signed z is i =
-    let m = among_map (extend_loaded_bytes signed size) z (range 0 (2 ^ (8 * size) - 1) 0) i in
+    let m = among_map (load_result signed size) z (multiples_in_range 0 (2 ^ (8 * size) - 1) 0) i in
     let r = range_among m.0 0 (2 ^ (8 * size) - 1) 0 (omega arith) m.1 in
     let some : 0 < 2 ^ (8 * size) = powers is in
     let lt : m.0 < 2 ^ (8 * size) = let le : m.0 ≤ 2 ^ (8 * size) - 1 = r.1 in omega arith in
@@ -122,7 +122,7 @@ module _ (image : ImageData) (plan : PlanData) (size : ℕ) (signed : Bool) (ok 
   flat_more (w ∷ ws) some =
       omega (arith, length-append (loaded_words_at image plan size signed w) (flat_map (loaded_words_at image plan size signed) ws), given_more w (rom_number image plan w size))
 
-  pub loaded_value : (b : Limits) (v : Val) → AreLimits b → IsValue b v → IsValue b (load_value_of b image plan v size signed)
+  pub loaded_value : (b : Limits) (v : Val) → AreLimits b → IsInLattice b v → IsInLattice b (load_value_of b image plan v size signed)
   loaded_value b (Set ws) limits vv = (cover_least b _ limits (record { some = flat_more ws vv.well.some; below = flat_words ws })).value
   loaded_value b (Span lo last step) limits vv =
-      (cover_least b _ limits (record { some = answers_more (range lo last step); below = answers_below (range lo last step) (device_of_loads plan size (range lo last step)) refl })).value
+      (cover_least b _ limits (record { some = answers_more (multiples_in_range lo last step); below = answers_below (multiples_in_range lo last step) (device_of_loads plan size (multiples_in_range lo last step)) refl })).value

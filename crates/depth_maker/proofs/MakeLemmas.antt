@@ -14,11 +14,11 @@ use Rattle.depth_cert.proofs.BackLaws.{written_is_read}
 use Rattle.depth_cert.proofs.SizeLaws.{cert_most}
 use Rattle.cfg_recover.specs.Entries.{start_key}
 use Rattle.cfg_recover.specs.Assignments.{point, exit}
-use Rattle.cfg_recover.specs.CertRefusals.{IsRefusalFault, IsLeastAssignment, IsRefusal, IsRefusalWith, fault, recursion, need}
-use Rattle.depth_maker.specs.DutiesMonotone.{IsGround}
+use Rattle.cfg_recover.specs.CertRefusals.{IsRefusalFault, IsLeastAssignment, IsRefusal, IsRefusalWithLimits, fault, recursion, need}
+use Rattle.depth_maker.specs.DutiesMonotone.{AreMakerInputs}
 use Rattle.depth_maker.specs.Answers.{HasLimitsOfFormat, IsRightMakeErr, MakeErrHolds, RefusalIsRight}
-use Rattle.depth_maker.specs.LeastCertMade.{AreLeastCertBytes, IsMade}
-use Rattle.depth_maker.specs.SpelledCert.{AreClosedCertBytesOn}
+use Rattle.depth_maker.specs.LeastCertMade.{AreLeastCertBytes, IsLeastCert}
+use Rattle.depth_maker.specs.SpelledCert.{AreClosedCertBytesForInputs}
 use Rattle.depth_maker.specs.Needs.{AreLeastNeedsOrTooMany, AreLeastTableNeeds}
 use Rattle.depth_maker.specs.Recursing.{IsFirstRecursion}
 use Rattle.depth_maker.specs.Rows.{IsRowSource}
@@ -62,18 +62,18 @@ need_refuses s k is source ends above =
     subst (λ (z : Key). MakeErrHolds s.ground.now (Refused 14 z z.entry)) (sym is) (need (view_of_table s.table.now).cells (least_of s source) (record { ends = ends; above = above }))
 
 -- ---- what is made
-pub are_made : (g : Ground) (version : ℕ) (bytes : List ℕ) → HasLimitsOfFormat g version → AreClosedCertBytesOn g version bytes → AreLeastCertBytes g.image.now g.plan.now version bytes
+pub are_made : (g : Ground) (version : ℕ) (bytes : List ℕ) → HasLimitsOfFormat g version → AreClosedCertBytesForInputs g version bytes → AreLeastCertBytes g.image.now g.plan.now version bytes
 are_made g version bytes limits w = record {
   cert = w.0;
   spell = w.1;
   is_cert = w.2.is_cert;
-  made = made g.image.now g.plan.now version w.0 (subst (λ (b : Limits). IsGround b g.image.now g.plan.now) limits g.sound) ((g.sound).is_image).entry w.2;
+  made = made g.image.now g.plan.now version w.0 (subst (λ (b : Limits). AreMakerInputs b g.image.now g.plan.now) limits g.sound) ((g.sound).is_image).entry w.2;
 }
 
 pub is_refused : (g : Ground) (version : ℕ) (e : MakeErr) → HasLimitsOfFormat g version → MakeErrHolds g e → IsRightMakeErr g.image.now g.plan.now version e
 is_refused g version (Refused rule key addr) limits r =
-    let is : IsRefusal g.image.now g.plan.now version rule key addr = subst (λ (b : Limits). IsRefusalWith b g.image.now g.plan.now rule key addr) limits r in
-    (is, refused g.image.now g.plan.now version rule key addr (subst (λ (b : Limits). IsGround b g.image.now g.plan.now) limits g.sound) ((g.sound).is_image).entry is)
+    let is : IsRefusal g.image.now g.plan.now version rule key addr = subst (λ (b : Limits). IsRefusalWithLimits b g.image.now g.plan.now rule key addr) limits r in
+    (is, refused g.image.now g.plan.now version rule key addr (subst (λ (b : Limits). AreMakerInputs b g.image.now g.plan.now) limits g.sound) ((g.sound).is_image).entry is)
 is_refused g version NoMemory limits r = tt
 
 -- ---- the certificate that the bytes spell
@@ -92,10 +92,10 @@ abbrev value_or : CertData → Result CertData FormErr → CertData
 value_or c (Ok x) = x
 value_or c (Err e) = c
 
-pub made_read : (image : ImageData) (plan : PlanData) (version : ℕ) (bytes : List ℕ) (c : CertData) → AreLeastCertBytes image plan version bytes → certificate_of bytes ≡ Ok c → IsMade image plan version c
+pub made_read : (image : ImageData) (plan : PlanData) (version : ℕ) (bytes : List ℕ) (c : CertData) → AreLeastCertBytes image plan version bytes → certificate_of bytes ≡ Ok c → IsLeastCert image plan version c
 made_read image plan version bytes c m read =
     let same : m.cert ≡ c = ap (value_or m.cert) (sym (written_is_read m.cert m.is_cert) ∙ ap certificate_of (sym m.spell) ∙ read) in
-    subst (IsMade image plan version) same m.made
+    subst (IsLeastCert image plan version) same m.made
 
 -- ---- parts of the code
 pub needs_are : (s : Source) (v : Vec ℕ Global) → AreLeastNeedsOrTooMany s (Some v) → AreLeastTableNeeds s v.items

@@ -8,11 +8,11 @@ use Rattle.value_domain.specs.Limits.{Limits}
 use Rattle.depth_cert.specs.declared.keys.Key.{Key}
 use Rattle.depth_cert.specs.Certs.{CertData, IsCert}
 use Rattle.cfg_recover.specs.Duties.{Duty, enter}
-use Rattle.cfg_recover.specs.RulesHoldOrFail.{limits_in, Accepts}
-use Rattle.cfg_recover.specs.Assignments.{point, Assignment, known_in, IsBelowAt, Derived, Closed, HasDuty, AllFaultless, EntersInAssignment}
+use Rattle.cfg_recover.specs.RulesHoldOrFail.{limits_of_cert, Accepts}
+use Rattle.cfg_recover.specs.Assignments.{point, Assignment, assignment_of_cert, IsAssignmentBelow, Derived, Closed, HasDuty, ArePointsFaultless, EntersInAssignment}
 use Rattle.depth_cert.specs.Known.{Known, state}
-use Rattle.cfg_recover.specs.CertRefusals.{MeetsNeeds, Reaches, here, by_entry, Recurs, IsRefusalWith, fault, recursion, need, IsRefusalFault}
-use Rattle.depth_maker.specs.DutiesMonotone.{IsGround, IsDutyBelow}
+use Rattle.cfg_recover.specs.CertRefusals.{AreSufficientNeeds, IsFrameReachedFrom, here, by_entry, EntersRecursion, IsRefusalWithLimits, fault, recursion, need, IsRefusalFault}
+use Rattle.depth_maker.specs.DutiesMonotone.{AreMakerInputs, IsDutyBelow}
 use Rattle.depth_maker.proofs.StateGrowth.{same_locals}
 use Rattle.depth_maker.specs.WellFormedAssignments.{AllWellFormed}
 use Rattle.depth_maker.specs.MakerLaws.{AreMakerLaws}
@@ -27,16 +27,16 @@ enters_above : (t : Key) (u : State) (e : Duty) → IsDutyBelow (enter t u) e �
 enters_above t u (enter j w) h = (w, ap (λ (k : Key). enter k w) (sym h.0))
 enters_above t u _ h = absurd h
 
-module _ (b : Limits) (image : ImageData) (plan : PlanData) (laws : AreMakerLaws b image plan) (c : Assignment) (closed : Closed b image plan c) (faultless : AllFaultless b image plan c) (pc : AllWellFormed b c) where
+module _ (b : Limits) (image : ImageData) (plan : PlanData) (laws : AreMakerLaws b image plan) (c : Assignment) (closed : Closed b image plan c) (faultless : ArePointsFaultless b image plan c) (pc : AllWellFormed b c) where
   -- an entry of a smaller assignment is one of the closed one, with as many locals
-  pub entered_above : (a : Assignment) → IsBelowAt a c → AllWellFormed b a → (k : Key) (p : ℕ) (s : State) (t : Key) → EntersInAssignment b image plan a k p s t
+  pub entered_above : (a : Assignment) → IsAssignmentBelow a c → AllWellFormed b a → (k : Key) (p : ℕ) (s : State) (t : Key) → EntersInAssignment b image plan a k p s t
       → (u : State) × EntersInAssignment b image plan c k p u t × (length u.locals.items ≡ length s.locals.items)
   entered_above a below pa k p s t h =
       let up = duty_above b image plan laws c closed faultless pc a below pa k p s (enter t h.entered) h.has in
       let e = enters_above t h.entered up.1 up.5 in
       (up.0, record { entered = e.0; has = subst (λ (d : Duty). HasDuty b image plan c k p up.0 d) e.1 up.2 }, same_locals up.0 s up.3)
 
-  pub needs_below : (a : Assignment) → IsBelowAt a c → AllWellFormed b a → (needs : Key → ℕ) → MeetsNeeds b image plan c needs → MeetsNeeds b image plan a needs
+  pub needs_below : (a : Assignment) → IsAssignmentBelow a c → AllWellFormed b a → (needs : Key → ℕ) → AreSufficientNeeds b image plan c needs → AreSufficientNeeds b image plan a needs
   needs_below a below pa needs m = record {
     locals = λ k p s e.
         let o = below (point k p) (state s) e in
@@ -50,37 +50,37 @@ module _ (b : Limits) (image : ImageData) (plan : PlanData) (laws : AreMakerLaws
   }
 
 -- a frame that is reached by entries needs no more
-pub reached_less : (b : Limits) (image : ImageData) (plan : PlanData) (a : Assignment) (needs : Key → ℕ) → MeetsNeeds b image plan a needs → (j k : Key) → Reaches b image plan a j k → needs j ≤ needs k
+pub reached_less : (b : Limits) (image : ImageData) (plan : PlanData) (a : Assignment) (needs : Key → ℕ) → AreSufficientNeeds b image plan a needs → (j k : Key) → IsFrameReachedFrom b image plan a j k → needs j ≤ needs k
 reached_less b image plan a needs m j _ here = omega arith
 reached_less b image plan a needs m j _ (by_entry k p s t e r) = omega (arith, m.entered k p s t e, reached_less b image plan a needs m j t r)
 
 -- if some needs are met, no frame is reached from itself
-pub no_recursion : (b : Limits) (image : ImageData) (plan : PlanData) (a : Assignment) (needs : Key → ℕ) → MeetsNeeds b image plan a needs → (k : Key) (p : ℕ) → Recurs b image plan a k p → ⊥
+pub no_recursion : (b : Limits) (image : ImageData) (plan : PlanData) (a : Assignment) (needs : Key → ℕ) → AreSufficientNeeds b image plan a needs → (k : Key) (p : ℕ) → EntersRecursion b image plan a k p → ⊥
 no_recursion b image plan a needs m k p r =
     absurd (omega (arith, m.entered k p r.before r.into r.enters, reached_less b image plan a needs m k r.into r.back))
 
 -- ---- refusals
-module _ (image : ImageData) (plan : PlanData) (cert : CertData) (ground : IsGround (limits_in plan cert) image plan) (entry : image.entry < 2 ^ 32) (is_cert : IsCert cert) (accepted : Accepts image plan cert) where
+module _ (image : ImageData) (plan : PlanData) (cert : CertData) (ground : AreMakerInputs (limits_of_cert plan cert) image plan) (entry : image.entry < 2 ^ 32) (is_cert : IsCert cert) (accepted : Accepts image plan cert) where
   -- no derived assignment has a fault
-  pub accepted_refutes : (r : ℕ) (k : Key) (p : ℕ) → IsRefusalFault (limits_in plan cert) image plan r k p → ⊥
+  pub accepted_refutes : (r : ℕ) (k : Key) (p : ℕ) → IsRefusalFault (limits_of_cert plan cert) image plan r k p → ⊥
   accepted_refutes =
-      fault_refuted (limits_in plan cert) image plan (lawful (limits_in plan cert) image plan ground) (known_in cert) (accepted_closed image plan cert ground entry is_cert accepted)
+      fault_refuted (limits_of_cert plan cert) image plan (lawful (limits_of_cert plan cert) image plan ground) (assignment_of_cert cert) (accepted_closed image plan cert ground entry is_cert accepted)
       (accepted_faultless image plan cert ground entry is_cert accepted) (accepted_well_formed image plan cert ground entry is_cert accepted) (accepted_within image plan cert ground entry is_cert accepted)
 
   -- the needs of a certificate meet those of each derived assignment
-  pub derived_needs : (a : Assignment) → Derived (limits_in plan cert) image plan a → MeetsNeeds (limits_in plan cert) image plan a (need_in image plan cert ground entry is_cert accepted)
+  pub derived_needs : (a : Assignment) → Derived (limits_of_cert plan cert) image plan a → AreSufficientNeeds (limits_of_cert plan cert) image plan a (need_in image plan cert ground entry is_cert accepted)
   derived_needs a d =
-      let laws = lawful (limits_in plan cert) image plan ground in
+      let laws = lawful (limits_of_cert plan cert) image plan ground in
       let closed = accepted_closed image plan cert ground entry is_cert accepted in
       let faultless = accepted_faultless image plan cert ground entry is_cert accepted in
       let well_formed = accepted_well_formed image plan cert ground entry is_cert accepted in
-      let h = derived_below (limits_in plan cert) image plan laws (known_in cert) closed faultless well_formed a d in
-      needs_below (limits_in plan cert) image plan laws (known_in cert) closed faultless well_formed a h.0 h.1 (need_in image plan cert ground entry is_cert accepted) (accepted_needs image plan cert ground entry is_cert accepted)
+      let h = derived_below (limits_of_cert plan cert) image plan laws (assignment_of_cert cert) closed faultless well_formed a d in
+      needs_below (limits_of_cert plan cert) image plan laws (assignment_of_cert cert) closed faultless well_formed a h.0 h.1 (need_in image plan cert ground entry is_cert accepted) (accepted_needs image plan cert ground entry is_cert accepted)
 
   -- no refusal holds
-  pub refusal_refuted : (r : ℕ) (k : Key) (p : ℕ) → IsRefusalWith (limits_in plan cert) image plan r k p → ⊥
+  pub refusal_refuted : (r : ℕ) (k : Key) (p : ℕ) → IsRefusalWithLimits (limits_of_cert plan cert) image plan r k p → ⊥
   refusal_refuted _ _ _ (fault r k p f) = accepted_refutes r k p f
   refusal_refuted _ _ _ (recursion a k p least first) =
-      no_recursion (limits_in plan cert) image plan a (need_in image plan cert ground entry is_cert accepted) (derived_needs a least.derived) k p first.recurs
+      no_recursion (limits_of_cert plan cert) image plan a (need_in image plan cert ground entry is_cert accepted) (derived_needs a least.derived) k p first.recurs
   refusal_refuted _ _ _ (need a least many) =
       absurd (omega (arith, many.above (need_in image plan cert ground entry is_cert accepted) (derived_needs a least.derived), accepted_start_need image plan cert ground entry is_cert accepted))

@@ -5,10 +5,10 @@ use Rattle.std.specs.declared.vec.Vec.{Vec}
 use Rattle.std.specs.declared.alloc.Global.{Global}
 use Rattle.depth_cert.specs.declared.keys.Key.{Key}
 use Rattle.cfg_recover.specs.Entries.{start_key}
-use Rattle.cfg_recover.specs.CertRefusals.{MeetsNeeds}
+use Rattle.cfg_recover.specs.CertRefusals.{AreSufficientNeeds}
 use Rattle.frame_places.specs.Numbers.{frame_number_in}
 use Rattle.depth_maker.specs.WellFormedAssignments.{AllWellFormed}
-use Rattle.frame_places.specs.RowNeeds.{AreRowsWithin, LeastNeeds}
+use Rattle.frame_places.specs.RowNeeds.{AreRowsWithin, IsLeastNeedsResult}
 use Rattle.depth_maker.specs.Rows.{IsRowSource, RowsOn}
 use Rattle.depth_maker.specs.Needs.{AreLeastNeedsOrTooMany}
 use Rattle.depth_maker.specs.Recursing.{IsFirstRecursion}
@@ -31,12 +31,12 @@ source_within s frames rows source same are =
     (rows_within _ _ _ (view_of_table s.table.now).cells (source.done).closed (map place_of_spot (s.table.now).points.items) (s.table.now).frames.items ((source.done).counted).each rows are (all_well_formed s source) ((s.ground.now).sound).limits)
 
 pub source_needs : (s : Source) (frames : List Key) (rows : List NeedRow) (cap : ℕ) → IsRowSource s → frames ≡ (s.table.now).frames.items → RowsOn s.ground.now s.table.now rows
-    → cap ≡ ((s.ground.now).plan.now).areas - ((s.ground.now).plan.now).reserve → (o : Option (Vec ℕ Global)) → LeastNeeds (length frames) rows cap (Ok o) → AreLeastNeedsOrTooMany s o
+    → cap ≡ ((s.ground.now).plan.now).areas - ((s.ground.now).plan.now).reserve → (o : Option (Vec ℕ Global)) → IsLeastNeedsResult (length frames) rows cap (Ok o) → AreLeastNeedsOrTooMany s o
 unfolding view_of_table
-source_needs s frames rows cap source same are is o h = at o (subst (λ (l : List Key). LeastNeeds (length l) rows cap (Ok o)) same h) where
-  at : (p : Option (Vec ℕ Global)) → LeastNeeds (length (s.table.now).frames.items) rows cap (Ok p) → AreLeastNeedsOrTooMany s p
+source_needs s frames rows cap source same are is o h = at o (subst (λ (l : List Key). IsLeastNeedsResult (length l) rows cap (Ok o)) same h) where
+  at : (p : Option (Vec ℕ Global)) → IsLeastNeedsResult (length (s.table.now).frames.items) rows cap (Ok p) → AreLeastNeedsOrTooMany s p
   at None none =
-      subst (λ (n : ℕ). (need : Key → ℕ) → MeetsNeeds (s.ground.now).bounds.now (s.ground.now).image.now (s.ground.now).plan.now (view_of_table s.table.now).cells need → n < need (start_key (s.ground.now).image.now (s.ground.now).plan.now)) is
+      subst (λ (n : ℕ). (need : Key → ℕ) → AreSufficientNeeds (s.ground.now).bounds.now (s.ground.now).image.now (s.ground.now).plan.now (view_of_table s.table.now).cells need → n < need (start_key (s.ground.now).image.now (s.ground.now).plan.now)) is
       (above_by _ _ _ (view_of_table s.table.now).cells (source.done).closed (map place_of_spot (s.table.now).points.items) (s.table.now).frames.items ((source.done).counted).each rows are (lawful _ _ _ (s.ground.now).sound)
       (source.done).derived (source.done).faultless (all_well_formed s source) cap none)
   at (Some needs) some = (

@@ -13,11 +13,11 @@ use Rattle.value_domain.specs.Limits.{Limits}
 use Rattle.depth_cert.specs.declared.keys.Key.{Key}
 use Rattle.depth_cert.specs.Known.{Known, CoversKnown, joined_known, state}
 use Rattle.depth_cert.specs.WellFormed.{IsWellFormedKnown, IsWellFormedState}
-use Rattle.cfg_recover.specs.Assignments.{CoversAt, point}
+use Rattle.cfg_recover.specs.Assignments.{AssignmentCovers, point}
 use Rattle.cfg_recover.specs.Duties.{Owed, enter, entry_and_return, owed, resume}
 use Rattle.cfg_recover.specs.Entries.{call_entry, call_key}
 use Rattle.cfg_recover.proofs.Members.{contains_first, contains_flat, contains_map}
-use Rattle.frame_places.specs.Marks.{is_queued, mark_for}
+use Rattle.frame_places.specs.Marks.{is_queued, mark_of_place}
 use Rattle.frame_places.specs.declared.refusals.Refusal.{Refusal}
 use Rattle.depth_maker.specs.Covered.{AreCallsCovered, AreLastCallsCovered, IsCallOf}
 use Rattle.depth_maker.specs.TableLevels.{level_of_table}
@@ -25,7 +25,7 @@ use Rattle.depth_maker.specs.MakerLaws.{AreMakerLaws}
 use Rattle.depth_maker.specs.SpotsAsPlaces.{spot_of}
 use Rattle.depth_maker.specs.TableInvariant.{TableInvariantHolds, IsDutySettled}
 use Rattle.depth_maker.specs.TableView.{TableView, view_of_table}
-use Rattle.depth_maker.specs.VisitDuties.{DutiesJoined, VisitedPointOwes}
+use Rattle.depth_maker.specs.VisitDuties.{AreDutiesJoined, VisitedPointOwes}
 use Rattle.depth_maker.specs.Visits.{IsVisitedWithState}
 use Rattle.depth_maker.specs.declared.last_call.LastCall.{LastCall}
 use Rattle.depth_maker.specs.declared.table.Table as made
@@ -50,7 +50,7 @@ module _ (b : Limits) (image : ImageData) (plan : PlanData) (k : Key) (p : ℕ) 
 
   -- nothing has to be joined
   pub enters_already : (laws : AreMakerLaws b image plan) (s : made.Table) (h : LastCall) (targets : List ℕ) → TableInvariantHolds b image plan s → IsWellFormedState b u → AreCallsCovered b (view_of_table s).cells h → IsCallOf h k targets h.entry → CoversKnown h.entry (state (call_entry u))
-      → DutiesJoined b image plan s s k p u (map entered targets)
+      → AreDutiesJoined b image plan s s k p u (map entered targets)
   enters_already laws s h targets fine well_formed covered of below = record {
     fine = fine;
     keeps = keeps_all b image plan s;
@@ -58,13 +58,13 @@ module _ (b : Limits) (image : ImageData) (plan : PlanData) (k : Key) (p : ℕ) 
   }
 
   -- the entry of a call is covered at each of its functions if the point's duties are
-  pub entry_covered : (t : TableView) (targets : List ℕ) → ((d : Owed) → Contains (map entered targets) d → IsDutySettled t k p u d.duty) → (q : ℕ) → Contains targets q → CoversAt t.cells (point (call_key k q) q) (state (call_entry u))
+  pub entry_covered : (t : TableView) (targets : List ℕ) → ((d : Owed) → Contains (map entered targets) d → IsDutySettled t k p u d.duty) → (q : ℕ) → Contains targets q → AssignmentCovers t.cells (point (call_key k q) q) (state (call_entry u))
   entry_covered t targets settled q c = settled (entered q) (contains_map entered targets q c)
 
   -- so is its join with the state of a last call of these functions
   pub both_entries : (laws : AreMakerLaws b image plan) (s : made.Table) (h : LastCall) (targets : List ℕ) (e : Known) → TableInvariantHolds b image plan s → IsWellFormedState b u → Contains (s.covered).calls.items h → IsCallOf h k targets h.entry
       → joined_known b h.entry (state (call_entry u)) ≡ Some e
-      → IsWellFormedKnown b e × (((d : Owed) → Contains (map entered targets) d → IsDutySettled (view_of_table s) k p u d.duty) → (q : ℕ) → Contains targets q → CoversAt (view_of_table s).cells (point (call_key k q) q) e)
+      → IsWellFormedKnown b e × (((d : Owed) → Contains (map entered targets) d → IsDutySettled (view_of_table s) k p u d.duty) → (q : ℕ) → Contains targets q → AssignmentCovers (view_of_table s).cells (point (call_key k q) q) e)
   both_entries laws s h targets e fine well_formed last of is =
       let covered = fine.covered.1 h last in (
         laws.joined_well_formed h.entry (state (call_entry u)) e covered.well_formed (entry_well_formed well_formed) is,
@@ -74,8 +74,8 @@ module _ (b : Limits) (image : ImageData) (plan : PlanData) (k : Key) (p : ℕ) 
 
   -- the call of the point is noted
   pub call_noted : (s m : made.Table) (calls : Vec LastCall Global) (targets : List ℕ)
-      → is_queued (mark_for m.places (spot_of (point k p))) ≡ false → (((d : Owed) → Contains (map entered targets) d → IsDutySettled (view_of_table m) k p u d.duty) → AreLastCallsCovered b (view_of_table m).cells calls.items) → DutiesJoined b image plan s m k p u (map entered targets)
-      → DutiesJoined b image plan s (record m { covered = record { interrupts = (m.covered).interrupts; calls = calls } }) k p u (map entered targets)
+      → is_queued (mark_of_place m.places (spot_of (point k p))) ≡ false → (((d : Owed) → Contains (map entered targets) d → IsDutySettled (view_of_table m) k p u d.duty) → AreLastCallsCovered b (view_of_table m).cells calls.items) → AreDutiesJoined b image plan s m k p u (map entered targets)
+      → AreDutiesJoined b image plan s (record m { covered = record { interrupts = (m.covered).interrupts; calls = calls } }) k p u (map entered targets)
   unfolding view_of_table level_of_table
   call_noted s m calls targets free covered paid = record {
     fine = record {
@@ -115,7 +115,7 @@ module _ (b : Limits) (image : ImageData) (plan : PlanData) (k : Key) (p : ℕ) 
 
   -- the entries, and then the returns
   both_halves : (laws : AreMakerLaws b image plan) (s m t : made.Table) (back : ℕ) (targets : List ℕ) → IsVisitedWithState b image plan s k p u → ((d : Owed) → Contains (flat_map (called back) targets) d → VisitedPointOwes b image plan k p u d.duty)
-      → DutiesJoined b image plan s m k p u (map entered targets) → DutiesJoined b image plan m t k p u (map (resumed back) targets) → DutiesJoined b image plan s t k p u (flat_map (called back) targets)
+      → AreDutiesJoined b image plan s m k p u (map entered targets) → AreDutiesJoined b image plan m t k p u (map (resumed back) targets) → AreDutiesJoined b image plan s t k p u (flat_map (called back) targets)
   both_halves laws s m t back targets visited owes first then_ =
       let both = duties_both b image plan k p u laws s m t (map entered targets) (map (resumed back) targets) visited (owes_entered back targets owes) first then_ in
       record { fine = both.fine; keeps = both.keeps; settled = λ free d c. both.settled free d (halves d c) }
@@ -134,7 +134,7 @@ module _ (b : Limits) (image : ImageData) (plan : PlanData) (k : Key) (p : ℕ) 
           ]
 
   pub on_halves : (laws : AreMakerLaws b image plan) (s m t : made.Table) (back : ℕ) (targets : List ℕ) (r : Result (Unit {0}) Refusal) → IsVisitedWithState b image plan s k p u
-      → ((d : Owed) → Contains (flat_map (called back) targets) d → VisitedPointOwes b image plan k p u d.duty) → DutiesJoined b image plan s m k p u (map entered targets)
-      → OnOk r (DutiesJoined b image plan m t k p u (map (resumed back) targets)) → OnOk r (DutiesJoined b image plan s t k p u (flat_map (called back) targets))
+      → ((d : Owed) → Contains (flat_map (called back) targets) d → VisitedPointOwes b image plan k p u d.duty) → AreDutiesJoined b image plan s m k p u (map entered targets)
+      → OnOk r (AreDutiesJoined b image plan m t k p u (map (resumed back) targets)) → OnOk r (AreDutiesJoined b image plan s t k p u (flat_map (called back) targets))
   on_halves laws s m t back targets (Ok _) visited owes first h = both_halves laws s m t back targets visited owes first h
   on_halves laws s m t back targets (Err e) visited owes first h = tt

@@ -9,7 +9,7 @@ use Rattle.depth_cert.specs.declared.keys.Key.{Key}
 use Rattle.depth_cert.specs.WellFormed.{IsWellFormedState}
 use Rattle.cfg_recover.specs.Assignments.{point}
 use Rattle.cfg_recover.specs.Duties.{Owed, interrupt_duties_of}
-use Rattle.frame_places.specs.Marks.{is_queued, mark_for}
+use Rattle.frame_places.specs.Marks.{is_queued, mark_of_place}
 use Rattle.depth_maker.specs.InterruptHandlers.{AreHandlersCovered, AreContextsCovered, IsEqualExceptStack, IsContextCovered, IsContextOf, IsWithinContext, joined_context}
 use Rattle.vd_transfer.specs.Registers.{a10_of}
 use Rattle.depth_maker.specs.TableLevels.{level_of_table}
@@ -17,7 +17,7 @@ use Rattle.depth_maker.specs.MakerLaws.{AreMakerLaws}
 use Rattle.depth_maker.specs.SpotsAsPlaces.{spot_of}
 use Rattle.depth_maker.specs.TableInvariant.{TableInvariantHolds}
 use Rattle.depth_maker.specs.TableView.{view_of_table}
-use Rattle.depth_maker.specs.VisitDuties.{VisitedPointOwes, DutiesJoined}
+use Rattle.depth_maker.specs.VisitDuties.{VisitedPointOwes, AreDutiesJoined}
 use Rattle.depth_maker.specs.declared.interrupt_contexts.InterruptContext.{InterruptContext}
 use Rattle.depth_maker.specs.declared.interrupt_contexts.LastInterrupts.{LastInterrupts}
 use Rattle.depth_maker.specs.declared.table.Table as made
@@ -28,7 +28,7 @@ use Rattle.depth_maker.proofs.TableLaws.{derived_well_formed}
 
 module _ (b : Limits) (image : ImageData) (plan : PlanData) (k : Key) (p : ℕ) (u : State) where
   -- nothing has to be joined
-  pub duties_already : (s : made.Table) (h : InterruptContext) → TableInvariantHolds b image plan s → AreHandlersCovered b plan (view_of_table s).cells h → IsWithinContext h k.is u → DutiesJoined b image plan s s k p u (interrupt_duties_of plan k u)
+  pub duties_already : (s : made.Table) (h : InterruptContext) → TableInvariantHolds b image plan s → AreHandlersCovered b plan (view_of_table s).cells h → IsWithinContext h k.is u → AreDutiesJoined b image plan s s k p u (interrupt_duties_of plan k u)
   duties_already s h fine entered asks = record {
     fine = fine;
     keeps = keeps_all b image plan s;
@@ -37,7 +37,7 @@ module _ (b : Limits) (image : ImageData) (plan : PlanData) (k : Key) (p : ℕ) 
 
   -- other contexts are noted
   contexts_noted : (s m : made.Table) (interrupts : LastInterrupts) → AreContextsCovered b plan (view_of_table m).cells interrupts
-      → DutiesJoined b image plan s m k p u (interrupt_duties_of plan k u) → DutiesJoined b image plan s (record m { covered = record { interrupts = interrupts; calls = (m.covered).calls } }) k p u (interrupt_duties_of plan k u)
+      → AreDutiesJoined b image plan s m k p u (interrupt_duties_of plan k u) → AreDutiesJoined b image plan s (record m { covered = record { interrupts = interrupts; calls = (m.covered).calls } }) k p u (interrupt_duties_of plan k u)
   unfolding view_of_table level_of_table
   contexts_noted s m interrupts entered paid = record {
     fine = record {
@@ -62,19 +62,19 @@ module _ (b : Limits) (image : ImageData) (plan : PlanData) (k : Key) (p : ℕ) 
   }
 
   module _ (laws : AreMakerLaws b image plan) (s m : made.Table) (pu : IsWellFormedState b u) (on : IsTrue u.ie) (owes : (d : Owed) → Contains (interrupt_duties_of plan k u) d → VisitedPointOwes b image plan k p u d.duty)
-      (free : is_queued (mark_for m.places (spot_of (point k p))) ≡ false) (paid : DutiesJoined b image plan s m k p u (interrupt_duties_of plan k u)) where
+      (free : is_queued (mark_of_place m.places (spot_of (point k p))) ≡ false) (paid : AreDutiesJoined b image plan s m k p u (interrupt_duties_of plan k u)) where
     -- the entries of the point are covered
     point_entered : (h : InterruptContext) → IsContextOf h k.is u → AreHandlersCovered b plan (view_of_table m).cells h
     point_entered h from = interrupts_new b plan (view_of_table m) k p u h from pu on (λ d c. owed_well_formed b image plan k p u laws d.duty pu (owes d c)) (λ d c. paid.settled free d c)
 
     -- the context of the point is noted
     pub joined_and_noted : (h : InterruptContext) → IsContextOf h k.is u
-        → DutiesJoined b image plan s (record m { covered = record { interrupts = record { last = Some h; before = (m.covered).interrupts.last }; calls = (m.covered).calls } }) k p u (interrupt_duties_of plan k u)
+        → AreDutiesJoined b image plan s (record m { covered = record { interrupts = record { last = Some h; before = (m.covered).interrupts.last }; calls = (m.covered).calls } }) k p u (interrupt_duties_of plan k u)
     joined_and_noted h from = contexts_noted s m (record { last = Some h; before = (m.covered).interrupts.last }) (point_entered h from, (paid.fine).covered.0.0) paid
 
     -- it is joined with the last one
     pub joined_with_last : (h : InterruptContext) → AreLimits b → IsEqualExceptStack h k.is u → (m.covered).interrupts.last ≡ Some h
-        → DutiesJoined b image plan s (record m { covered = record { interrupts = record { last = Some (joined_context b h (a10_of u)); before = (m.covered).interrupts.before }; calls = (m.covered).calls } }) k p u (interrupt_duties_of plan k u)
+        → AreDutiesJoined b image plan s (record m { covered = record { interrupts = record { last = Some (joined_context b h (a10_of u)); before = (m.covered).interrupts.before }; calls = (m.covered).calls } }) k p u (interrupt_duties_of plan k u)
     joined_with_last h limits alike last =
         let g : InterruptContext = record { is = k.is; sp = a10_of u; ccpn = u.ccpn } in
         let cells = (view_of_table m).cells in

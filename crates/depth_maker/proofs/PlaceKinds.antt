@@ -5,12 +5,12 @@ use Rattle.elf_image.specs.Images.{ImageData}
 use Rattle.tcd_plan.specs.PlanData.{PlanData}
 use Rattle.value_domain.specs.declared.states.State.{State}
 use Rattle.value_domain.specs.Limits.{Limits}
-use Rattle.value_domain.specs.State.{joined_states}
+use Rattle.value_domain.specs.State.{state_join_if_any}
 use Rattle.depth_cert.specs.declared.keys.Key.{Key}
 use Rattle.cfg_recover.specs.Entries.{start_state}
-use Rattle.depth_cert.specs.Exits.{state_after_exit, joined_exit}
+use Rattle.depth_cert.specs.Exits.{state_after_return, joined_exit}
 use Rattle.cfg_recover.specs.Duties.{Duty, jump, enter, resume, leave}
-use Rattle.cfg_recover.specs.Assignments.{Place, point, exit, Assignment, is_same_place, raised_at_place, asked_by_duty, AsksFor, Derived, begins, joins, first_place}
+use Rattle.cfg_recover.specs.Assignments.{Place, point, exit, Assignment, is_same_place, joined_at_place, asked_by_duty, AsksFor, Derived, begins, joins, start_place}
 use Rattle.depth_cert.specs.Known.{Known, state, leaving, joined_known}
 use Rattle.cfg_recover.specs.CertRefusals.{IsFaultInAssignment, locals}
 use Rattle.depth_maker.proofs.PlaceLaws.{place_tells, from_if, resumed_some}
@@ -28,11 +28,11 @@ asked_kind a key s (enter k t) y v e = let f : (point k k.entry, state t) ≡ (y
 asked_kind a key s (leave x) y v e = let f : (exit key, leaving x) ≡ (y, v) = cc in subst (λ (w : Place × Known). IsOfKind w.0 w.1) f tt
 asked_kind a key s (resume k q) y v e =
     let r = resumed_some key s k q (a (exit k)) y v e in
-    let f : (point key q, state (state_after_exit s r.0 k.kind)) ≡ (y, v) = λ i. (r.2 i, r.3 i) in
+    let f : (point key q, state (state_after_return s r.0 k.kind)) ≡ (y, v) = λ i. (r.2 i, r.3 i) in
     subst (λ (w : Place × Known). IsOfKind w.0 w.1) f tt
 
 joined_kind : (b : Limits) (y : Place) (w v u : Known) → IsOfKind y w → IsOfKind y v → joined_known b w v ≡ Some u → IsOfKind y u
-joined_kind b (point k p) (state s) (state t) u h g e = at (joined_states b s t) e where
+joined_kind b (point k p) (state s) (state t) u h g e = at (state_join_if_any b s t) e where
   at : (o : Option State) → option_map state o ≡ Some u → IsOfKind (point k p) u
   at None f = absurd (let q : None ≡ Some u = f in cc)
   at (Some j) f = let q : state j ≡ u = (let r : Some (state j) ≡ Some u = f in cc) in subst (IsOfKind (point k p)) q tt
@@ -43,14 +43,14 @@ joined_kind b (exit k) (leaving x) (state s) u h g e = absurd g
 joined_kind b (exit k) (leaving x) (leaving z) u h g e =
     let q : leaving (joined_exit b x z) ≡ u = (let r : Some (leaving (joined_exit b x z)) ≡ Some u = e in cc) in subst (IsOfKind (exit k)) q tt
 
-raised_kind : (b : Limits) (y : Place) (o : Option Known) (v u : Known) → ((w : Known) → o ≡ Some w → IsOfKind y w) → IsOfKind y v → raised_at_place b o v ≡ Some u → IsOfKind y u
+raised_kind : (b : Limits) (y : Place) (o : Option Known) (v u : Known) → ((w : Known) → o ≡ Some w → IsOfKind y w) → IsOfKind y v → joined_at_place b o v ≡ Some u → IsOfKind y u
 raised_kind b y None v u old h e = let q : v ≡ u = (let r : Some v ≡ Some u = e in cc) in subst (IsOfKind y) q h
 raised_kind b y (Some w) v u old h e = joined_kind b y w v u (old w refl) h e
 
 pub derived_kinds : (b : Limits) (image : ImageData) (plan : PlanData) (a : Assignment) → Derived b image plan a → (y : Place) (v : Known) → a y ≡ Some v → IsOfKind y v
 derived_kinds b image plan _ (begins a is) y v at =
-    elim (from_if (is_same_place y (first_place image plan)) (state (start_state plan)) None (a y) v (is y) at) [
-      | inl h ↦ subst (λ (z : Place). IsOfKind z v) (sym (place_tells y (first_place image plan) h.0)) (subst (IsOfKind (first_place image plan)) h.1 tt)
+    elim (from_if (is_same_place y (start_place image plan)) (state (start_state plan)) None (a y) v (is y) at) [
+      | inl h ↦ subst (λ (z : Place). IsOfKind z v) (sym (place_tells y (start_place image plan) h.0)) (subst (IsOfKind (start_place image plan)) h.1 tt)
       | inr h ↦ (let q : None ≡ Some v = h.1 in cc)
     ]
 derived_kinds b image plan _ (joins a after z d j) y v at =
@@ -71,10 +71,10 @@ pub record Unjoined (b : Limits) (y : Place) (w v : Known) : Type 0 where
   pub place : y ≡ point key addr
   pub is_left : w ≡ state left
   pub is_right : v ≡ state right
-  pub none : joined_states b left right ≡ None
+  pub none : state_join_if_any b left right ≡ None
 
 pub unjoined : (b : Limits) (y : Place) (w v : Known) → IsOfKind y w → IsOfKind y v → joined_known b w v ≡ None → Unjoined b y w v
-unjoined b (point k p) (state s) (state t) h g e = record { key = k; addr = p; left = s; right = t; place = refl; is_left = refl; is_right = refl; none = at (joined_states b s t) e } where
+unjoined b (point k p) (state s) (state t) h g e = record { key = k; addr = p; left = s; right = t; place = refl; is_left = refl; is_right = refl; none = at (state_join_if_any b s t) e } where
   at : (o : Option State) → option_map state o ≡ None → o ≡ None
   at None f = refl
   at (Some j) f = absurd (let q : Some (state j) ≡ None = f in cc)

@@ -9,9 +9,9 @@ use Rattle.depth_cert.specs.Keys.{number_of_key}
 use Rattle.cfg_recover.specs.Assignments.{point}
 use Rattle.depth_cert.specs.Known.{Known, state}
 use Rattle.frame_places.specs.Numbers.{frame_number_in}
-use Rattle.frame_places.specs.NodeGraph.{IsFirstRecursiveNode, IsRecursiveNode, AreReachingMarks, AreEdgesBetween, IsNodeMarked}
-use Rattle.depth_maker.specs.Recursing.{AreTableEdges, EntersMarkedFrame, IsFirstRecursiveAddress, IsFirstRecursion, RecursAt, RecursFirstAt, recursion_orders_in}
-use Rattle.depth_maker.specs.Rows.{IsRowAt, IsRowSource}
+use Rattle.frame_places.specs.NodeGraph.{IsFirstRecursiveNode, IsRecursiveNode, AreReachingMarks, AreEdgesBelow, IsNodeMarked}
+use Rattle.depth_maker.specs.Recursing.{AreTableEdges, EntersMarkedFrame, IsFirstRecursiveAddress, IsFirstRecursion, IsRecursivePoint, IsFirstRecursivePoint, frame_key_numbers}
+use Rattle.depth_maker.specs.Rows.{IsRowOfPoint, IsRowSource}
 use Rattle.depth_maker.specs.SpotsAsPlaces.{place_of_spot}
 use Rattle.depth_maker.specs.TableView.{view_of_table}
 use Rattle.frame_places.specs.declared.places.Spot.{Spot}
@@ -28,7 +28,7 @@ use Rattle.depth_maker.proofs.PointEntries.{placed}
 module _ (s : Source) (source : IsRowSource s) (marks : List Bool) (k : Key) (p : ℕ) where
   -- a point enters a marked frame if its row has a marked number
   pub row_marked : (row : NeedRow)
-      → ((u : State) × ((view_of_table s.table.now).cells (point k p) ≡ Some (state u)) × IsRowAt (s.ground.now).bounds.now (s.ground.now).image.now (s.ground.now).plan.now (s.table.now).frames.items k p u row)
+      → ((u : State) × ((view_of_table s.table.now).cells (point k p) ≡ Some (state u)) × IsRowOfPoint (s.ground.now).bounds.now (s.ground.now).image.now (s.ground.now).plan.now (s.table.now).frames.items k p u row)
       → (r : Bool) → (IsTrue r → (t : ℕ) × Contains row.into.items t × IsNodeMarked marks t) × (((t : ℕ) × Contains row.into.items t × IsNodeMarked marks t) → IsTrue r)
       → (IsTrue r → EntersMarkedFrame s marks k p) × (EntersMarkedFrame s marks k p → IsTrue r)
   unfolding view_of_table
@@ -86,7 +86,7 @@ module _ (s : Source) (marks : List Bool) (k : Key) (ys : List Spot) where
 
 -- ---- the whole
 module _ (s : Source) (source : IsRowSource s) (edges : List FrameEdge) (es : AreTableEdges s edges) where
-  pub edges_within : AreEdgesBetween edges (length (s.table.now).frames.items)
+  pub edges_within : AreEdgesBelow edges (length (s.table.now).frames.items)
   unfolding view_of_table
   edges_within = edges_between _ _ _ (view_of_table s.table.now).cells (source.done).closed (map place_of_spot (s.table.now).points.items) (s.table.now).frames.items ((source.done).counted).each es.0 es.1 edges es.2
 
@@ -98,23 +98,23 @@ module _ (s : Source) (source : IsRowSource s) (edges : List FrameEdge) (es : Ar
       (recurs_ring _ _ _ (view_of_table s.table.now).cells (source.done).closed (map place_of_spot (s.table.now).points.items) (s.table.now).frames.items ((source.done).counted).each es.0 es.1 edges es.2 k p r)
 
   -- a recursive point has a place in the table
-  stands : (k : Key) (p : ℕ) → RecursAt s k p → Contains (s.table.now).points.items (Point k p)
+  stands : (k : Key) (p : ℕ) → IsRecursivePoint s k p → Contains (s.table.now).points.items (Point k p)
   unfolding view_of_table
   stands k p r = placed (s.table.now).points.items k p ((((source.done).counted).each).points k p (subst (λ (o : Option Known). IsSome o) (sym ((r.enters).has).at) refl))
 
-  frame_of_point : (k : Key) (p : ℕ) → RecursAt s k p → Contains (s.table.now).frames.items k
+  frame_of_point : (k : Key) (p : ℕ) → IsRecursivePoint s k p → Contains (s.table.now).frames.items k
   unfolding view_of_table
   frame_of_point k p r =
       owner _ _ _ (view_of_table s.table.now).cells (source.done).closed (map place_of_spot (s.table.now).points.items) (s.table.now).frames.items ((source.done).counted).each k p r.before r.into r.enters
 
   -- the frame of a number
-  pub key_there : (node : ℕ) → IsFirstRecursiveNode (recursion_orders_in s) edges (Some node) → (frames : List Key) (d : Key) → frames ≡ (s.table.now).frames.items
+  pub key_there : (node : ℕ) → IsFirstRecursiveNode (frame_key_numbers s) edges (Some node) → (frames : List Key) (d : Key) → frames ≡ (s.table.now).frames.items
       → get_or frames node d ≡ get_or (s.table.now).frames.items node (get_or frames node d)
   key_there node first frames d same =
       let lt : node < length (s.table.now).frames.items = omega (arith, first.0, length-map (s.table.now).frames.items number_of_key) in
       ap (λ (l : List Key). get_or l node d) same ∙ get_or_default (s.table.now).frames.items node d (get_or frames node d) lt
 
-  module _ (nodes node : ℕ) (k : Key) (first : IsFirstRecursiveNode (recursion_orders_in s) edges (Some node)) (marks : List Bool) (reaching : AreReachingMarks edges nodes node marks) (is : k ≡ get_or (s.table.now).frames.items node k) where
+  module _ (nodes node : ℕ) (k : Key) (first : IsFirstRecursiveNode (frame_key_numbers s) edges (Some node)) (marks : List Bool) (reaching : AreReachingMarks edges nodes node marks) (is : k ≡ get_or (s.table.now).frames.items node k) where
     pub in_frames : node < length (s.table.now).frames.items
     in_frames = omega (arith, first.0, length-map (s.table.now).frames.items number_of_key)
 
@@ -128,7 +128,7 @@ module _ (s : Source) (source : IsRowSource s) (edges : List FrameEdge) (es : Ar
     at_node : AreReachingMarks edges nodes (frame_number_in (s.table.now).frames.items k) marks
     at_node = subst (λ (n : ℕ). AreReachingMarks edges nodes n marks) (sym number) reaching
 
-    marked : (p : ℕ) → RecursAt s k p → EntersMarkedFrame s marks k p
+    marked : (p : ℕ) → IsRecursivePoint s k p → EntersMarkedFrame s marks k p
     unfolding view_of_table
     marked p r = record {
       before = r.before;
@@ -146,7 +146,7 @@ module _ (s : Source) (source : IsRowSource s) (edges : List FrameEdge) (es : Ar
         none x.0 (stands k x.0 x.1) (marked x.0 x.1)
 
     -- the first of these is the first of all
-    pub first_recurs : (p : ℕ) → IsFirstRecursiveAddress s marks k (s.table.now).points.items (Some p) → RecursFirstAt s k p
+    pub first_recurs : (p : ℕ) → IsFirstRecursiveAddress s marks k (s.table.now).points.items (Some p) → IsFirstRecursivePoint s k p
     unfolding view_of_table
     first_recurs p h = record {
       recurs = marked_recurs _ _ _ (view_of_table s.table.now).cells (source.done).closed (map place_of_spot (s.table.now).points.items) (s.table.now).frames.items ((source.done).counted).each es.0 es.1 edges es.2 k own nodes marks at_node
@@ -155,8 +155,8 @@ module _ (s : Source) (source : IsRowSource s) (edges : List FrameEdge) (es : Ar
           let here = derived_in_range _ _ _ (s.ground.now).sound (view_of_table s.table.now).cells (source.done).derived (point k p) (state (h.0).before) (((h.0).enters).has).at in
           let there = derived_in_range _ _ _ (s.ground.now).sound (view_of_table s.table.now).cells (source.done).derived (point j q) (state r.before) ((r.enters).has).at in
           point_first _ _ _ (view_of_table s.table.now).cells (source.done).closed (map place_of_spot (s.table.now).points.items) (s.table.now).frames.items ((source.done).counted).each k j p q own (frame_of_point j q r) here.0 there.0 here.1
-          (subst (λ (n : ℕ). slice_index (recursion_orders_in s) n ≤ slice_index (recursion_orders_in s) (frame_number_in (s.table.now).frames.items j)) (sym number)
+          (subst (λ (n : ℕ). slice_index (frame_key_numbers s) n ≤ slice_index (frame_key_numbers s) (frame_number_in (s.table.now).frames.items j)) (sym number)
           (first.2 (frame_number_in (s.table.now).frames.items j)
           (recurs_ring _ _ _ (view_of_table s.table.now).cells (source.done).closed (map place_of_spot (s.table.now).points.items) (s.table.now).frames.items ((source.done).counted).each es.0 es.1 edges es.2 j q r)))
-          (λ same. let mine = subst (λ (z : Key). RecursAt s z q) (sym same) r in h.1 q (stands k q mine) (marked q mine));
+          (λ same. let mine = subst (λ (z : Key). IsRecursivePoint s z q) (sym same) r in h.1 q (stands k q mine) (marked q mine));
     }

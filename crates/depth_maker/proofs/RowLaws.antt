@@ -14,9 +14,9 @@ use Rattle.cfg_recover.specs.declared.local_rules.Located.{Located}
 use Rattle.cfg_recover.specs.LocalFaults.{IsFaultlessShape}
 use Rattle.cfg_recover.specs.Duties.{enter, duties_of, entered_keys}
 use Rattle.cfg_recover.specs.Entries.{start_key}
-use Rattle.cfg_recover.specs.Assignments.{Place, point, Assignment, frame_of_place, Closed, Derived, AllFaultless, EntersInAssignment}
+use Rattle.cfg_recover.specs.Assignments.{Place, point, Assignment, key_of_place, Closed, Derived, ArePointsFaultless, EntersInAssignment}
 use Rattle.depth_cert.specs.Known.{Known, state}
-use Rattle.cfg_recover.specs.CertRefusals.{MeetsNeeds}
+use Rattle.cfg_recover.specs.CertRefusals.{AreSufficientNeeds}
 use Rattle.depth_maker.specs.LeastCertMade.{AreLeastNeeds}
 use Rattle.cfg_recover.proofs.CodeLaws.{IsCode-one}
 use Rattle.cfg_recover.proofs.Members.{contains_map}
@@ -25,7 +25,7 @@ use Rattle.frame_places.specs.Numbers.{frame_number_in}
 use Rattle.depth_maker.specs.WellFormedAssignments.{AllWellFormed}
 use Rattle.depth_maker.specs.MakerLaws.{AreMakerLaws}
 use Rattle.frame_places.specs.RowNeeds.{MeetsRows, AreLowerBounds, AreRowsWithin}
-use Rattle.depth_maker.specs.Rows.{AreRows}
+use Rattle.depth_maker.specs.Rows.{AreRowsOfPoints}
 use Rattle.depth_maker.specs.Needs.{need_of_frame}
 use Rattle.frame_places.specs.declared.needs.row.NeedRow.{NeedRow}
 use Rattle.depth_maker.proofs.Reached.{needs_at_most}
@@ -42,7 +42,7 @@ mapped {X} f (x ∷ xs) y c = at (λ h. mapped f xs y h) c.0 c.1 c.2 where
 
 module _ (b : Limits) (image : ImageData) (plan : PlanData) (a : Assignment) (closed : Closed b image plan a) (ps : List Place) (ks : List Key) (counted : ListsPointsAndFrames a ps ks) where
   -- known frames have numbers
-  pub known_frame : (y : Place) (v : Known) → a y ≡ Some v → Contains ks (frame_of_place y)
+  pub known_frame : (y : Place) (v : Known) → a y ≡ Some v → Contains ks (key_of_place y)
   known_frame y v at = counted.frames y (subst (λ (o : Option Known). IsSome o) (sym at) refl)
 
   -- the frames that a point enters, from the duties of its row
@@ -62,15 +62,15 @@ module _ (b : Limits) (image : ImageData) (plan : PlanData) (a : Assignment) (cl
       known_frame (point l l.entry) c.known c.at
 
 module _ (b : Limits) (image : ImageData) (plan : PlanData) (a : Assignment) (closed : Closed b image plan a) (ps : List Place) (ks : List Key) (counted : ListsPointsAndFrames a ps ks) (rows : List NeedRow)
-    (are : AreRows b image plan a ks rows) where
+    (are : AreRowsOfPoints b image plan a ks rows) where
   pub first : Key
   first = start_key image plan
 
-  known : (y : Place) (v : Known) → a y ≡ Some v → Contains ks (frame_of_place y)
+  known : (y : Place) (v : Known) → a y ≡ Some v → Contains ks (key_of_place y)
   known y v at = known_frame b image plan a closed ps ks counted y v at
 
   -- ---- needs meet the rows
-  pub meets_rows : (need : Key → ℕ) → MeetsNeeds b image plan a need → MeetsRows (λ i. need (get_or ks i first)) rows
+  pub meets_rows : (need : Key → ℕ) → AreSufficientNeeds b image plan a need → MeetsRows (λ i. need (get_or ks i first)) rows
   meets_rows need m row c =
       let s = are.sound row c in
       let k = s.0 in
@@ -91,7 +91,7 @@ module _ (b : Limits) (image : ImageData) (plan : PlanData) (a : Assignment) (cl
       }
 
   -- ---- numbers that meet the rows are needs
-  pub meets_needs : (needs : List ℕ) → MeetsRows (λ i. slice_index needs i) rows → MeetsNeeds b image plan a (need_of_frame ks needs)
+  pub meets_needs : (needs : List ℕ) → MeetsRows (λ i. slice_index needs i) rows → AreSufficientNeeds b image plan a (need_of_frame ks needs)
   meets_needs needs m = record {
     locals = λ k p u at.
         let c = are.complete k p u at in
@@ -137,8 +137,8 @@ module _ (b : Limits) (image : ImageData) (plan : PlanData) (a : Assignment) (cl
   some_of (Some v) h = (v, refl)
 
   -- if some number of each choice is above the cap, the start's is
-  pub above_by : (laws : AreMakerLaws b image plan) (derived : Derived b image plan a) (faultless : AllFaultless b image plan a) (well_formed : AllWellFormed b a) (cap : ℕ)
-      → ((other : ℕ → ℕ) → MeetsRows other rows → (i : ℕ) × (i < length ks) × (cap < other i)) → (need : Key → ℕ) → MeetsNeeds b image plan a need → cap < need (start_key image plan)
+  pub above_by : (laws : AreMakerLaws b image plan) (derived : Derived b image plan a) (faultless : ArePointsFaultless b image plan a) (well_formed : AllWellFormed b a) (cap : ℕ)
+      → ((other : ℕ → ℕ) → MeetsRows other rows → (i : ℕ) × (i < length ks) × (cap < other i)) → (need : Key → ℕ) → AreSufficientNeeds b image plan a need → cap < need (start_key image plan)
   above_by laws derived faultless well_formed cap none need m =
       let h = none (λ i. need (get_or ks i first)) (meets_rows need m) in
       let k = get_or ks h.0 first in

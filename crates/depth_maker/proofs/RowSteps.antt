@@ -12,14 +12,14 @@ use Rattle.std.proofs.lemmas.Option.{get_or_from_slice_get, slice_get-get_or, sl
 use Rattle.indexmap.specs.IndexMap.{IndexMap, get, keys}
 use Rattle.depth_cert.specs.Known.{IsKnownState, Known, state, leaving}
 use Rattle.small_states.specs.declared.known.Outline.{Outline}
-use Rattle.frame_places.specs.Marks.{value_for}
+use Rattle.frame_places.specs.Marks.{value_of_place}
 use Rattle.frame_places.specs.Numbers.{AreFrameNumbers, frame_number_in}
 use Rattle.frame_places.specs.declared.places.Marked.{Marked}
 use Rattle.value_domain.specs.declared.states.State.{State}
 use Rattle.depth_cert.specs.declared.keys.Key.{Key}
 use Rattle.cfg_recover.specs.Assignments.{point, exit}
 use Rattle.depth_cert.specs.WellFormed.{IsWellFormedKnown}
-use Rattle.depth_maker.specs.Rows.{IsRowAt, AddsPointRow, AreRowFramesAmong, OutlinesHaveRows, HasFirstRows, IsKnownRowPoint, IsPlainRow, IsPointRow, IsRowSource, RowsOn}
+use Rattle.depth_maker.specs.Rows.{IsRowOfPoint, AddsPointRow, AreRowFramesAmong, OutlinesHaveRows, HasFirstRows, IsTablePoint, IsRowOfOutline, IsRowOfTablePoint, IsRowSource, RowsOn}
 use Rattle.depth_maker.specs.TableInvariant.{IsLeastClosedTable}
 use Rattle.depth_maker.specs.TableView.{view_of_table}
 use Rattle.frame_places.specs.Spots.{spot_eq}
@@ -41,12 +41,12 @@ use Rattle.depth_maker.specs.declared.rows.Source.{Source}
 use Rattle.depth_maker.specs.declared.table.Table as made
 
 -- what is known in a table without work is at the limits, and at a point it is a state
-pub done_well_formed : (g : Ground) (t : made.Table) → IsLeastClosedTable g t → (q : Spot) (v : Known) → value_for t.places q ≡ Some v → IsWellFormedKnown g.bounds.now v
+pub done_well_formed : (g : Ground) (t : made.Table) → IsLeastClosedTable g t → (q : Spot) (v : Known) → value_of_place t.places q ≡ Some v → IsWellFormedKnown g.bounds.now v
 unfolding view_of_table
 done_well_formed g t done (Point k p) v at = derived_well_formed _ _ _ (lawful _ _ _ g.sound) (view_of_table t).cells done.derived (point k p) v at
 done_well_formed g t done (Exit k) v at = derived_well_formed _ _ _ (lawful _ _ _ g.sound) (view_of_table t).cells done.derived (exit k) v at
 
-pub done_state : (g : Ground) (t : made.Table) → IsLeastClosedTable g t → (k : Key) (p : ℕ) (w : Known) → value_for t.places (Point k p) ≡ Some w → (u : State) × (w ≡ state u)
+pub done_state : (g : Ground) (t : made.Table) → IsLeastClosedTable g t → (k : Key) (p : ℕ) (w : Known) → value_of_place t.places (Point k p) ≡ Some w → (u : State) × (w ≡ state u)
 unfolding view_of_table
 done_state g t done k p w at = of_kind w (derived_kinds _ _ _ (view_of_table t).cells done.derived (point k p) w at) where
   of_kind : (v : Known) → IsOfKind (point k p) v → (u : State) × (v ≡ state u)
@@ -54,7 +54,7 @@ done_state g t done k p w at = of_kind w (derived_kinds _ _ _ (view_of_table t).
   of_kind (leaving x) h = absurd h
 
 -- a state that was read is the known one
-pub read_there : (g : Ground) (t : made.Table) → IsLeastClosedTable g t → (k : Key) (p : ℕ) (w : Known) (u : State) → value_for t.places (Point k p) ≡ Some w → IsKnownState w u → value_for t.places (Point k p) ≡ Some (state u)
+pub read_there : (g : Ground) (t : made.Table) → IsLeastClosedTable g t → (k : Key) (p : ℕ) (w : Known) (u : State) → value_of_place t.places (Point k p) ≡ Some w → IsKnownState w u → value_of_place t.places (Point k p) ≡ Some (state u)
 read_there g t done k p w u at is =
     let e = done_state g t done k p w at in
     let same : u ≡ e.0 = subst (λ (v : Known). IsKnownState v u) e.1 is in
@@ -74,18 +74,18 @@ all_known v t done at =
 
 -- ---- one point
 -- the value of a point of the table
-pub known_there : (s : Source) (at : KnownPoint) → IsKnownRowPoint s at → value_for (s.table.now).places (Point at.key at.addr) ≡ Some (at.known.now).value
+pub known_there : (s : Source) (at : KnownPoint) → IsTablePoint s at → value_of_place (s.table.now).places (Point at.key at.addr) ≡ Some (at.known.now).value
 known_there s at is = ap (option_map (λ (m : Marked Known). m.value)) is.known
 
 -- equal places have the same state, so a row of one is a row of the other
-pub row_of_state : (s : Source) (row : NeedRow) (k : Key) (p : ℕ) (w : State) → IsPointRow s k p row → (view_of_table s.table.now).cells (point k p) ≡ Some (state w)
-    → IsRowAt (s.ground.now).bounds.now (s.ground.now).image.now (s.ground.now).plan.now (s.table.now).frames.items k p w row
+pub row_of_state : (s : Source) (row : NeedRow) (k : Key) (p : ℕ) (w : State) → IsRowOfTablePoint s k p row → (view_of_table s.table.now).cells (point k p) ≡ Some (state w)
+    → IsRowOfPoint (s.ground.now).bounds.now (s.ground.now).image.now (s.ground.now).plan.now (s.table.now).frames.items k p w row
 row_of_state s row k p w r there =
     let same : r.0 ≡ w = one_state r.0 w (let f : Some (state r.0) ≡ Some (state w) = sym r.1 ∙ there in cc) in
-    subst (λ (z : State). IsRowAt (s.ground.now).bounds.now (s.ground.now).image.now (s.ground.now).plan.now (s.table.now).frames.items k p z row) same r.2
+    subst (λ (z : State). IsRowOfPoint (s.ground.now).bounds.now (s.ground.now).image.now (s.ground.now).plan.now (s.table.now).frames.items k p z row) same r.2
 
-pub row_moves : (s : Source) (row : NeedRow) (k j : Key) (p q : ℕ) → Point k p ≡ Point j q → IsPointRow s k p row → IsPointRow s j q row
-row_moves s row k j p q e r = let key : k ≡ j = cc in let addr : p ≡ q = cc in subst (λ (n : ℕ). IsPointRow s j n row) addr (subst (λ (z : Key). IsPointRow s z p row) key r)
+pub row_moves : (s : Source) (row : NeedRow) (k j : Key) (p q : ℕ) → Point k p ≡ Point j q → IsRowOfTablePoint s k p row → IsRowOfTablePoint s j q row
+row_moves s row k j p q e r = let key : k ≡ j = cc in let addr : p ≡ q = cc in subst (λ (n : ℕ). IsRowOfTablePoint s j n row) addr (subst (λ (z : Key). IsRowOfTablePoint s z p row) key r)
 
 -- ---- one after another
 -- the place of an entry that was looked up
@@ -116,8 +116,8 @@ draft_none s d n empty none = record {
 
 -- one more entry
 pub draft_step : (s : Source) (i : ℕ) (q : Spot) (old new : RowsDraft) → slice_get (keys (s.table.now).places) i ≡ Some q → HasFirstRows s i old → ((row : NeedRow) → Contains old.rows.items row → Contains new.rows.items row)
-    → ((row : NeedRow) → Contains new.rows.items row → Contains old.rows.items row ⊎ ((k : Key) × (p : ℕ) × IsPointRow s k p row))
-    → ((k : Key) (p : ℕ) → q ≡ Point k p → (row : NeedRow) × Contains new.rows.items row × IsPointRow s k p row) → OutlinesHaveRows s new.rows.items new.outlines.items → HasFirstRows s (i + 1) new
+    → ((row : NeedRow) → Contains new.rows.items row → Contains old.rows.items row ⊎ ((k : Key) × (p : ℕ) × IsRowOfTablePoint s k p row))
+    → ((k : Key) (p : ℕ) → q ≡ Point k p → (row : NeedRow) × Contains new.rows.items row × IsRowOfTablePoint s k p row) → OutlinesHaveRows s new.rows.items new.outlines.items → HasFirstRows s (i + 1) new
 draft_step s i q old new there so keeps only here outlines = record {
   sound = λ row c. elim (only row c) [ inl before ↦ so.sound row before | inr now ↦ now ];
   complete = λ k p c.
@@ -132,7 +132,7 @@ draft_step s i q old new there so keeps only here outlines = record {
 
 -- for an exit, or a point with an equal row, nothing is added
 pub draft_same : (s : Source) (i : ℕ) (q : Spot) (old new : RowsDraft) → slice_get (keys (s.table.now).places) i ≡ Some q → HasFirstRows s i old → new.rows ≡ old.rows → new.outlines ≡ old.outlines
-    → ((k : Key) (p : ℕ) → q ≡ Point k p → (row : NeedRow) × Contains old.rows.items row × IsPointRow s k p row) → HasFirstRows s (i + 1) new
+    → ((k : Key) (p : ℕ) → q ≡ Point k p → (row : NeedRow) × Contains old.rows.items row × IsRowOfTablePoint s k p row) → HasFirstRows s (i + 1) new
 draft_same s i q old new there so rows outlines here =
     draft_step s i q old new there so (λ row c. subst (λ (v : Vec NeedRow Global). Contains v.items row) (sym rows) c) (λ row c. inl (subst (λ (v : Vec NeedRow Global). Contains v.items row) rows c))
     (λ k p e. let r = here k p e in (r.0, subst (λ (v : Vec NeedRow Global). Contains v.items r.0) (sym rows) r.1, r.2))
@@ -148,7 +148,7 @@ draft_more s i q old mid new at there so rows outlines is add =
     draft_step s i q old new there so (λ x c. subst (λ (l : List NeedRow). Contains l x) (sym more) (Contains-append_left old.rows.items (row ∷ []) x c))
     (λ x c. elim (Contains-push_cases old.rows.items row x (subst (λ (l : List NeedRow). Contains l x) more c)) [
       | inl before ↦ inl before
-      | inr e ↦ inr (at.key, at.addr, subst (IsPointRow s at.key at.addr) e r)
+      | inr e ↦ inr (at.key, at.addr, subst (IsRowOfTablePoint s at.key at.addr) e r)
     ])
     (λ k p e. (row, subst (λ (l : List NeedRow). Contains l row) (sym more) (Contains-push old.rows.items row), row_moves s row at.key k at.addr p (sym is ∙ e) r))
     ((add.2).outlines (subst (λ (v : Vec (Option Outline) Global). OutlinesHaveRows s mid.rows.items v.items) (sym outlines) (subst (λ (v : Vec NeedRow Global). OutlinesHaveRows s v.items old.outlines.items) (sym rows) so.outlines)))
@@ -158,13 +158,13 @@ pub have_rows_still : (s : Source) (rows : List NeedRow) (row : NeedRow) (outlin
 have_rows_still s rows row outlines so node o e = let r = so node o e in (r.0, Contains-append_left rows (row ∷ []) r.0 r.1, r.2)
 
 -- the outline of a new row
-pub have_rows_more : (s : Source) (rows : List NeedRow) (row : NeedRow) (outlines : List (Option Outline)) (node : ℕ) (o : Outline) → IsPlainRow s node o row → node < length outlines → OutlinesHaveRows s rows outlines → OutlinesHaveRows s (rows ++ row ∷ []) (set outlines node (Some o))
+pub have_rows_more : (s : Source) (rows : List NeedRow) (row : NeedRow) (outlines : List (Option Outline)) (node : ℕ) (o : Outline) → IsRowOfOutline s node o row → node < length outlines → OutlinesHaveRows s rows outlines → OutlinesHaveRows s (rows ++ row ∷ []) (set outlines node (Some o))
 have_rows_more s rows row outlines node o plain lt so i x e =
     elim (cases_eq i node) [
       | inl same ↦
           let at : slice_get (set outlines node (Some o)) node ≡ Some (Some o) = slice_get-get_or (set outlines node (Some o)) node None (omega (arith, lt, length-set outlines node (Some o))) ∙ ap (λ (z : Option Outline). Some z) (get_or-set_same outlines node (Some o) None lt) in
           let is : o ≡ x = let f : Some (Some o) ≡ Some (Some x) = sym at ∙ ap (slice_get (set outlines node (Some o))) (sym same) ∙ e in cc in
-          (row, Contains-push rows row, subst (λ (n : ℕ). IsPlainRow s n x row) (sym same) (subst (λ (z : Outline). IsPlainRow s node z row) is plain))
+          (row, Contains-push rows row, subst (λ (n : ℕ). IsRowOfOutline s n x row) (sym same) (subst (λ (z : Outline). IsRowOfOutline s node z row) is plain))
       | inr other ↦
           let within : i < length outlines = omega (arith, slice_get_within (set outlines node (Some o)) i (Some x) e, length-set outlines node (Some o)) in
           let before : slice_get outlines i ≡ Some (Some x) =

@@ -12,13 +12,13 @@ use Rattle.depth_cert.specs.declared.keys.Key.{Key}
 use Rattle.depth_cert.specs.declared.points.Point.{Point}
 use Rattle.depth_cert.specs.Nodes.{NodeData, count_points}
 use Rattle.depth_cert.specs.Certs.{CertData, IsCert}
-use Rattle.cfg_recover.specs.RulesHoldOrFail.{limits_in, Accepts}
+use Rattle.cfg_recover.specs.RulesHoldOrFail.{limits_of_cert, Accepts}
 use Rattle.depth_cert.specs.Keys.{is_same_key}
-use Rattle.cfg_recover.specs.Assignments.{Place, point, exit, is_same_place, known_in}
+use Rattle.cfg_recover.specs.Assignments.{Place, point, exit, is_same_place, assignment_of_cert}
 use Rattle.depth_cert.specs.Known.{Known}
-use Rattle.cfg_recover.specs.CertRefusals.{HasManyNodes, HasManyPoints, IsPastCertLimits}
+use Rattle.cfg_recover.specs.CertRefusals.{HasTooManyNodes, HasTooManyPoints, IsPastCertLimits}
 use Rattle.cfg_recover.proofs.Members.{contains_map, contains_flat}
-use Rattle.depth_maker.specs.DutiesMonotone.{IsGround}
+use Rattle.depth_maker.specs.DutiesMonotone.{AreMakerInputs}
 use Rattle.frame_places.proofs.KeyLaws.{key_tells, key_same}
 use Rattle.depth_maker.proofs.PlaceLaws.{place_tells, place_same}
 use Rattle.depth_maker.proofs.Accepted.{at_point, at_exit}
@@ -74,10 +74,10 @@ length-places (n ∷ ns) =
     omega (arith, one, two, length-map n.points (λ (p : Point). point n.key p.addr), length-places ns)
 
 module _ (cert : CertData) (is_cert : IsCert cert) where
-  node_of_point : (k : Key) (p : ℕ) → IsSome (known_in cert (point k p)) → Contains (map (λ (n : NodeData). n.key) cert.nodes) k × Contains (places_of cert.nodes) (point k p)
+  node_of_point : (k : Key) (p : ℕ) → IsSome (assignment_of_cert cert (point k p)) → Contains (map (λ (n : NodeData). n.key) cert.nodes) k × Contains (places_of cert.nodes) (point k p)
   unfolding places_of
-  node_of_point k p some = at (known_in cert (point k p)) refl some where
-    at : (o : Option Known) → known_in cert (point k p) ≡ o → IsSome o → Contains (map (λ (n : NodeData). n.key) cert.nodes) k × Contains (places_of cert.nodes) (point k p)
+  node_of_point k p some = at (assignment_of_cert cert (point k p)) refl some where
+    at : (o : Option Known) → assignment_of_cert cert (point k p) ≡ o → IsSome o → Contains (map (λ (n : NodeData). n.key) cert.nodes) k × Contains (places_of cert.nodes) (point k p)
     at None e is = absurd (let f : false ≡ true = is in cc)
     at (Some v) e is =
         let a = (at_point cert k p v e).2 in
@@ -88,33 +88,33 @@ module _ (cert : CertData) (is_cert : IsCert cert) where
           subst (λ (z : Key). Contains (places_of cert.nodes) (point z p)) a.key (subst (λ (z : ℕ). Contains (places_of cert.nodes) (point (a.node).key z)) a.addr outer),
         )
 
-  node_of_exit : (k : Key) → IsSome (known_in cert (exit k)) → Contains (map (λ (n : NodeData). n.key) cert.nodes) k
-  node_of_exit k some = at (known_in cert (exit k)) refl some where
-    at : (o : Option Known) → known_in cert (exit k) ≡ o → IsSome o → Contains (map (λ (n : NodeData). n.key) cert.nodes) k
+  node_of_exit : (k : Key) → IsSome (assignment_of_cert cert (exit k)) → Contains (map (λ (n : NodeData). n.key) cert.nodes) k
+  node_of_exit k some = at (assignment_of_cert cert (exit k)) refl some where
+    at : (o : Option Known) → assignment_of_cert cert (exit k) ≡ o → IsSome o → Contains (map (λ (n : NodeData). n.key) cert.nodes) k
     at None e is = absurd (let f : false ≡ true = is in cc)
     at (Some v) e is = let a = (at_exit cert k v e).2 in subst (Contains (map (λ (n : NodeData). n.key) cert.nodes)) a.key (contains_map (λ (n : NodeData). n.key) cert.nodes a.node a.member)
 
-  few_nodes : HasManyNodes (known_in cert) → ⊥
+  few_nodes : HasTooManyNodes (assignment_of_cert cert) → ⊥
   few_nodes h =
       let le = no_more is_same_key key_tells key_same h.keys (map (λ (n : NodeData). n.key) cert.nodes) h.distinct
       (λ k c.
       let s = h.stand k c in
       elim s.2 [
-        | inl e ↦ node_of_exit k (subst (λ (y : Place). IsSome (known_in cert y)) e s.1)
-        | inr e ↦ (node_of_point k e.0 (subst (λ (y : Place). IsSome (known_in cert y)) e.1 s.1)).0
+        | inl e ↦ node_of_exit k (subst (λ (y : Place). IsSome (assignment_of_cert cert y)) e s.1)
+        | inr e ↦ (node_of_point k e.0 (subst (λ (y : Place). IsSome (assignment_of_cert cert y)) e.1 s.1)).0
       ]) in
       absurd (omega (arith, h.more, is_cert.few, length-map cert.nodes (λ (n : NodeData). n.key), le))
 
-  few_points : HasManyPoints (known_in cert) → ⊥
+  few_points : HasTooManyPoints (assignment_of_cert cert) → ⊥
   few_points h =
       let le = no_more is_same_place place_tells place_same h.places (places_of cert.nodes) h.distinct
       (λ y c.
       let s = h.stand y c in
-      subst (Contains (places_of cert.nodes)) (sym (s.1).2) (node_of_point (s.1).0 (s.1).1 (subst (λ (y : Place). IsSome (known_in cert y)) (s.1).2 s.0)).1) in
+      subst (Contains (places_of cert.nodes)) (sym (s.1).2) (node_of_point (s.1).0 (s.1).1 (subst (λ (y : Place). IsSome (assignment_of_cert cert y)) (s.1).2 s.0)).1) in
       absurd (omega (arith, h.more, is_cert.points, length-places cert.nodes, le))
 
-  pub cert_within : IsPastCertLimits (known_in cert) → ⊥
+  pub cert_within : IsPastCertLimits (assignment_of_cert cert) → ⊥
   cert_within h = elim h [ inl n ↦ few_nodes n | inr n ↦ few_points n ]
 
-pub accepted_within : (image : ImageData) (plan : PlanData) (cert : CertData) → IsGround (limits_in plan cert) image plan → image.entry < 2 ^ 32 → IsCert cert → Accepts image plan cert → IsPastCertLimits (known_in cert) → ⊥
+pub accepted_within : (image : ImageData) (plan : PlanData) (cert : CertData) → AreMakerInputs (limits_of_cert plan cert) image plan → image.entry < 2 ^ 32 → IsCert cert → Accepts image plan cert → IsPastCertLimits (assignment_of_cert cert) → ⊥
 accepted_within image plan cert ground entry is_cert accepted = cert_within cert is_cert

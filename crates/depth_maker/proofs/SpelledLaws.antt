@@ -16,26 +16,26 @@ use Rattle.value_domain.specs.declared.values.Val.TheVariants.{Set, Span}
 use Rattle.value_domain.specs.declared.states.State.{State}
 use Rattle.value_domain.specs.Limits.{Limits}
 use Rattle.value_domain.specs.VersionLimits.{limits_for}
-use Rattle.value_domain.specs.Values.{IsValue, any_val}
-use Rattle.value_domain.specs.State.{AreValues}
+use Rattle.value_domain.specs.Values.{IsInLattice, any_val}
+use Rattle.value_domain.specs.State.{AreInLattice}
 use Rattle.value_domain.proofs.RangeLaws.{span_count, set_value}
 use Rattle.depth_cert.specs.declared.keys.Key.{Key}
 use Rattle.depth_cert.specs.declared.points.Point as located
 use Rattle.depth_cert.specs.Keys.{IsKey, number_of_key, is_same_key}
 use Rattle.depth_cert.specs.Points.{IsWellFormedCertValue, IsState, IsPoint, find_point}
 use Rattle.depth_cert.specs.Exits.{IsExit}
-use Rattle.depth_cert.specs.Nodes.{NodeData, IsNode, need_of, count_points}
+use Rattle.depth_cert.specs.Nodes.{NodeData, IsNode, need_or_zero, count_points}
 use Rattle.depth_cert.specs.Certs.{CertData, IsCert}
 use Rattle.cfg_recover.specs.Entries.{start_key}
-use Rattle.cfg_recover.specs.Assignments.{Place, point, exit, Assignment, is_same_place, frame_of_place, known_at, known_in, Closed, Derived, AllFaultless}
+use Rattle.cfg_recover.specs.Assignments.{Place, point, exit, Assignment, is_same_place, key_of_place, known_by_node, assignment_of_cert, Closed, Derived, ArePointsFaultless}
 use Rattle.depth_cert.specs.Known.{Known, state, leaving, exit_if_known}
 use Rattle.depth_cert.specs.WellFormed.{IsWellFormedState, IsWellFormedExit, IsWellFormedKnown}
-use Rattle.depth_maker.specs.LeastCertMade.{AreLeastNeeds, IsLeastClosedCert, needs_in}
+use Rattle.depth_maker.specs.LeastCertMade.{AreLeastNeeds, IsLeastClosedCert, need_in_cert}
 use Rattle.cfg_recover.proofs.Members.{contains_map}
 use Rattle.depth_maker.specs.AssignmentCounts.{ListsPointsAndFrames}
-use Rattle.depth_maker.specs.DutiesMonotone.{IsGround}
-use Rattle.frame_places.specs.Spots.{AreRangedSpots, is_point_of, spot_address, spot_number}
-use Rattle.depth_maker.specs.SpelledCert.{HasSpelledCcpns, spelled_addresses_in, spelled_cert_with, spelled_node_at, spelled_point_at, spelled_state_at}
+use Rattle.depth_maker.specs.DutiesMonotone.{AreMakerInputs}
+use Rattle.frame_places.specs.Spots.{ArePointsInRange, is_point_of, spot_address, spot_order_number}
+use Rattle.depth_maker.specs.SpelledCert.{HasByteCcpns, addresses_in_frame, cert_of_assignment, node_of_assignment, point_of_assignment, state_or_blank}
 use Rattle.depth_maker.specs.SpotsAsPlaces.{place_of_spot}
 use Rattle.frame_places.specs.declared.places.Spot.{Spot}
 use Rattle.frame_places.specs.declared.places.Spot.TheVariants.{Point, Exit}
@@ -54,11 +54,11 @@ use Rattle.depth_cert.proofs.KeyLaws.{one_number}
 
 -- ---- values
 -- a value at the limits is one that certificates of the format may have
-pub well_of : (plan : PlanData) (version : ℕ) (v : Val) → IsValue (limits_for plan version) v → IsWellFormedCertValue version v
+pub well_of : (plan : PlanData) (version : ℕ) (v : Val) → IsInLattice (limits_for plan version) v → IsWellFormedCertValue version v
 well_of plan version (Set ws) is = let well = is.well in (well, (set_value (limits_for plan version) ws well).1 is)
 well_of plan version (Span lo last step) is = let well = is.well in (well.0, span_count (limits_for plan version) lo last step is, well.2)
 
-values_well : (plan : PlanData) (version : ℕ) (vs : List Val) → AreValues (limits_for plan version) vs → All (IsWellFormedCertValue version) vs
+values_well : (plan : PlanData) (version : ℕ) (vs : List Val) → AreInLattice (limits_for plan version) vs → All (IsWellFormedCertValue version) vs
 values_well plan version vs are k d lt = subst (IsWellFormedCertValue version) (sym (get_or_default vs k d any_val lt)) (well_of plan version (get_or vs k any_val) (are k lt))
 
 -- what is there
@@ -86,10 +86,10 @@ at_most_one ks distinct (Exit j) = none ks where
     zero_sum [] = refl
     zero_sum (k ∷ ks) = zero_sum ks
 
-module _ (b : Limits) (image : ImageData) (plan : PlanData) (ground : IsGround b image plan) (a : Assignment)
-    (derived : Derived b image plan a) (closed : Closed b image plan a) (faultless : AllFaultless b image plan a)
+module _ (b : Limits) (image : ImageData) (plan : PlanData) (ground : AreMakerInputs b image plan) (a : Assignment)
+    (derived : Derived b image plan a) (closed : Closed b image plan a) (faultless : ArePointsFaultless b image plan a)
     (fs : List Key) (qs : List Spot) (counted : ListsPointsAndFrames a (map place_of_spot qs) fs) (few_points : length qs ≤ 2 ^ 16) (few_frames : length fs ≤ 2048)
-    (ks : List Key) (ps : List Spot) (frames : IsPermutation fs ks) (points : IsPermutation qs ps) (rising_points : IsNonDecreasingBy spot_number ps) where
+    (ks : List Key) (ps : List Spot) (frames : IsPermutation fs ks) (points : IsPermutation qs ps) (rising_points : IsNonDecreasingBy spot_order_number ps) where
   -- ---- frames and points
   kind : (y : Place) (v : Known) → a y ≡ Some v → IsOfKind y v
   kind = derived_kinds b image plan a derived
@@ -100,8 +100,8 @@ module _ (b : Limits) (image : ImageData) (plan : PlanData) (ground : IsGround b
   in_range : (y : Place) (v : Known) → a y ≡ Some v → IsInRange y
   in_range = derived_in_range b image plan ground a derived
 
-  known_frame : (y : Place) → IsSome (a y) → Contains ks (frame_of_place y)
-  known_frame y h = Contains-permutation fs ks (frame_of_place y) frames (counted.frames y h)
+  known_frame : (y : Place) → IsSome (a y) → Contains ks (key_of_place y)
+  known_frame y h = Contains-permutation fs ks (key_of_place y) frames (counted.frames y h)
 
   entered : (k : Key) → Contains ks k → IsSome (a (point k k.entry))
   entered k c = counted.entered k (Contains-permutation ks fs k (IsPermutation-sym fs ks frames) c)
@@ -141,15 +141,15 @@ module _ (b : Limits) (image : ImageData) (plan : PlanData) (ground : IsGround b
 
     rising_kept : IsNonDecreasingBy spot_address kept
     rising_kept i j d le lt =
-        let up = IsNonDecreasingBy-filter spot_number (is_point_of k) ps rising_points i j d le lt in
-        let one : spot_number (get_or kept i d) ≡ number_of_key k * 2 ^ 32 + spot_address (get_or kept i d) = ap spot_number (of_frame i d (omega (arith, le, lt))) in
-        let two : spot_number (get_or kept j d) ≡ number_of_key k * 2 ^ 32 + spot_address (get_or kept j d) = ap spot_number (of_frame j d lt) in
-        below (number_of_key k) (spot_number (get_or kept i d)) (spot_number (get_or kept j d)) (spot_address (get_or kept i d)) (spot_address (get_or kept j d)) up one two
+        let up = IsNonDecreasingBy-filter spot_order_number (is_point_of k) ps rising_points i j d le lt in
+        let one : spot_order_number (get_or kept i d) ≡ number_of_key k * 2 ^ 32 + spot_address (get_or kept i d) = ap spot_order_number (of_frame i d (omega (arith, le, lt))) in
+        let two : spot_order_number (get_or kept j d) ≡ number_of_key k * 2 ^ 32 + spot_address (get_or kept j d) = ap spot_order_number (of_frame j d lt) in
+        below (number_of_key k) (spot_order_number (get_or kept i d)) (spot_order_number (get_or kept j d)) (spot_address (get_or kept i d)) (spot_address (get_or kept j d)) up one two
       where
         below : (n x y p q : ℕ) → x ≤ y → x ≡ n * 2 ^ 32 + p → y ≡ n * 2 ^ 32 + q → p ≤ q
         below n x y p q le e f = omega arith
 
-    rising_addresses : IsStrictlyIncreasing (spelled_addresses_in ps k)
+    rising_addresses : IsStrictlyIncreasing (addresses_in_frame ps k)
     rising_addresses = strict spot_address kept (Exit no_key) rising_kept (λ i lt e.
         let x = get_or kept i (Exit no_key) in
         let y = get_or kept (i + 1) (Exit no_key) in
@@ -159,12 +159,12 @@ module _ (b : Limits) (image : ImageData) (plan : PlanData) (ground : IsGround b
         cc)
 
     -- the addresses are those of the known points
-    has_address : (p : ℕ) → IsSome (a (point k p)) → Contains (spelled_addresses_in ps k) p
+    has_address : (p : ℕ) → IsSome (a (point k p)) → Contains (addresses_in_frame ps k) p
     has_address p h =
         let there = Contains-permutation qs ps (Point k p) points (placed qs k p (counted.points k p h)) in
         contains_map spot_address (filter (is_point_of k) ps) (Point k p) (filter_has (is_point_of k) ps (Point k p) there (key_same k))
 
-    pub address_known : (p : ℕ) → Contains (spelled_addresses_in ps k) p → IsSome (a (point k p))
+    pub address_known : (p : ℕ) → Contains (addresses_in_frame ps k) p → IsSome (a (point k p))
     address_known p c =
         let m = contained_map spot_address (filter (is_point_of k) ps) p c in
         let f = has_filter (is_point_of k) ps m.0 m.1 in
@@ -173,7 +173,7 @@ module _ (b : Limits) (image : ImageData) (plan : PlanData) (ground : IsGround b
         (counted.known (point k p) (contains_map place_of_spot qs (Point k p) there)).0
 
   -- all points of the list may be in a certificate
-  pub are_ranged : AreRangedSpots ps
+  pub are_ranged : ArePointsInRange ps
   are_ranged q c =
       let m = contains_map place_of_spot qs q (Contains-permutation ps qs q (IsPermutation-sym qs ps points) c) in
       let known = counted.known (place_of_spot q) m in
@@ -186,43 +186,43 @@ module _ (b : Limits) (image : ImageData) (plan : PlanData) (ground : IsGround b
 
   -- ---- the certificate
   module _ (rising_frames : IsNonDecreasingBy (λ (k : Key). number_of_key k) ks) (version : ℕ) (known_version : (version ≡ 1) ⊎ (version ≡ 2)) (of_version : b ≡ limits_for plan version) (need : Key → ℕ) (needs : AreLeastNeeds b image plan a need) (few : (k : Key) → need k ≤ plan.areas - plan.reserve) (areas : plan.areas ≤ 4096)
-      (bytes : All (λ k. HasSpelledCcpns (spelled_node_at a need (spelled_addresses_in ps) k)) ks) where
+      (bytes : All (λ k. HasByteCcpns (node_of_assignment a need (addresses_in_frame ps) k)) ks) where
     abbrev node : Key → NodeData
-    node k = spelled_node_at a need (spelled_addresses_in ps) k
+    node k = node_of_assignment a need (addresses_in_frame ps) k
 
     abbrev cert : CertData
-    cert = spelled_cert_with version a need (spelled_addresses_in ps) ks
+    cert = cert_of_assignment version a need (addresses_in_frame ps) ks
 
     found : (k : Key) → Contains ks k → find (λ n. is_same_key n.key k) cert.nodes ≡ Some (node k)
-    found k c = find_mapped (λ n. is_same_key n.key k) (spelled_node_at a need (spelled_addresses_in ps)) k (key_same k) (λ z e. ap (spelled_node_at a need (spelled_addresses_in ps)) (key_tells z k e)) ks c
+    found k c = find_mapped (λ n. is_same_key n.key k) (node_of_assignment a need (addresses_in_frame ps)) k (key_same k) (λ z e. ap (node_of_assignment a need (addresses_in_frame ps)) (key_tells z k e)) ks c
 
     not_found : (k : Key) → (Contains ks k → ⊥) → find (λ n. is_same_key n.key k) cert.nodes ≡ None
     not_found k absent =
-        find_unmapped (λ n. is_same_key n.key k) (spelled_node_at a need (spelled_addresses_in ps)) ks
+        find_unmapped (λ n. is_same_key n.key k) (node_of_assignment a need (addresses_in_frame ps)) ks
         (λ z c. elim (cases_Bool (is_same_key z k)) [ inl e ↦ absurd (absent (subst (Contains ks) (key_tells z k e) c)) | inr e ↦ e ])
 
-    point_found : (k : Key) (p : ℕ) → Contains (spelled_addresses_in ps k) p → find_point p (node k).points ≡ Some (spelled_point_at a k p)
-    point_found k p c = find_mapped (λ (q : located.Point). eqb q.addr p) (spelled_point_at a k) p (eq-eqb p p refl) (λ z e. ap (spelled_point_at a k) (eqb-true z p e)) (spelled_addresses_in ps k) c
+    point_found : (k : Key) (p : ℕ) → Contains (addresses_in_frame ps k) p → find_point p (node k).points ≡ Some (point_of_assignment a k p)
+    point_found k p c = find_mapped (λ (q : located.Point). eqb q.addr p) (point_of_assignment a k) p (eq-eqb p p refl) (λ z e. ap (point_of_assignment a k) (eqb-true z p e)) (addresses_in_frame ps k) c
 
-    point_not_found : (k : Key) (p : ℕ) → (Contains (spelled_addresses_in ps k) p → ⊥) → find_point p (node k).points ≡ None
+    point_not_found : (k : Key) (p : ℕ) → (Contains (addresses_in_frame ps k) p → ⊥) → find_point p (node k).points ≡ None
     point_not_found k p absent =
-        find_unmapped (λ (q : located.Point). eqb q.addr p) (spelled_point_at a k) (spelled_addresses_in ps k)
-        (λ z c. elim (cases_Bool (eqb z p)) [ inl e ↦ absurd (absent (subst (Contains (spelled_addresses_in ps k)) (eqb-true z p e) c)) | inr e ↦ e ])
+        find_unmapped (λ (q : located.Point). eqb q.addr p) (point_of_assignment a k) (addresses_in_frame ps k)
+        (λ z c. elim (cases_Bool (eqb z p)) [ inl e ↦ absurd (absent (subst (Contains (addresses_in_frame ps k)) (eqb-true z p e) c)) | inr e ↦ e ])
 
     -- ---- what it says
-    unknown : (y : Place) → (Contains ks (frame_of_place y) → ⊥) → None ≡ a y
+    unknown : (y : Place) → (Contains ks (key_of_place y) → ⊥) → None ≡ a y
     unknown y absent = at (a y) refl where
       at : (o : Option Known) → a y ≡ o → None ≡ a y
       at None e = sym e
       at (Some v) e = absurd (absent (known_frame y (some_of (a y) v e)))
 
-    state_back : (k : Key) (p : ℕ) → IsSome (a (point k p)) → Some (state (spelled_state_at (a (point k p)))) ≡ a (point k p)
+    state_back : (k : Key) (p : ℕ) → IsSome (a (point k p)) → Some (state (state_or_blank (a (point k p)))) ≡ a (point k p)
     state_back k p h = let v = value_in (a (point k p)) h in at v.0 v.1 (kind (point k p) v.0 v.1) where
-      at : (v : Known) → a (point k p) ≡ Some v → IsOfKind (point k p) v → Some (state (spelled_state_at (a (point k p)))) ≡ a (point k p)
-      at (state s) e h = ap (λ (o : Option Known). Some (state (spelled_state_at o))) e ∙ sym e
+      at : (v : Known) → a (point k p) ≡ Some v → IsOfKind (point k p) v → Some (state (state_or_blank (a (point k p)))) ≡ a (point k p)
+      at (state s) e h = ap (λ (o : Option Known). Some (state (state_or_blank o))) e ∙ sym e
       at (leaving x) e h = absurd h
 
-    none_back : (k : Key) (p : ℕ) → (Contains (spelled_addresses_in ps k) p → ⊥) → None ≡ a (point k p)
+    none_back : (k : Key) (p : ℕ) → (Contains (addresses_in_frame ps k) p → ⊥) → None ≡ a (point k p)
     none_back k p absent = at (a (point k p)) refl where
       at : (o : Option Known) → a (point k p) ≡ o → None ≡ a (point k p)
       at None e = sym e
@@ -235,35 +235,35 @@ module _ (b : Limits) (image : ImageData) (plan : PlanData) (ground : IsGround b
       at (Some (leaving x)) e = ap (λ (o : Option Known). option_map leaving (exit_if_known o)) e ∙ sym e
       at (Some (state s)) e = absurd (kind (exit k) (state s) e)
 
-    known_point : (k : Key) (p : ℕ) → known_at (point k p) (node k) ≡ a (point k p)
+    known_point : (k : Key) (p : ℕ) → known_by_node (point k p) (node k) ≡ a (point k p)
     known_point k p =
-        elim (has_or_not eqb (λ x y e. eqb-true x y e) (λ x. eq-eqb x x refl) (spelled_addresses_in ps k) p) [
+        elim (has_or_not eqb (λ x y e. eqb-true x y e) (λ x. eq-eqb x x refl) (addresses_in_frame ps k) p) [
           | inl c ↦ ap (option_map (λ (q : located.Point). state q.state)) (point_found k p c) ∙ state_back k p (address_known k p c)
           | inr n ↦ ap (option_map (λ (q : located.Point). state q.state)) (point_not_found k p n) ∙ none_back k p n
         ]
 
-    known_node : (y : Place) → known_at y (node (frame_of_place y)) ≡ a y
+    known_node : (y : Place) → known_by_node y (node (key_of_place y)) ≡ a y
     known_node (point k p) = known_point k p
     known_node (exit k) = exit_back k
 
-    pub known_same : (y : Place) → known_in cert y ≡ a y
+    pub known_same : (y : Place) → assignment_of_cert cert y ≡ a y
     known_same y =
-        elim (has_or_not is_same_key key_tells key_same ks (frame_of_place y)) [
-          | inl c ↦ ap (option_and_then (known_at y)) (found (frame_of_place y) c) ∙ known_node y
-          | inr n ↦ ap (option_and_then (known_at y)) (not_found (frame_of_place y) n) ∙ unknown y n
+        elim (has_or_not is_same_key key_tells key_same ks (key_of_place y)) [
+          | inl c ↦ ap (option_and_then (known_by_node y)) (found (key_of_place y) c) ∙ known_node y
+          | inr n ↦ ap (option_and_then (known_by_node y)) (not_found (key_of_place y) n) ∙ unknown y n
         ]
 
     -- ---- what it keeps
-    states : (k : Key) (p : ℕ) → ((spelled_point_at a k p).state).ccpn < 2 ^ 8 → Contains (spelled_addresses_in ps k) p → IsPoint version (spelled_point_at a k p)
+    states : (k : Key) (p : ℕ) → ((point_of_assignment a k p).state).ccpn < 2 ^ 8 → Contains (addresses_in_frame ps k) p → IsPoint version (point_of_assignment a k p)
     states k p byte c = let v = value_in (a (point k p)) (address_known k p c) in at v.0 v.1 (kind (point k p) v.0 v.1) where
-      at : (v : Known) → a (point k p) ≡ Some v → IsOfKind (point k p) v → IsPoint version (spelled_point_at a k p)
+      at : (v : Known) → a (point k p) ≡ Some v → IsOfKind (point k p) v → IsPoint version (point_of_assignment a k p)
       at (leaving x) e h = absurd h
       at (state s) e h =
-          let is : s ≡ spelled_state_at (a (point k p)) = sym (ap spelled_state_at e) in
+          let is : s ≡ state_or_blank (a (point k p)) = sym (ap state_or_blank e) in
           let good : IsWellFormedState b s = well_formed (point k p) (state s) e in
           let same : IsState version s = record {
             regs = good.regs;
-            values = values_well plan version s.regs (subst (λ (b : Limits). AreValues b s.regs) of_version good.values);
+            values = values_well plan version s.regs (subst (λ (b : Limits). AreInLattice b s.regs) of_version good.values);
             ccpn = subst (λ (z : State). z.ccpn < 2 ^ 8) (sym is) byte;
             locals = let le = good.few in omega (arith, le, ap (λ (b : Limits). b.most_locals) of_version);
           } in
@@ -272,83 +272,83 @@ module _ (b : Limits) (image : ImageData) (plan : PlanData) (ground : IsGround b
     exits_are : (k : Key) (o : Option Known) → a (exit k) ≡ o → IfSome (exit_if_known o) (λ e. e.ccpn < 2 ^ 8) → IfSome (exit_if_known o) (λ e. ((k.kind ≡ 1) ⊎ (k.kind ≡ 3)) × IsExit version e)
     exits_are k (Some (leaving x)) e byte =
         let good : IsWellFormedExit b x = well_formed (exit k) (leaving x) e in
-        ((in_range (exit k) (leaving x) e).1, record { lower = good.regs; values = values_well plan version x.lower (subst (λ (b : Limits). AreValues b x.lower) of_version good.values); ccpn = byte })
+        ((in_range (exit k) (leaving x) e).1, record { lower = good.regs; values = values_well plan version x.lower (subst (λ (b : Limits). AreInLattice b x.lower) of_version good.values); ccpn = byte })
     exits_are k _ e byte = tt
 
     node_is : (k : Key) → Contains ks k → IsNode version (node k)
     node_is k c =
-        let byte = All-contains (λ k. HasSpelledCcpns (spelled_node_at a need (spelled_addresses_in ps) k)) ks k bytes c in
+        let byte = All-contains (λ k. HasByteCcpns (node_of_assignment a need (addresses_in_frame ps) k)) ks k bytes c in
         record {
           key = frame_key k c;
           need = let le = few k in omega (arith, le, areas);
           exit = exits_are k (a (exit k)) refl byte.exit;
-          rising = subst IsStrictlyIncreasing (sym (map_twice (λ (q : located.Point). q.addr) (spelled_point_at a k) (spelled_addresses_in ps k) ∙ map-id (spelled_addresses_in ps k))) (rising_addresses k);
+          rising = subst IsStrictlyIncreasing (sym (map_twice (λ (q : located.Point). q.addr) (point_of_assignment a k) (addresses_in_frame ps k) ∙ map-id (addresses_in_frame ps k))) (rising_addresses k);
           points =
-              All-map (IsPoint version) (spelled_point_at a k) (spelled_addresses_in ps k)
-              (λ i d lt. states k (get_or (spelled_addresses_in ps k) i d)
-              (subst (λ (q : located.Point). (q.state).ccpn < 2 ^ 8) (get_or-map (spelled_point_at a k) (spelled_addresses_in ps k) i d (spelled_point_at a k d) lt)
-              (byte.points i (spelled_point_at a k d) (omega (arith, lt, length-map (spelled_addresses_in ps k) (spelled_point_at a k)))))
-              (Contains-get_or (spelled_addresses_in ps k) i d lt));
+              All-map (IsPoint version) (point_of_assignment a k) (addresses_in_frame ps k)
+              (λ i d lt. states k (get_or (addresses_in_frame ps k) i d)
+              (subst (λ (q : located.Point). (q.state).ccpn < 2 ^ 8) (get_or-map (point_of_assignment a k) (addresses_in_frame ps k) i d (point_of_assignment a k d) lt)
+              (byte.points i (point_of_assignment a k d) (omega (arith, lt, length-map (addresses_in_frame ps k) (point_of_assignment a k)))))
+              (Contains-get_or (addresses_in_frame ps k) i d lt));
         }
 
     few_kept : count_points cert.nodes ≤ 2 ^ 16
     few_kept =
-        let one : count_points (map (spelled_node_at a need (spelled_addresses_in ps)) ks) ≡ sum_by (λ k. length (map (spelled_point_at a k) (spelled_addresses_in ps k))) ks = sum_twice (λ (n : NodeData). length n.points) (spelled_node_at a need (spelled_addresses_in ps)) ks in
-        let two : sum_by (λ k. length (map (spelled_point_at a k) (spelled_addresses_in ps k))) ks ≡ sum_by (λ k. length (filter (is_point_of k) ps)) ks =
-        ap (λ (f : Key → ℕ). sum_by f ks) (λ i k. (length-map (spelled_addresses_in ps k) (spelled_point_at a k) ∙ length-map (filter (is_point_of k) ps) spot_address) i) in
+        let one : count_points (map (node_of_assignment a need (addresses_in_frame ps)) ks) ≡ sum_by (λ k. length (map (point_of_assignment a k) (addresses_in_frame ps k))) ks = sum_twice (λ (n : NodeData). length n.points) (node_of_assignment a need (addresses_in_frame ps)) ks in
+        let two : sum_by (λ k. length (map (point_of_assignment a k) (addresses_in_frame ps k))) ks ≡ sum_by (λ k. length (filter (is_point_of k) ps)) ks =
+        ap (λ (f : Key → ℕ). sum_by f ks) (λ i k. (length-map (addresses_in_frame ps k) (point_of_assignment a k) ∙ length-map (filter (is_point_of k) ps) spot_address) i) in
         omega (arith, one, two, sum_of_filters is_point_of ks (at_most_one ks distinct_frames) ps, length_permutation qs ps points, few_points)
 
     is_cert : IsCert cert
     is_cert = record {
       version = known_version;
-      few = omega (arith, length-map ks (spelled_node_at a need (spelled_addresses_in ps)), length_permutation fs ks frames, few_frames);
-      rising = subst IsStrictlyIncreasing (sym (map_twice (λ (n : NodeData). number_of_key n.key) (spelled_node_at a need (spelled_addresses_in ps)) ks)) (rising_keys rising_frames);
-      nodes = All-map (IsNode version) (spelled_node_at a need (spelled_addresses_in ps)) ks (λ i d lt. node_is (get_or ks i d) (Contains-get_or ks i d lt));
+      few = omega (arith, length-map ks (node_of_assignment a need (addresses_in_frame ps)), length_permutation fs ks frames, few_frames);
+      rising = subst IsStrictlyIncreasing (sym (map_twice (λ (n : NodeData). number_of_key n.key) (node_of_assignment a need (addresses_in_frame ps)) ks)) (rising_keys rising_frames);
+      nodes = All-map (IsNode version) (node_of_assignment a need (addresses_in_frame ps)) ks (λ i d lt. node_is (get_or ks i d) (Contains-get_or ks i d lt));
       points = few_kept;
     }
 
     entries : (n : NodeData) → Contains cert.nodes n → IsSome (find_point (n.key).entry n.points)
     entries n c =
-        let m = contained_map (spelled_node_at a need (spelled_addresses_in ps)) ks n c in
+        let m = contained_map (node_of_assignment a need (addresses_in_frame ps)) ks n c in
         subst (λ (n : NodeData). IsSome (find_point (n.key).entry n.points)) m.2
         (subst (λ (o : Option located.Point). IsSome o) (sym (point_found m.0 (m.0).entry (has_address m.0 (m.0).entry (entered m.0 m.1)))) refl)
 
     -- ---- its needs
-    need_here : (k : Key) → Contains ks k → needs_in cert k ≡ need k
-    need_here k c = ap need_of (found k c)
+    need_here : (k : Key) → Contains ks k → need_in_cert cert k ≡ need k
+    need_here k c = ap need_or_zero (found k c)
 
-    need_agrees : (y : Place) (v : Known) → a y ≡ Some v → need (frame_of_place y) ≡ needs_in cert (frame_of_place y)
-    need_agrees y v e = sym (need_here (frame_of_place y) (known_frame y (some_of (a y) v e)))
+    need_agrees : (y : Place) (v : Known) → a y ≡ Some v → need (key_of_place y) ≡ need_in_cert cert (key_of_place y)
+    need_agrees y v e = sym (need_here (key_of_place y) (known_frame y (some_of (a y) v e)))
 
-    least_needs : AreLeastNeeds b image plan a (needs_in cert)
+    least_needs : AreLeastNeeds b image plan a (need_in_cert cert)
     least_needs = record {
-      meets = meets_alike b image plan a need (needs_in cert) closed need_agrees needs.meets;
+      meets = meets_alike b image plan a need (need_in_cert cert) closed need_agrees needs.meets;
       least = λ other m k.
           elim (has_or_not is_same_key key_tells key_same ks k) [
             | inl c ↦ (let le = needs.least other m k in omega (arith, le, need_here k c))
-            | inr n ↦ (let e : needs_in cert k ≡ 0 = ap need_of (not_found k n) in omega (arith, e))
+            | inr n ↦ (let e : need_in_cert cert k ≡ 0 = ap need_or_zero (not_found k n) in omega (arith, e))
           ];
     }
 
-    start_few : needs_in cert (start_key image plan) ≤ plan.areas - plan.reserve
+    start_few : need_in_cert cert (start_key image plan) ≤ plan.areas - plan.reserve
     start_few =
         let o = closed.start in
         let c = known_frame (point (start_key image plan) image.entry) (some_of (a (point (start_key image plan) image.entry)) o.known o.at) in
         let le = few (start_key image plan) in
         omega (arith, le, need_here (start_key image plan) c)
 
-    pub is_written : IsLeastClosedCert image plan version (spelled_cert_with version a need (spelled_addresses_in ps) ks)
+    pub is_written : IsLeastClosedCert image plan version (cert_of_assignment version a need (addresses_in_frame ps) ks)
     is_written =
-        let same : known_in cert ≡ a = λ i y. known_same y i in
+        let same : assignment_of_cert cert ≡ a = λ i y. known_same y i in
         record {
           is_cert = is_cert;
           of_version = refl;
           entries = entries;
-          derived = subst (λ (b : Limits). Derived b image plan (known_in cert)) of_version (subst (Derived b image plan) (sym same) derived);
-          closed = subst (λ (b : Limits). Closed b image plan (known_in cert)) of_version (subst (Closed b image plan) (sym same) closed);
-          faultless = subst (λ (b : Limits). AllFaultless b image plan (known_in cert)) of_version (subst (AllFaultless b image plan) (sym same) faultless);
+          derived = subst (λ (b : Limits). Derived b image plan (assignment_of_cert cert)) of_version (subst (Derived b image plan) (sym same) derived);
+          closed = subst (λ (b : Limits). Closed b image plan (assignment_of_cert cert)) of_version (subst (Closed b image plan) (sym same) closed);
+          faultless = subst (λ (b : Limits). ArePointsFaultless b image plan (assignment_of_cert cert)) of_version (subst (ArePointsFaultless b image plan) (sym same) faultless);
           needs =
-              subst (λ (b : Limits). AreLeastNeeds b image plan (known_in cert) (needs_in cert)) of_version
-              (subst (λ (c : Assignment). AreLeastNeeds b image plan c (needs_in cert)) (sym same) least_needs);
+              subst (λ (b : Limits). AreLeastNeeds b image plan (assignment_of_cert cert) (need_in_cert cert)) of_version
+              (subst (λ (c : Assignment). AreLeastNeeds b image plan c (need_in_cert cert)) (sym same) least_needs);
           start = start_few;
         }

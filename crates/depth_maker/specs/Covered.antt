@@ -5,7 +5,7 @@ use Rattle.value_domain.specs.Limits.{Limits}
 use Rattle.depth_cert.specs.declared.keys.Key.{Key}
 use Rattle.depth_cert.specs.Known.{Known}
 use Rattle.depth_cert.specs.WellFormed.{IsWellFormedKnown}
-use Rattle.cfg_recover.specs.Assignments.{Assignment, CoversAt, point}
+use Rattle.cfg_recover.specs.Assignments.{Assignment, AssignmentCovers, point}
 use Rattle.depth_maker.specs.InterruptHandlers.{AreContextsCovered}
 use Rattle.depth_maker.specs.declared.covered.CoveredEntries.{CoveredEntries}
 use Rattle.depth_maker.specs.declared.last_call.LastCall.{LastCall}
@@ -18,7 +18,7 @@ called_key h t = record { kind = call_kind; entry = t; prio = h.prio; is = h.is 
 -- the entry points of the functions of this noted call cover the state with which they are called
 pub record AreCallsCovered (b : Limits) (a : Assignment) (h : LastCall) : Type 0 where
   pub well_formed : IsWellFormedKnown b h.entry
-  pub each : (t : ℕ) → Contains h.targets.items t → CoversAt a (point (called_key h t) t) h.entry
+  pub each : (t : ℕ) → Contains h.targets.items t → AssignmentCovers a (point (called_key h t) t) h.entry
 
 -- a call of these functions, from a frame of this key, with this state at their entries
 pub record IsCallOf (h : LastCall) (k : Key) (ts : List ℕ) (v : Known) : Type 0 where

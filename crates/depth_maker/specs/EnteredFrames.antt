@@ -6,7 +6,7 @@ use Rattle.value_domain.specs.Limits.{Limits}
 use Rattle.value_domain.specs.declared.states.State.{State}
 use Rattle.depth_cert.specs.declared.keys.Key.{Key}
 use Rattle.cfg_recover.specs.Code.{IsCode}
-use Rattle.cfg_recover.specs.LocalRules.{LocalRule}
+use Rattle.cfg_recover.specs.LocalRules.{LocalRuleHolds}
 use Rattle.elf_image.specs.Images.{ImageData}
 use Rattle.tc_isa.specs.InBounds.{IsShape}
 use Rattle.frame_places.specs.declared.places.Spot.{Spot}
@@ -15,21 +15,21 @@ use Rattle.cfg_recover.specs.Duties.{entry_duties_of, misaligned_duties_of, ente
 
 -- where K10 holds, an instruction of this shape owes no entry of a frame, whatever the state;
 -- interrupts apart
-abbrev pub EntersNoFrame : PlanData → Shape → Type 0
-EntersNoFrame plan shape =
-    (b : Limits) (k : Key) (p : ℕ) (u : State) (n : ℕ) → LocalRule b plan k p u shape 10 → (entered_keys (entry_duties_of plan k p u shape n) ≡ []) × (entered_keys (misaligned_duties_of b plan k u shape) ≡ [])
+abbrev pub ShapeEntersNoFrame : PlanData → Shape → Type 0
+ShapeEntersNoFrame plan shape =
+    (b : Limits) (k : Key) (p : ℕ) (u : State) (n : ℕ) → LocalRuleHolds b plan k p u shape 10 → (entered_keys (entry_duties_of plan k p u shape n) ≡ []) × (entered_keys (misaligned_duties_of b plan k u shape) ≡ [])
 
 -- the instruction at this address enters no frame by a call, a system call or a misaligned access,
 -- whatever the state
-pub record EntersNoFrameAt (image : ImageData) (plan : PlanData) (p : ℕ) : Type 0 where
+pub record InstructionEntersNoFrame (image : ImageData) (plan : PlanData) (p : ℕ) : Type 0 where
   pub shape : Shape
   pub size : ℕ
   pub code : IsCode image plan p shape size
   pub shaped : IsShape shape
-  pub enters : EntersNoFrame plan shape
+  pub enters : ShapeEntersNoFrame plan shape
 
 -- the instruction at a place enters no frame by a call, system call or misaligned access; an exit
 -- has no instruction
-abbrev pub EntersNoFrameIn : ImageData → PlanData → Spot → Type 0
-EntersNoFrameIn image plan (Point k p) = EntersNoFrameAt image plan p
-EntersNoFrameIn image plan (Exit k) = Unit {0}
+abbrev pub PlaceEntersNoFrame : ImageData → PlanData → Spot → Type 0
+PlaceEntersNoFrame image plan (Point k p) = InstructionEntersNoFrame image plan p
+PlaceEntersNoFrame image plan (Exit k) = Unit {0}

@@ -6,11 +6,11 @@ use Rattle.value_domain.specs.declared.values.Val.{Val}
 use Rattle.value_domain.specs.declared.states.State.{State}
 use Rattle.value_domain.specs.Limits.{Limits}
 use Rattle.vd_transfer.specs.Registers.{a10_of}
-use Rattle.value_domain.specs.Values.{join_of, IsBelow, IsValue, word_val}
+use Rattle.value_domain.specs.Values.{join_of, IsBelow, IsInLattice, word_val}
 use Rattle.depth_cert.specs.Known.{state}
 use Rattle.depth_cert.specs.WellFormed.{IsWellFormedState}
-use Rattle.cfg_recover.specs.Assignments.{Assignment, CoversAt, point}
-use Rattle.cfg_recover.specs.Entries.{entry_state_with, irq_key}
+use Rattle.cfg_recover.specs.Assignments.{Assignment, AssignmentCovers, point}
+use Rattle.cfg_recover.specs.Entries.{state_with_stack, irq_key}
 use Rattle.depth_maker.specs.declared.interrupt_contexts.InterruptContext.{InterruptContext}
 use Rattle.depth_maker.specs.declared.interrupt_contexts.LastInterrupts.{LastInterrupts}
 use Rattle.indexmap.specs.IndexMap.{IndexMap}
@@ -26,13 +26,13 @@ context_stack plan h = if h.is then h.sp else word_val plan.isp
 -- the interrupt handler of priority p has its entry covered in the assignment, as it is entered
 -- from the noted context
 pub record IsHandlerCovered (b : Limits) (plan : PlanData) (a : Assignment) (h : InterruptContext) (p : ℕ) : Type 0 where
-  pub well_formed : IsWellFormedState b (entry_state_with (context_stack plan h) false p true)
-  pub covers : CoversAt a (point (irq_key plan p) (irq_key plan p).entry) (state (entry_state_with (context_stack plan h) false p true))
+  pub well_formed : IsWellFormedState b (state_with_stack (context_stack plan h) false p true)
+  pub covers : AssignmentCovers a (point (irq_key plan p) (irq_key plan p).entry) (state (state_with_stack (context_stack plan h) false p true))
 
 -- all interrupt handlers above the noted context's priority have their entries covered in the
 -- assignment
 pub record AreHandlersCovered (b : Limits) (plan : PlanData) (a : Assignment) (h : InterruptContext) : Type 0 where
-  pub stack : IsValue b h.sp
+  pub stack : IsInLattice b h.sp
   pub each : (p : ℕ) → Contains plan.irqs p → h.ccpn < p → IsHandlerCovered b plan a h p
 
 -- the handlers' entries are covered in a noted interrupt context; nothing is said if none is noted
@@ -68,7 +68,7 @@ pub record IsWithinContext (h : InterruptContext) (inner : Bool) (s : State) : T
 
 -- the maker's list of interrupt handlers: each has its interrupt's priority, and its frame's number
 -- if the frame is one of these
-pub record AreHandlers (plan : PlanData) (frames : List Key) (irqs : List ℕ) (handlers : List Handler) : Type 0 where
+pub record AreHandlersOfIrqs (plan : PlanData) (frames : List Key) (irqs : List ℕ) (handlers : List Handler) : Type 0 where
   pub priorities : map (λ h. h.prio) handlers ≡ irqs
   pub each : (h : Handler) → Contains handlers h → Contains frames (irq_key plan h.prio) → h.node ≡ frame_number_in frames (irq_key plan h.prio)
 
@@ -85,11 +85,11 @@ taken_handlers ie m handlers = if ie then handler_nodes_above m handlers else []
 -- their frames' numbers
 pub record AreNumberedHandlers {S : Type 0} (plan : PlanData) (numbers : IndexMap Key ℕ S) (handlers : List Handler) (frames : List Key) : Type 0 where
   pub all : AreFrameNumbers numbers frames frames
-  pub taken : AreHandlers plan frames plan.irqs handlers
+  pub taken : AreHandlersOfIrqs plan frames plan.irqs handlers
 
 -- the last noted interrupt context covers the handlers' entries from each frame with this CCPN, on
 -- this stack
-pub record AreInterruptsCoveredAt (t : made.Table) (is : Bool) (ccpn : ℕ) : Type 0 where
+pub record AreInterruptsCoveredForCcpn (t : made.Table) (is : Bool) (ccpn : ℕ) : Type 0 where
   pub context : InterruptContext
   pub last : (t.covered).interrupts.last ≡ Some context
   pub within : (s : State) → s.ccpn ≡ ccpn → IsWithinContext context is s

@@ -11,56 +11,56 @@ use Rattle.depth_cert.specs.declared.points.Exit.{Exit}
 use Rattle.depth_cert.specs.Exits.{ExitCovers}
 use Rattle.depth_cert.specs.Known.{state, leaving}
 use Rattle.depth_cert.specs.Points.{find_point}
-use Rattle.depth_cert.specs.Nodes.{NodeData, need_of}
+use Rattle.depth_cert.specs.Nodes.{NodeData, need_or_zero}
 use Rattle.depth_cert.specs.Certs.{CertData, IsCert}
 use Rattle.cfg_recover.specs.Entries.{start_key}
 use Rattle.cfg_recover.specs.RulesHoldOrFail.{Accepts}
 use Rattle.depth_cert.specs.Keys.{is_same_key}
-use Rattle.cfg_recover.specs.Assignments.{Derived, Closed, IsBelowAt, known_in, point, exit, AllFaultless, Assignment}
-use Rattle.cfg_recover.specs.CertRefusals.{IsLeastAssignment, MeetsNeeds}
+use Rattle.cfg_recover.specs.Assignments.{Derived, Closed, IsAssignmentBelow, assignment_of_cert, point, exit, ArePointsFaultless, Assignment}
+use Rattle.cfg_recover.specs.CertRefusals.{IsLeastAssignment, AreSufficientNeeds}
 use Rattle.depth_cert.specs.Spelling.{bytes_of_cert}
 use Rattle.value_domain.specs.Limits.{Limits}
 
 -- the needs that a certificate states for its frames, which are the least in the least certificate;
 -- a frame without a node needs nothing
-abbrev pub needs_in : CertData → Key → ℕ
-needs_in cert k = need_of (find (λ n. is_same_key n.key k) cert.nodes)
+abbrev pub need_in_cert : CertData → Key → ℕ
+need_in_cert cert k = need_or_zero (find (λ n. is_same_key n.key k) cert.nodes)
 
 -- the least certificate is no worse than another one: the other covers what it says, and has no
 -- lesser need of a frame
 pub record IsNoWorse (image : ImageData) (plan : PlanData) (cert other : CertData) : Type 0 where
-  pub below : IsBelowAt (known_in cert) (known_in other)
-  pub needs : (k : Key) → needs_in cert k ≤ needs_in other k
+  pub below : IsAssignmentBelow (assignment_of_cert cert) (assignment_of_cert other)
+  pub needs : (k : Key) → need_in_cert cert k ≤ need_in_cert other k
 
 -- what the least certificate states as the needs of its frames: the least numbers of areas that
 -- meet the needs of its assignment
 pub record AreLeastNeeds (b : Limits) (image : ImageData) (plan : PlanData) (a : Assignment) (need : Key → ℕ) : Type 0 where
-  pub meets : MeetsNeeds b image plan a need
-  pub least : (other : Key → ℕ) → MeetsNeeds b image plan a other → (k : Key) → need k ≤ other k
+  pub meets : AreSufficientNeeds b image plan a need
+  pub least : (other : Key → ℕ) → AreSufficientNeeds b image plan a other → (k : Key) → need k ≤ other k
 
 -- the certificate is the least of its format: accepted, with the least assignment and the least
 -- needs
-pub record IsMade (image : ImageData) (plan : PlanData) (version : ℕ) (cert : CertData) : Type 0 where
+pub record IsLeastCert (image : ImageData) (plan : PlanData) (version : ℕ) (cert : CertData) : Type 0 where
   pub of_version : cert.version ≡ version
   pub accepted : Accepts image plan cert
-  pub least : IsLeastAssignment (limits_for plan version) image plan (known_in cert)
-  pub needs : AreLeastNeeds (limits_for plan version) image plan (known_in cert) (needs_in cert)
+  pub least : IsLeastAssignment (limits_for plan version) image plan (assignment_of_cert cert)
+  pub needs : AreLeastNeeds (limits_for plan version) image plan (assignment_of_cert cert) (need_in_cert cert)
   pub best : (other : CertData) → IsCert other → other.version ≡ version → Accepts image plan other → IsNoWorse image plan cert other
 
 -- a made certificate is the least: it is accepted, and each accepted one of its format covers its
 -- points and exits and has no lesser need of a frame
-pub record IsLeastAccepted (image : ImageData) (plan : PlanData) (version : ℕ) (cert : CertData) : Type 0 where
+pub record IsLeastAcceptedCert (image : ImageData) (plan : PlanData) (version : ℕ) (cert : CertData) : Type 0 where
   pub its_version : cert.version ≡ version
   pub accepts : Accepts image plan cert
   pub frames :
       (other : CertData) (k : Key) → IsCert other → other.version ≡ version → Accepts image plan other
-      → need_of (find (λ n. is_same_key n.key k) cert.nodes) ≤ need_of (find (λ n. is_same_key n.key k) other.nodes)
+      → need_or_zero (find (λ n. is_same_key n.key k) cert.nodes) ≤ need_or_zero (find (λ n. is_same_key n.key k) other.nodes)
   pub points :
       (other : CertData) (k : Key) (p : ℕ) (s : State) → IsCert other → other.version ≡ version → Accepts image plan other
-      → known_in cert (point k p) ≡ Some (state s) → (t : State) × (known_in other (point k p) ≡ Some (state t)) × Covers t s
+      → assignment_of_cert cert (point k p) ≡ Some (state s) → (t : State) × (assignment_of_cert other (point k p) ≡ Some (state t)) × Covers t s
   pub exits :
       (other : CertData) (k : Key) (x : Exit) → IsCert other → other.version ≡ version → Accepts image plan other
-      → known_in cert (exit k) ≡ Some (leaving x) → (y : Exit) × (known_in other (exit k) ≡ Some (leaving y)) × ExitCovers y x
+      → assignment_of_cert cert (exit k) ≡ Some (leaving x) → (y : Exit) × (assignment_of_cert other (exit k) ≡ Some (leaving y)) × ExitCovers y x
 
 -- what the maker proves of a written certificate: derived, closed, without faults, with the least
 -- needs, the start's within the areas
@@ -68,15 +68,15 @@ pub record IsLeastClosedCert (image : ImageData) (plan : PlanData) (version : �
   pub is_cert : IsCert cert
   pub of_version : cert.version ≡ version
   pub entries : (n : NodeData) → Contains cert.nodes n → IsSome (find_point (n.key).entry n.points)
-  pub derived : Derived (limits_for plan version) image plan (known_in cert)
-  pub closed : Closed (limits_for plan version) image plan (known_in cert)
-  pub faultless : AllFaultless (limits_for plan version) image plan (known_in cert)
-  pub needs : AreLeastNeeds (limits_for plan version) image plan (known_in cert) (needs_in cert)
-  pub start : needs_in cert (start_key image plan) ≤ plan.areas - plan.reserve
+  pub derived : Derived (limits_for plan version) image plan (assignment_of_cert cert)
+  pub closed : Closed (limits_for plan version) image plan (assignment_of_cert cert)
+  pub faultless : ArePointsFaultless (limits_for plan version) image plan (assignment_of_cert cert)
+  pub needs : AreLeastNeeds (limits_for plan version) image plan (assignment_of_cert cert) (need_in_cert cert)
+  pub start : need_in_cert cert (start_key image plan) ≤ plan.areas - plan.reserve
 
 -- the bytes spell the least certificate of this format
 pub record AreLeastCertBytes (image : ImageData) (plan : PlanData) (version : ℕ) (bytes : List ℕ) : Type 0 where
   pub cert : CertData
   pub spell : bytes ≡ bytes_of_cert cert
   pub is_cert : IsCert cert
-  pub made : IsMade image plan version cert
+  pub made : IsLeastCert image plan version cert

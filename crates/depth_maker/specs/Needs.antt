@@ -4,7 +4,7 @@ use Rattle.std.specs.declared.vec.Vec.{Vec}
 use Rattle.std.specs.declared.alloc.Global.{Global}
 use Rattle.depth_cert.specs.declared.keys.Key.{Key}
 use Rattle.cfg_recover.specs.Entries.{start_key}
-use Rattle.cfg_recover.specs.CertRefusals.{MeetsNeeds}
+use Rattle.cfg_recover.specs.CertRefusals.{AreSufficientNeeds}
 use Rattle.depth_maker.specs.LeastCertMade.{AreLeastNeeds}
 use Rattle.depth_maker.specs.Recursing.{IsFirstRecursion}
 use Rattle.depth_maker.specs.TableView.{view_of_table}
@@ -22,14 +22,14 @@ AreLeastNeedsOrTooMany s (Some needs) =
     AreLeastNeeds (s.ground.now).bounds.now (s.ground.now).image.now (s.ground.now).plan.now (view_of_table s.table.now).cells (need_of_frame (s.table.now).frames.items needs.items)
     × ((k : Key) → need_of_frame (s.table.now).frames.items needs.items k ≤ ((s.ground.now).plan.now).areas - ((s.ground.now).plan.now).reserve)
 AreLeastNeedsOrTooMany s None =
-    (need : Key → ℕ) → MeetsNeeds (s.ground.now).bounds.now (s.ground.now).image.now (s.ground.now).plan.now (view_of_table s.table.now).cells need
+    (need : Key → ℕ) → AreSufficientNeeds (s.ground.now).bounds.now (s.ground.now).image.now (s.ground.now).plan.now (view_of_table s.table.now).cells need
     → ((s.ground.now).plan.now).areas - ((s.ground.now).plan.now).reserve < need (start_key (s.ground.now).image.now (s.ground.now).plan.now)
 
 -- the least needs of the table's frames; or the start's is above the areas without the reserve,
 -- with the first recursion, if any
-abbrev pub LeastNeedsOrRecursion : Source → Result (Vec ℕ Global) (Option (Key × ℕ)) → Type 0
-LeastNeedsOrRecursion s (Ok needs) = AreLeastNeedsOrTooMany s (Some needs)
-LeastNeedsOrRecursion s (Err place) = AreLeastNeedsOrTooMany s None × IsFirstRecursion s place
+abbrev pub IsLeastNeedsOrRecursion : Source → Result (Vec ℕ Global) (Option (Key × ℕ)) → Type 0
+IsLeastNeedsOrRecursion s (Ok needs) = AreLeastNeedsOrTooMany s (Some needs)
+IsLeastNeedsOrRecursion s (Err place) = AreLeastNeedsOrTooMany s None × IsFirstRecursion s place
 
 -- these are the least needs of the frames of the maker's table, by numbers, and none is above the
 -- areas without the reserve

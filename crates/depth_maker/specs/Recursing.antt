@@ -3,10 +3,10 @@ use Rattle.std.specs.Prelude.{◌≤◌, ℕ, Bool, List, [], ◌∷◌, ◌++�
 use Rattle.value_domain.specs.declared.states.State.{State}
 use Rattle.depth_cert.specs.declared.keys.Key.{Key}
 use Rattle.depth_cert.specs.Keys.{number_of_key}
-use Rattle.cfg_recover.specs.CertRefusals.{Recurs, IsRefusedRecursion}
+use Rattle.cfg_recover.specs.CertRefusals.{EntersRecursion, IsRefusedRecursion}
 use Rattle.cfg_recover.specs.Assignments.{EntersInAssignment}
 use Rattle.frame_places.specs.Numbers.{frame_number_in}
-use Rattle.frame_places.specs.NodeGraph.{AreEdges, IsNodeMarked}
+use Rattle.frame_places.specs.NodeGraph.{AreEdgesOfRows, IsNodeMarked}
 use Rattle.depth_maker.specs.Rows.{RowsOn}
 use Rattle.depth_maker.specs.TableView.{view_of_table}
 use Rattle.frame_places.specs.declared.places.Spot.{Spot}
@@ -17,38 +17,38 @@ use Rattle.depth_maker.specs.declared.rows.Source.{Source}
 
 -- in the assignment of the maker's table, the point p of the frame k with the state u enters the
 -- frame t
-abbrev pub RecursionEnters : Source → Key → ℕ → State → Key → Type 0
-RecursionEnters s k p u t = EntersInAssignment (s.ground.now).bounds.now (s.ground.now).image.now (s.ground.now).plan.now (view_of_table s.table.now).cells k p u t
+abbrev pub PointEntersFrame : Source → Key → ℕ → State → Key → Type 0
+PointEntersFrame s k p u t = EntersInAssignment (s.ground.now).bounds.now (s.ground.now).image.now (s.ground.now).plan.now (view_of_table s.table.now).cells k p u t
 
 -- in the maker's table, the point p of the frame k enters a frame from which k is reached
-abbrev pub RecursAt : Source → Key → ℕ → Type 0
-RecursAt s k p = Recurs (s.ground.now).bounds.now (s.ground.now).image.now (s.ground.now).plan.now (view_of_table s.table.now).cells k p
+abbrev pub IsRecursivePoint : Source → Key → ℕ → Type 0
+IsRecursivePoint s k p = EntersRecursion (s.ground.now).bounds.now (s.ground.now).image.now (s.ground.now).plan.now (view_of_table s.table.now).cells k p
 
 -- in the maker's table, the point p of k is the first, by key and address, that enters a frame from
 -- which k is reached
-abbrev pub RecursFirstAt : Source → Key → ℕ → Type 0
-RecursFirstAt s k p = IsRefusedRecursion (s.ground.now).bounds.now (s.ground.now).image.now (s.ground.now).plan.now (view_of_table s.table.now).cells k p
+abbrev pub IsFirstRecursivePoint : Source → Key → ℕ → Type 0
+IsFirstRecursivePoint s k p = IsRefusedRecursion (s.ground.now).bounds.now (s.ground.now).image.now (s.ground.now).plan.now (view_of_table s.table.now).cells k p
 
 -- the first point, by key and address, that enters a frame from which its own is reached; or no
 -- point does
 abbrev pub IsFirstRecursion : Source → Option (Key × ℕ) → Type 0
-IsFirstRecursion s None = (k : Key) (p : ℕ) → RecursAt s k p → ⊥
-IsFirstRecursion s (Some x) = RecursFirstAt s x.0 x.1
+IsFirstRecursion s None = (k : Key) (p : ℕ) → IsRecursivePoint s k p → ⊥
+IsFirstRecursion s (Some x) = IsFirstRecursivePoint s x.0 x.1
 
 -- the edges of the maker's frames, by their numbers: from each point's frame to the frames that the
 -- point enters
 abbrev pub AreTableEdges : Source → List FrameEdge → Type 0
-AreTableEdges s edges = (rows : List NeedRow) × RowsOn s.ground.now s.table.now rows × AreEdges rows edges
+AreTableEdges s edges = (rows : List NeedRow) × RowsOn s.ground.now s.table.now rows × AreEdgesOfRows rows edges
 
 -- the numbers of the keys of the maker's frames, by which recursions are ordered
-abbrev pub recursion_orders_in : Source → List ℕ
-recursion_orders_in s = map number_of_key (s.table.now).frames.items
+abbrev pub frame_key_numbers : Source → List ℕ
+frame_key_numbers s = map number_of_key (s.table.now).frames.items
 
 -- in the maker's table, the point p of the frame k enters a frame that is marked
 pub record EntersMarkedFrame (s : Source) (marks : List Bool) (k : Key) (p : ℕ) : Type 0 where
   pub before : State
   pub next : Key
-  pub enters : RecursionEnters s k p before next
+  pub enters : PointEntersFrame s k p before next
   pub marked : IsNodeMarked marks (frame_number_in (s.table.now).frames.items next)
 
 -- the least address, among these places of the frame k, at which a marked frame is entered; or no
@@ -59,6 +59,6 @@ IsFirstRecursiveAddress s marks k ys (Some p) = EntersMarkedFrame s marks k p ×
 
 -- `new` is the first recursive address among some places and y, if `old` is the first among the
 -- others
-abbrev pub IsFirstRecursiveAddressWith : Source → List Bool → Key → Spot → Option ℕ → Option ℕ → Type 0
-IsFirstRecursiveAddressWith s marks k y old new =
+abbrev pub UpdatesFirstRecursiveAddress : Source → List Bool → Key → Spot → Option ℕ → Option ℕ → Type 0
+UpdatesFirstRecursiveAddress s marks k y old new =
     (ys : List Spot) → IsFirstRecursiveAddress s marks k ys old → IsFirstRecursiveAddress s marks k (ys ++ y ∷ []) new

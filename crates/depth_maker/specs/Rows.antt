@@ -9,12 +9,12 @@ use Rattle.cfg_recover.specs.Assignments.{point, Assignment}
 use Rattle.depth_cert.specs.Known.{Known, state}
 use Rattle.small_states.specs.CompactForms.{IsOutline}
 use Rattle.small_states.specs.declared.known.Outline.{Outline}
-use Rattle.depth_maker.specs.InterruptHandlers.{AreHandlers, taken_handlers}
+use Rattle.depth_maker.specs.InterruptHandlers.{AreHandlersOfIrqs, taken_handlers}
 use Rattle.frame_places.specs.Numbers.{AreFrameNumbers, frame_number_in}
 use Rattle.frame_places.specs.Spots.{spot_eq}
 use Rattle.depth_maker.specs.TableInvariant.{IsLeastClosedTable}
 use Rattle.depth_maker.specs.TableView.{view_of_table}
-use Rattle.depth_maker.specs.VisitDuties.{OwesDutiesOf, visit_duties}
+use Rattle.depth_maker.specs.VisitDuties.{IsFaultlessInstruction, visit_duties}
 use Rattle.depth_maker.specs.declared.inputs_and_limits.Ground.{Ground}
 use Rattle.depth_maker.specs.declared.inputs_and_limits.Visit.{Visit}
 use Rattle.frame_places.specs.declared.places.Spot.TheVariants.{Point}
@@ -33,7 +33,7 @@ use Rattle.cfg_recover.specs.Duties.{duties_of, entered_keys}
 
 -- the row, for the needs, of the point p of frame k with state u: its frame, locals, and the frames
 -- entered, by numbers
-pub record IsRowAt (b : Limits) (image : ImageData) (plan : PlanData) (frames : List Key) (k : Key) (p : ℕ) (u : State) (row : NeedRow) : Type 0 where
+pub record IsRowOfPoint (b : Limits) (image : ImageData) (plan : PlanData) (frames : List Key) (k : Key) (p : ℕ) (u : State) (row : NeedRow) : Type 0 where
   pub found : Located
   pub stands : IsFaultlessShape b image plan k p u found
   pub node : row.node ≡ frame_number_in frames k
@@ -41,51 +41,51 @@ pub record IsRowAt (b : Limits) (image : ImageData) (plan : PlanData) (frames : 
   pub into : row.into.items ≡ map (frame_number_in frames) (entered_keys (duties_of b image plan k p u found.shape found.size))
 
 -- each row is that of a point, and each point has its row
-pub record AreRows (b : Limits) (image : ImageData) (plan : PlanData) (a : Assignment) (frames : List Key) (rows : List NeedRow) : Type 0 where
-  pub sound : (row : NeedRow) → Contains rows row → (k : Key) × (p : ℕ) × (u : State) × (a (point k p) ≡ Some (state u)) × IsRowAt b image plan frames k p u row
-  pub complete : (k : Key) (p : ℕ) (u : State) → a (point k p) ≡ Some (state u) → (row : NeedRow) × Contains rows row × IsRowAt b image plan frames k p u row
+pub record AreRowsOfPoints (b : Limits) (image : ImageData) (plan : PlanData) (a : Assignment) (frames : List Key) (rows : List NeedRow) : Type 0 where
+  pub sound : (row : NeedRow) → Contains rows row → (k : Key) × (p : ℕ) × (u : State) × (a (point k p) ≡ Some (state u)) × IsRowOfPoint b image plan frames k p u row
+  pub complete : (k : Key) (p : ℕ) (u : State) → a (point k p) ≡ Some (state u) → (row : NeedRow) × Contains rows row × IsRowOfPoint b image plan frames k p u row
 
 -- the row of the visited point, from its instruction and its state
-abbrev pub IsVisitedPointRow : Visit → List Key → NeedRow → Type 0
-IsVisitedPointRow v frames row = IsRowAt (v.ground.now).bounds.now (v.ground.now).image.now (v.ground.now).plan.now frames v.key v.addr v.state.now row
+abbrev pub IsRowOfVisitedPoint : Visit → List Key → NeedRow → Type 0
+IsRowOfVisitedPoint v frames row = IsRowOfPoint (v.ground.now).bounds.now (v.ground.now).image.now (v.ground.now).plan.now frames v.key v.addr v.state.now row
 
 -- the visited point's frame, and each frame that the point enters, is among these frames
 pub record AreRowFramesAmong (v : Visit) (frames : List Key) : Type 0 where
   pub own : Contains frames v.key
-  pub entered : (found : Located) → OwesDutiesOf v found → (k : Key) → Contains (entered_keys (visit_duties v found)) k → Contains frames k
+  pub entered : (found : Located) → IsFaultlessInstruction v found → (k : Key) → Contains (entered_keys (visit_duties v found)) k → Contains frames k
 
 -- the rows, for the needs, of all known points of the maker's table
 abbrev pub RowsOn : Ground → made.Table → List NeedRow → Type 0
-RowsOn g t rows = AreRows g.bounds.now g.image.now g.plan.now (view_of_table t).cells t.frames.items rows
+RowsOn g t rows = AreRowsOfPoints g.bounds.now g.image.now g.plan.now (view_of_table t).cells t.frames.items rows
 
 -- what rows are made from: a finished table of the maker, the numbers of its frames, and its
 -- interrupt handlers
 pub record IsRowSource (s : Source) : Type 0 where
   pub done : IsLeastClosedTable s.ground.now s.table.now
   pub numbers : AreFrameNumbers s.numbers.now (s.table.now).frames.items (s.table.now).frames.items
-  pub handlers : AreHandlers (s.ground.now).plan.now (s.table.now).frames.items ((s.ground.now).plan.now).irqs s.handlers.now
+  pub handlers : AreHandlersOfIrqs (s.ground.now).plan.now (s.table.now).frames.items ((s.ground.now).plan.now).irqs s.handlers.now
 
 -- the row, for the needs, of the point p of frame k, by its state in the maker's table
-abbrev pub IsPointRow : Source → Key → ℕ → NeedRow → Type 0
-IsPointRow s k p row =
+abbrev pub IsRowOfTablePoint : Source → Key → ℕ → NeedRow → Type 0
+IsRowOfTablePoint s k p row =
     (u : State) × ((view_of_table s.table.now).cells (point k p) ≡ Some (state u))
-    × IsRowAt (s.ground.now).bounds.now (s.ground.now).image.now (s.ground.now).plan.now (s.table.now).frames.items k p u row
+    × IsRowOfPoint (s.ground.now).bounds.now (s.ground.now).image.now (s.ground.now).plan.now (s.table.now).frames.items k p u row
 
 -- what the maker's table has for this point: its value with its mark, and the number of its frame
-pub record IsKnownRowPoint (s : Source) (at : KnownPoint) : Type 0 where
+pub record IsTablePoint (s : Source) (at : KnownPoint) : Type 0 where
   pub known : get spot_eq (s.table.now).places (Point at.key at.addr) ≡ Some at.known.now
   pub node : at.node ≡ frame_number_in (s.table.now).frames.items at.key
 
 -- ---- equal rows
 -- the row of a point of this frame with this outline, whose instruction enters no frame by itself
-pub record IsPlainRow (s : Source) (number : ℕ) (o : Outline) (row : NeedRow) : Type 0 where
+pub record IsRowOfOutline (s : Source) (number : ℕ) (o : Outline) (row : NeedRow) : Type 0 where
   pub node : row.node ≡ number
   pub held : row.held ≡ o.held
   pub into : row.into.items ≡ taken_handlers o.ie o.ccpn s.handlers.now
 
 -- each outline that a frame's plain points share has its row among these rows
 abbrev pub OutlinesHaveRows : Source → List NeedRow → List (Option Outline) → Type 0
-OutlinesHaveRows s rows outlines = (number : ℕ) (o : Outline) → slice_get outlines number ≡ Some (Some o) → (row : NeedRow) × Contains rows row × IsPlainRow s number o row
+OutlinesHaveRows s rows outlines = (number : ℕ) (o : Outline) → slice_get outlines number ≡ Some (Some o) → (row : NeedRow) × Contains rows row × IsRowOfOutline s number o row
 
 -- the point is plain, and its outline (IE, CCPN, number of locals) is the one that is listed for
 -- its frame
@@ -98,10 +98,10 @@ pub record HasEqualRow (outlines : List (Option Outline)) (node : ℕ) (known : 
 -- ---- one after another
 -- the draft has the rows of the points among the first `count` places of the maker's table
 pub record HasFirstRows (s : Source) (count : ℕ) (draft : RowsDraft) : Type 0 where
-  pub sound : (row : NeedRow) → Contains draft.rows.items row → (k : Key) × (p : ℕ) × IsPointRow s k p row
+  pub sound : (row : NeedRow) → Contains draft.rows.items row → (k : Key) × (p : ℕ) × IsRowOfTablePoint s k p row
   pub complete :
       (k : Key) (p : ℕ) → Contains (take count (keys (s.table.now).places)) (Point k p)
-      → (row : NeedRow) × Contains draft.rows.items row × IsPointRow s k p row
+      → (row : NeedRow) × Contains draft.rows.items row × IsRowOfTablePoint s k p row
   pub outlines : OutlinesHaveRows s draft.rows.items draft.outlines.items
 
 -- one more row is appended to the draft, and the shared outlines still have their rows
@@ -111,4 +111,4 @@ pub record AddsRow (s : Source) (old new : RowsDraft) (row : NeedRow) : Type 0 w
 
 -- the row of this point is appended to the draft of the rows
 abbrev pub AddsPointRow : Source → RowsDraft → RowsDraft → KnownPoint → Type 0
-AddsPointRow s old new at = (row : NeedRow) × IsPointRow s at.key at.addr row × AddsRow s old new row
+AddsPointRow s old new at = (row : NeedRow) × IsRowOfTablePoint s at.key at.addr row × AddsRow s old new row

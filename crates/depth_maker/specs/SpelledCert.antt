@@ -20,7 +20,7 @@ use Rattle.depth_maker.specs.LeastCertMade.{IsLeastClosedCert}
 use Rattle.depth_maker.specs.Needs.{need_of_frame, AreLeastTableNeeds}
 use Rattle.depth_maker.specs.Rows.{IsRowSource}
 use Rattle.depth_maker.specs.TableView.{view_of_table}
-use Rattle.frame_places.specs.PointEntries.{AreEntries, place_at, points_in}
+use Rattle.frame_places.specs.PointEntries.{ArePointEntries, place_of_entry, points_in}
 use Rattle.frame_places.specs.Spots.{is_point_of, spot_address, spot_eq}
 use Rattle.frame_places.specs.declared.ordering.PointEntry.{PointEntry}
 use Rattle.frame_places.specs.declared.places.Spot.{Spot}
@@ -32,34 +32,34 @@ use Rattle.depth_maker.specs.declared.inputs_and_limits.Ground.{Ground}
 
 -- ---- places in order
 -- the addresses of frame k's points, in the order of the list
-abbrev pub spelled_addresses_in : List Spot → Key → List ℕ
-spelled_addresses_in ps k = map spot_address (filter (is_point_of k) ps)
+abbrev pub addresses_in_frame : List Spot → Key → List ℕ
+addresses_in_frame ps k = map spot_address (filter (is_point_of k) ps)
 
 -- ---- nodes
 -- in the certificate that spells the maker's table: a state without values, where none is known
-abbrev pub no_spelled_state : State
-no_spelled_state = record { regs = []; ie = false; ccpn = 0; lower = false; locals = record { items = [] } }
+abbrev pub blank_state : State
+blank_state = record { regs = []; ie = false; ccpn = 0; lower = false; locals = record { items = [] } }
 
 -- the state that the spelled certificate has for a point: the known one
-abbrev pub spelled_state_at : Option Known → State
-spelled_state_at None = no_spelled_state
-spelled_state_at (Some (state s)) = s
-spelled_state_at (Some (leaving x)) = no_spelled_state
+abbrev pub state_or_blank : Option Known → State
+state_or_blank None = blank_state
+state_or_blank (Some (state s)) = s
+state_or_blank (Some (leaving x)) = blank_state
 
 -- the certificate's point at an address of frame k, with the state that the assignment has there
-abbrev pub spelled_point_at : Assignment → Key → ℕ → points.Point
-spelled_point_at a k p = record { addr = p; state = spelled_state_at (a (point k p)) }
+abbrev pub point_of_assignment : Assignment → Key → ℕ → points.Point
+point_of_assignment a k p = record { addr = p; state = state_or_blank (a (point k p)) }
 
 -- the certificate's node of frame k, by an assignment and needs, with points at these addresses
-abbrev pub spelled_node_at : Assignment → (Key → ℕ) → (Key → List ℕ) → Key → NodeData
-spelled_node_at a need addresses k = record { key = k; need = need k; exit = exit_if_known (a (exit k)); points = map (spelled_point_at a k) (addresses k) }
+abbrev pub node_of_assignment : Assignment → (Key → ℕ) → (Key → List ℕ) → Key → NodeData
+node_of_assignment a need addresses k = record { key = k; need = need k; exit = exit_if_known (a (exit k)); points = map (point_of_assignment a k) (addresses k) }
 
 -- the certificate that spells an assignment and needs, with the nodes of these frames
-abbrev pub spelled_cert_with : ℕ → Assignment → (Key → ℕ) → (Key → List ℕ) → List Key → CertData
-spelled_cert_with version a need addresses ks = record { version = version; nodes = map (spelled_node_at a need addresses) ks }
+abbrev pub cert_of_assignment : ℕ → Assignment → (Key → ℕ) → (Key → List ℕ) → List Key → CertData
+cert_of_assignment version a need addresses ks = record { version = version; nodes = map (node_of_assignment a need addresses) ks }
 
 -- each CCPN in a node of the spelled certificate is a byte
-pub record HasSpelledCcpns (n : NodeData) : Type 0 where
+pub record HasByteCcpns (n : NodeData) : Type 0 where
   pub exit : IfSome n.exit (λ e. e.ccpn < 2 ^ 8)
   pub points : All (λ p. (p.state).ccpn < 2 ^ 8) n.points
 
@@ -79,15 +79,15 @@ exit_from_table s k = exit_if_known ((view_of_table s.table.now).cells (exit k))
 
 -- the certificate's point at an address of a frame, with its state in the maker's table
 abbrev pub point_from_table : Source → Key → ℕ → points.Point
-point_from_table s k p = spelled_point_at (view_of_table s.table.now).cells k p
+point_from_table s k p = point_of_assignment (view_of_table s.table.now).cells k p
 
 -- the certificate's node of a frame of the maker's table, with the points of a list
 abbrev pub node_from_table : Source → List ℕ → List Spot → Key → NodeData
-node_from_table s needs ps k = spelled_node_at (view_of_table s.table.now).cells (need_of_frame (s.table.now).frames.items needs) (spelled_addresses_in ps) k
+node_from_table s needs ps k = node_of_assignment (view_of_table s.table.now).cells (need_of_frame (s.table.now).frames.items needs) (addresses_in_frame ps) k
 
 -- the certificate of the maker's table, with the nodes of these frames and their needs
 abbrev pub cert_from_table : Source → ℕ → List ℕ → List Key → List Spot → CertData
-cert_from_table s version needs ks ps = spelled_cert_with version (view_of_table s.table.now).cells (need_of_frame (s.table.now).frames.items needs) (spelled_addresses_in ps) ks
+cert_from_table s version needs ks ps = cert_of_assignment version (view_of_table s.table.now).cells (need_of_frame (s.table.now).frames.items needs) (addresses_in_frame ps) ks
 
 -- what the certificate's bytes are made from: a finished table, the least needs of its frames, and
 -- its points sorted
@@ -97,33 +97,33 @@ pub record IsOrderedCertSource (o : Ordered) : Type 0 where
   pub unique : IsUnique spot_eq ((o.source.now).table.now).places
   pub points : IsPermutation (points_in ((o.source.now).table.now).places) (spots_in_order o)
   pub rising : IsNonDecreasingBy (λ x. x.order) o.points.now
-  pub entries : AreEntries ((o.source.now).table.now).places o.points.now
+  pub entries : ArePointEntries ((o.source.now).table.now).places o.points.now
 
 -- ---- what is appended
 -- the bytes of a point of the maker's table are appended, and its CCPN is a byte
-pub record SpellsTablePoint (s : Source) (k : Key) (p : ℕ) (old new : List ℕ) : Type 0 where
+pub record AppendsTablePoint (s : Source) (k : Key) (p : ℕ) (old new : List ℕ) : Type 0 where
   pub bytes : new ≡ old ++ bytes_of_point (point_from_table s k p)
   pub ccpn : ((point_from_table s k p).state).ccpn < 2 ^ 8
 
 -- the bytes of these points of frame k are appended, and each CCPN is a byte
-pub record SpellsTablePoints (s : Source) (k : Key) (qs : List Spot) (old new : List ℕ) : Type 0 where
+pub record AppendsTablePoints (s : Source) (k : Key) (qs : List Spot) (old new : List ℕ) : Type 0 where
   pub bytes : new ≡ old ++ flat_map (λ q. bytes_of_point (point_from_table s k (spot_address q))) qs
   pub ccpn : All (λ q. ((point_from_table s k (spot_address q)).state).ccpn < 2 ^ 8) qs
 
 -- the bytes of frame k's exit, or of none if none is known, are appended, and its CCPN is a byte
-pub record SpellsTableExit (s : Source) (k : Key) (old new : List ℕ) : Type 0 where
+pub record AppendsTableExit (s : Source) (k : Key) (old new : List ℕ) : Type 0 where
   pub bytes : new ≡ old ++ bytes_of_exit (exit_from_table s k)
   pub ccpn : IfSome (exit_from_table s k) (λ e. e.ccpn < 2 ^ 8)
 
 -- the bytes of frame k's node are appended, and each CCPN in the node is a byte
-pub record SpellsTableNode (o : Ordered) (k : Key) (old new : List ℕ) : Type 0 where
+pub record AppendsTableNode (o : Ordered) (k : Key) (old new : List ℕ) : Type 0 where
   pub bytes : new ≡ old ++ bytes_of_node (node_from_table o.source.now o.needs.now (spots_in_order o) k)
-  pub ccpn : HasSpelledCcpns (node_from_table o.source.now o.needs.now (spots_in_order o) k)
+  pub ccpn : HasByteCcpns (node_from_table o.source.now o.needs.now (spots_in_order o) k)
 
 -- the bytes of the nodes of these frames are appended, and each CCPN in them is a byte
-pub record SpellsTableNodes (o : Ordered) (ks : List Key) (old new : List ℕ) : Type 0 where
+pub record AppendsTableNodes (o : Ordered) (ks : List Key) (old new : List ℕ) : Type 0 where
   pub bytes : new ≡ old ++ flat_map (λ k. bytes_of_node (node_from_table o.source.now o.needs.now (spots_in_order o) k)) ks
-  pub ccpn : All (λ k. HasSpelledCcpns (node_from_table o.source.now o.needs.now (spots_in_order o) k)) ks
+  pub ccpn : All (λ k. HasByteCcpns (node_from_table o.source.now o.needs.now (spots_in_order o) k)) ks
 
 -- these are the frames of the maker's table, in any order
 abbrev pub AreTableFrames : Ordered → List Key → Type 0
@@ -132,7 +132,7 @@ AreTableFrames o ks = IsPermutation ((o.source.now).table.now).frames.items ks
 -- this is the entry of a point of frame k in the maker's table
 pub record IsTablePointEntry (s : Source) (k : Key) (x : PointEntry) : Type 0 where
   pub within : x.entry < length (keys (s.table.now).places)
-  pub is : place_at (s.table.now).places x ≡ Point k (spot_address (place_at (s.table.now).places x))
+  pub is : place_of_entry (s.table.now).places x ≡ Point k (spot_address (place_of_entry (s.table.now).places x))
 
 -- these are entries of points of frame k in the maker's table
 abbrev pub AreTablePointEntries : Source → Key → List PointEntry → Type 0
@@ -148,10 +148,10 @@ AreClosedCertBytes image plan version bytes = (cert : CertData) × (bytes ≡ by
 
 -- the bytes spell a certificate that the maker proves to be the least closed one for the image and
 -- plan of this source
-abbrev pub AreClosedCertBytesOf : Source → ℕ → List ℕ → Type 0
-AreClosedCertBytesOf s version bytes = AreClosedCertBytes (s.ground.now).image.now (s.ground.now).plan.now version bytes
+abbrev pub AreClosedCertBytesFromSource : Source → ℕ → List ℕ → Type 0
+AreClosedCertBytesFromSource s version bytes = AreClosedCertBytes (s.ground.now).image.now (s.ground.now).plan.now version bytes
 
 -- the bytes spell a certificate that the maker proves to be the least closed one, for the image and
 -- the plan at hand
-abbrev pub AreClosedCertBytesOn : Ground → ℕ → List ℕ → Type 0
-AreClosedCertBytesOn g version bytes = (cert : CertData) × (bytes ≡ bytes_of_cert cert) × IsLeastClosedCert g.image.now g.plan.now version cert
+abbrev pub AreClosedCertBytesForInputs : Ground → ℕ → List ℕ → Type 0
+AreClosedCertBytesForInputs g version bytes = (cert : CertData) × (bytes ≡ bytes_of_cert cert) × IsLeastClosedCert g.image.now g.plan.now version cert

@@ -3,7 +3,7 @@ use Rattle.cfg_recover.specs.Assignments.{Place, point, exit}
 use Rattle.frame_places.specs.declared.places.Spot.{Spot}
 use Rattle.frame_places.specs.declared.places.Spot.TheVariants.{Point, Exit}
 use Rattle.std.specs.Prelude.{List}
-use Rattle.frame_places.specs.PointEntries.{places_at}
+use Rattle.frame_places.specs.PointEntries.{places_of_entries}
 use Rattle.frame_places.specs.declared.ordering.PointEntry.{PointEntry}
 use Rattle.depth_maker.specs.declared.rows.Source.{Source}
 use Rattle.depth_maker.specs.declared.spelling.Ordered.{Ordered}
@@ -20,7 +20,7 @@ place_of_spot (Exit k) = exit k
 
 -- the places of these entries of the table
 abbrev pub spots_of_entries : Source → List PointEntry → List Spot
-spots_of_entries s xs = places_at (s.table.now).places xs
+spots_of_entries s xs = places_of_entries (s.table.now).places xs
 
 -- the places of the points that the maker has sorted for the certificate
 abbrev pub spots_in_order : Ordered → List Spot

@@ -7,7 +7,7 @@ use Rattle.depth_cert.specs.Keys.{cert_flag_byte}
 use Rattle.depth_cert.specs.Known.{Known, state, leaving}
 use Rattle.frame_places.specs.declared.places.Spot.TheVariants as spots
 use Rattle.depth_maker.specs.declared.table.Table as made
-use Rattle.frame_places.specs.Marks.{value_for}
+use Rattle.frame_places.specs.Marks.{value_of_place}
 use Rattle.frame_places.specs.Work.{all_work}
 
 -- the level of values: the number of all their members
@@ -27,12 +27,12 @@ level_of_place (Some v) = 1 + level_of_known v
 -- the level of the maker's table, which bounds its visits: the sum of the levels of all known
 -- points and exits
 unfoldable pub level_of_table : made.Table → ℕ
-level_of_table t = sum_by (λ q. level_of_place (value_for t.places q)) t.points.items + sum_by (λ k. level_of_place (value_for t.places (spots.Exit k))) t.frames.items
+level_of_table t = sum_by (λ q. level_of_place (value_of_place t.places q)) t.points.items + sum_by (λ k. level_of_place (value_of_place t.places (spots.Exit k))) t.frames.items
 
 -- the level of the maker's table rose, or level and work list are unchanged
-abbrev pub LevelRises : made.Table → made.Table → Type 0
-LevelRises s t = (level_of_table s < level_of_table t) ⊎ ((level_of_table t ≡ level_of_table s) × (all_work t.work ≡ all_work s.work))
+abbrev pub LevelRisesOrStays : made.Table → made.Table → Type 0
+LevelRisesOrStays s t = (level_of_table s < level_of_table t) ⊎ ((level_of_table t ≡ level_of_table s) × (all_work t.work ≡ all_work s.work))
 
 -- the level of the maker's table rose, or the work list is shorter by one place
-abbrev pub LevelAdvances : made.Table → made.Table → Type 0
-LevelAdvances s t = (level_of_table s < level_of_table t) ⊎ ((level_of_table t ≡ level_of_table s) × (length (all_work s.work) ≡ length (all_work t.work) + 1))
+abbrev pub LevelRisesOrWorkShrinks : made.Table → made.Table → Type 0
+LevelRisesOrWorkShrinks s t = (level_of_table s < level_of_table t) ⊎ ((level_of_table t ≡ level_of_table s) × (length (all_work s.work) ≡ length (all_work t.work) + 1))

@@ -13,24 +13,24 @@ use Rattle.cfg_recover.specs.declared.local_rules.Located.{Located}
 use Rattle.cfg_recover.specs.LocalFaults.{IsFaultlessShape, IsFaultless}
 use Rattle.cfg_recover.specs.Code.{IsCode}
 use Rattle.cfg_recover.specs.Entries.{call_key, call_entry, sys_key, sys_entry}
-use Rattle.cfg_recover.specs.Duties.{Duty, Owed, duties_of, entry_and_return, entry_duties_of, interrupt_duties_of, loaded_for_duties, misaligned_entry, misaligned_duties_of, next_duty_of, owed, successor_duties_of, enter, resume}
-use Rattle.cfg_recover.specs.Assignments.{CoversAt, point}
+use Rattle.cfg_recover.specs.Duties.{Duty, Owed, duties_of, entry_and_return, entry_duties_of, interrupt_duties_of, value_loaded_by_shape, misaligned_entry, misaligned_duties_of, next_duty_of, owed, successor_duties_of, enter, resume}
+use Rattle.cfg_recover.specs.Assignments.{AssignmentCovers, point}
 use Rattle.depth_cert.specs.Known.{Known}
 use Rattle.depth_cert.specs.WellFormed.{IsWellFormedKnown}
 use Rattle.depth_maker.specs.TableView.{view_of_table}
 use Rattle.depth_maker.specs.TableInvariant.{IsDutySettled, TableInvariantHolds}
 use Rattle.depth_maker.specs.SpotsAsPlaces.{spot_of}
-use Rattle.frame_places.specs.Marks.{is_queued, mark_for}
+use Rattle.frame_places.specs.Marks.{is_queued, mark_of_place}
 use Rattle.depth_maker.specs.declared.inputs_and_limits.Visit.{Visit}
-use Rattle.depth_maker.specs.Joins.{JoinKeeps}
+use Rattle.depth_maker.specs.Joins.{JoinKeepsPlaces}
 use Rattle.depth_maker.specs.declared.table.Table as made
 
 -- these duties of the visited point p of frame k, by its state u, are covered in the new table,
 -- unless p is queued
-pub record DutiesJoined (b : Limits) (image : ImageData) (plan : PlanData) (s t : made.Table) (k : Key) (p : ℕ) (u : State) (ds : List Owed) : Type 0 where
+pub record AreDutiesJoined (b : Limits) (image : ImageData) (plan : PlanData) (s t : made.Table) (k : Key) (p : ℕ) (u : State) (ds : List Owed) : Type 0 where
   pub fine : TableInvariantHolds b image plan t
-  pub keeps : JoinKeeps b image plan s t
-  pub settled : is_queued (mark_for t.places (spot_of (point k p))) ≡ false → (d : Owed) → Contains ds d → IsDutySettled (view_of_table t) k p u d.duty
+  pub keeps : JoinKeepsPlaces b image plan s t
+  pub settled : is_queued (mark_of_place t.places (spot_of (point k p))) ≡ false → (d : Owed) → Contains ds d → IsDutySettled (view_of_table t) k p u d.duty
 
 -- the point p of frame k has no fault of its own with the state u, and owes this duty by its
 -- instruction
@@ -54,11 +54,11 @@ OwesDuties v ds = (d : Owed) → Contains ds d → VisitedPointOwes (v.ground.no
 -- the visit takes the first table to the second by joining these duties, unless the point has new
 -- work
 abbrev pub JoinedBy : Visit → made.Table → made.Table → List Owed → Type 0
-JoinedBy v s t ds = DutiesJoined (v.ground.now).bounds.now (v.ground.now).image.now (v.ground.now).plan.now s t v.key v.addr v.state.now ds
+JoinedBy v s t ds = AreDutiesJoined (v.ground.now).bounds.now (v.ground.now).image.now (v.ground.now).plan.now s t v.key v.addr v.state.now ds
 
 -- the located instruction stands at the visited point, and no rule's own part fails there
-abbrev pub OwesDutiesOf : Visit → Located → Type 0
-OwesDutiesOf v found = IsFaultlessShape (v.ground.now).bounds.now (v.ground.now).image.now (v.ground.now).plan.now v.key v.addr v.state.now found
+abbrev pub IsFaultlessInstruction : Visit → Located → Type 0
+IsFaultlessInstruction v found = IsFaultlessShape (v.ground.now).bounds.now (v.ground.now).image.now (v.ground.now).plan.now v.key v.addr v.state.now found
 
 -- the state that the visited point owes on one side of its branch, if that side is possible
 abbrev pub side_state : Visit → Shape → Bool → Option State
@@ -67,15 +67,15 @@ side_state v shape taken = refine_of (v.ground.now).bounds.now (v.ground.now).pl
 -- the state after an instruction of this shape
 abbrev pub state_after_step : Visit → Shape → State
 state_after_step v shape =
-    transfer_of (v.ground.now).bounds.now (v.ground.now).plan.now shape v.state.now (loaded_for_duties (v.ground.now).bounds.now (v.ground.now).image.now (v.ground.now).plan.now v.state.now shape)
+    transfer_of (v.ground.now).bounds.now (v.ground.now).plan.now shape v.state.now (value_loaded_by_shape (v.ground.now).bounds.now (v.ground.now).image.now (v.ground.now).plan.now v.state.now shape)
 
 -- the visited point's duty to go on at the next instruction, with the state after its own
 abbrev pub next_duties : Visit → Located → List Owed
 next_duties v found = next_duty_of (v.ground.now).bounds.now (v.ground.now).image.now (v.ground.now).plan.now v.addr v.state.now found.shape found.size
 
 -- the visited point's duties to go on in its frame, at each successor of its instruction
-abbrev pub jump_duties : Visit → Located → List Owed
-jump_duties v found = successor_duties_of (v.ground.now).bounds.now (v.ground.now).image.now (v.ground.now).plan.now v.addr v.state.now found.shape found.size
+abbrev pub successor_duties : Visit → Located → List Owed
+successor_duties v found = successor_duties_of (v.ground.now).bounds.now (v.ground.now).image.now (v.ground.now).plan.now v.addr v.state.now found.shape found.size
 
 -- the visited point's duties by a call: to enter each function that the call may name, and to go on
 -- at `back` after each return
@@ -84,8 +84,8 @@ call_duties v back targets = flat_map (λ t. entry_and_return 5 (call_key v.key 
 
 -- the visited point's duties by SYSCALL: to enter the handler of system calls, and to go on after
 -- its return
-abbrev pub system_duties : Visit → ℕ → ℕ → List Owed
-system_duties v tin back = entry_and_return 12 (sys_key (v.ground.now).plan.now v.key) (sys_entry (v.ground.now).plan.now v.key v.state.now tin) back
+abbrev pub system_call_duties : Visit → ℕ → ℕ → List Owed
+system_call_duties v tin back = entry_and_return 12 (sys_key (v.ground.now).plan.now v.key) (sys_entry (v.ground.now).plan.now v.key v.state.now tin) back
 
 -- the visited point's duties by a call or SYSCALL: to enter frames, and to go on after their
 -- returns
@@ -127,7 +127,7 @@ resume_duties v back targets = map (λ t. owed 4 (resume (call_key v.key t) back
 abbrev pub IsCoveredEntry : Visit → made.Table → List ℕ → Known → Type 0
 IsCoveredEntry v t targets e =
     IsWellFormedKnown (v.ground.now).bounds.now e
-    × (((d : Owed) → Contains (enter_duties v targets) d → IsDutySettled (view_of_table t) v.key v.addr v.state.now d.duty) → (q : ℕ) → Contains targets q → CoversAt (view_of_table t).cells (point (call_key v.key q) q) e)
+    × (((d : Owed) → Contains (enter_duties v targets) d → IsDutySettled (view_of_table t) v.key v.addr v.state.now d.duty) → (q : ℕ) → Contains targets q → AssignmentCovers (view_of_table t).cells (point (call_key v.key q) q) e)
 
 -- all duties that the visited point owes by its state u are covered in the maker's table
 pub record AllDutiesSettled (b : Limits) (image : ImageData) (plan : PlanData) (t : made.Table) (k : Key) (p : ℕ) (u : State) : Type 0 where

@@ -8,13 +8,13 @@ use Rattle.value_domain.specs.Limits.{Limits}
 use Rattle.depth_cert.specs.declared.keys.Key.{Key}
 use Rattle.depth_cert.specs.declared.points.Exit.{Exit}
 use Rattle.cfg_recover.specs.Code.{IsCode}
-use Rattle.depth_cert.specs.Exits.{state_after_exit}
+use Rattle.depth_cert.specs.Exits.{state_after_return}
 use Rattle.cfg_recover.specs.LocalFaults.{IsFaultless}
 use Rattle.cfg_recover.specs.Duties.{Owed, duties_of, Duty, jump, enter, resume, leave}
 use Rattle.cfg_recover.specs.Assignments.{Place, Assignment}
 use Rattle.depth_cert.specs.Known.{Known}
 use Rattle.depth_cert.specs.WellFormed.{IsWellFormedState, IsWellFormedExit, IsWellFormedKnown}
-use Rattle.depth_maker.specs.DutiesMonotone.{IsGround}
+use Rattle.depth_maker.specs.DutiesMonotone.{AreMakerInputs}
 
 -- each state and exit that an assignment knows is well-formed within these limits
 abbrev pub AllWellFormed : Limits → Assignment → Type 0
@@ -30,9 +30,9 @@ IsWellFormedDuty b (leave x) = IsWellFormedExit b x
 -- the duties of a faultless point with a well-formed state ask for well-formed states and exits
 abbrev pub DutiesAreWellFormed : Type 0
 DutiesAreWellFormed =
-    (b : Limits) (image : ImageData) (plan : PlanData) (key : Key) (p : ℕ) (s : State) (shape : Shape) (n : ℕ) (d : Owed) → IsGround b image plan
+    (b : Limits) (image : ImageData) (plan : PlanData) (key : Key) (p : ℕ) (s : State) (shape : Shape) (n : ℕ) (d : Owed) → AreMakerInputs b image plan
     → IsWellFormedState b s → IsFaultless b image plan key p s → IsCode image plan p shape n → Contains (duties_of b image plan key p s shape n) d → IsWellFormedDuty b d.duty
 
 -- law of the maker: the state after a return is well-formed if the caller's state and the exit are
 abbrev pub ReturnStatesAreWellFormed : Type 0
-ReturnStatesAreWellFormed = (b : Limits) (s : State) (x : Exit) (kind : ℕ) → IsWellFormedState b s → IsWellFormedExit b x → IsWellFormedState b (state_after_exit s x kind)
+ReturnStatesAreWellFormed = (b : Limits) (s : State) (x : Exit) (kind : ℕ) → IsWellFormedState b s → IsWellFormedExit b x → IsWellFormedState b (state_after_return s x kind)

@@ -1,8 +1,8 @@
 // The certificate of an image and a plan, or why there is none.
 ghost use Rattle.std.specs.Prelude.{◌≡◌, ◌⊎◌, IfErr, IfOk};
-ghost use Rattle.depth_maker.specs.Answers.{AreLeastCertBytesOn, HasLimitsOfFormat, IsRightMakeErr, IsRightMakeErrOn, MakeErrHolds, RefusalIsRight};
-ghost use Rattle.depth_maker.specs.LeastCertMade.{AreLeastCertBytes, IsMade};
-ghost use Rattle.depth_maker.specs.SpelledCert.{AreClosedCertBytesOn};
+ghost use Rattle.depth_maker.specs.Answers.{AreLeastCertBytesForInputs, HasLimitsOfFormat, IsRightMakeErr, IsRightMakeErrForInputs, MakeErrHolds, RefusalIsRight};
+ghost use Rattle.depth_maker.specs.LeastCertMade.{AreLeastCertBytes, IsLeastCert};
+ghost use Rattle.depth_maker.specs.SpelledCert.{AreClosedCertBytesForInputs};
 ghost use Rattle.depth_maker.specs.Rows.{IsRowSource};
 ghost use Rattle.depth_maker.specs.TableInvariant.{IsLeastClosedTable};
 ghost use Rattle.depth_maker.specs.declared.answering.MakeErr.TheVariants.{NoMemory};
@@ -56,7 +56,7 @@ impl From<tcd_base::NoMemory> for MakeErr {
 /// Returns the least certificate of format 1 or 2 that the rules accept, or why none is accepted.
 pub fn make(alloc: Global, image: &Image, plan: &Plan, version: u8) -> Result<Cert, MakeErr>
     requires { (version ≡ 1) ⊎ (version ≡ 2) }
-    ensures made { IfOk result (IsMade image.now plan.now version) }
+    ensures made { IfOk result (IsLeastCert image.now plan.now version) }
     ensures refused { IfErr result (IsRightMakeErr image.now plan.now version) }
 {
     let bytes = make_bytes(alloc, image, plan, version)?;
@@ -90,8 +90,8 @@ fn make_bytes(alloc: Global, image: &Image, plan: &Plan, version: u8) -> Result<
 fn make_bytes_within_limits(alloc: Global, ground: &Ground, version: u8) -> Result<Vec<u8>, MakeErr>
     requires version { (version ≡ 1) ⊎ (version ≡ 2) }
     requires limits { HasLimitsOfFormat ground.now version }
-    ensures made { IfOk result (λ out. AreLeastCertBytesOn ground.now version out.items) }
-    ensures refused { IfErr result (IsRightMakeErrOn ground.now version) }
+    ensures made { IfOk result (λ out. AreLeastCertBytesForInputs ground.now version out.items) }
+    ensures refused { IfErr result (IsRightMakeErrForInputs ground.now version) }
 {
     match least_fixpoint(alloc, ground) {
         Ok(table) => cert_bytes_from_table(alloc, ground, &table, version),
@@ -110,7 +110,7 @@ fn cert_bytes_from_table(
     requires done { IsLeastClosedTable ground.now table.now }
     requires version { (version ≡ 1) ⊎ (version ≡ 2) }
     requires limits { HasLimitsOfFormat ground.now version }
-    ensures ok { IfOk result (λ out. AreClosedCertBytesOn ground.now version out.items) }
+    ensures ok { IfOk result (λ out. AreClosedCertBytesForInputs ground.now version out.items) }
     ensures err { IfErr result (MakeErrHolds ground.now) }
 {
     let numbers = frame_number_map(alloc, table.frames.as_slice())?;
@@ -149,7 +149,7 @@ fn cert_bytes_with_needs(alloc: Global, source: &Source, version: u8) -> Result<
     requires source { IsRowSource source.now }
     requires version { (version ≡ 1) ⊎ (version ≡ 2) }
     requires limits { HasLimitsOfFormat source.now.ground.now version }
-    ensures ok { IfOk result (λ out. AreClosedCertBytesOn source.now.ground.now version out.items) }
+    ensures ok { IfOk result (λ out. AreClosedCertBytesForInputs source.now.ground.now version out.items) }
     ensures err { IfErr result (MakeErrHolds source.now.ground.now) }
 {
     match least_frame_needs(alloc, source)? {

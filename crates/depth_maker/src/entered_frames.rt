@@ -2,8 +2,8 @@
 ghost use Rattle.std.specs.Prelude.{◌≡◌, ◌++◌, IfOk, IsTrue, ◌∷◌, [], if◌then◌else◌};
 ghost use Rattle.depth_cert.specs.WellFormed.{IsWellFormedState};
 ghost use Rattle.cfg_recover.specs.Duties.{entered_keys};
-ghost use Rattle.depth_maker.specs.EnteredFrames.{EntersNoFrame};
-ghost use Rattle.depth_maker.specs.VisitDuties.{OwesDutiesOf, access_duties, entry_duties, misaligned_duty};
+ghost use Rattle.depth_maker.specs.EnteredFrames.{ShapeEntersNoFrame};
+ghost use Rattle.depth_maker.specs.VisitDuties.{IsFaultlessInstruction, access_duties, entry_duties, misaligned_duty};
 ghost use Rattle.depth_cert.specs.Known.{state};
 
 use crate::inputs_and_limits::Visit;
@@ -21,7 +21,7 @@ pub(crate) fn entered_frame_keys(
     found: &Located,
 ) -> Result<Vec<Key>, AllocError>
     requires well_formed { IsWellFormedState v.now.ground.now.bounds.now v.now.state.now }
-    requires stands { OwesDutiesOf v.now found.now }
+    requires stands { IsFaultlessInstruction v.now found.now }
     ensures { IfOk result (λ keys. keys.items
         ≡ entered_keys (entry_duties v.now found.now.shape found.now.size)
         ++ entered_keys (access_duties v.now found.now)) }
@@ -38,7 +38,7 @@ pub(crate) fn entered_frame_keys(
 /// Returns true only if an instruction of this shape enters no frame by itself: no call, SYSCALL,
 /// or access for which the plan has traps.
 pub(crate) fn enters_no_frame(plan: &Plan, shape: Shape) -> bool
-    ensures { IsTrue result → EntersNoFrame plan.now shape }
+    ensures { IsTrue result → ShapeEntersNoFrame plan.now shape }
 {
     let trapped = plan.aln;
     match shape {
@@ -54,7 +54,7 @@ pub(crate) fn enters_no_frame(plan: &Plan, shape: Shape) -> bool
 /// access may be misaligned, and the plan has such traps.
 pub(crate) fn may_enter_misaligned_handler(v: &Visit, found: &Located) -> bool
     requires well_formed { IsWellFormedState v.now.ground.now.bounds.now v.now.state.now }
-    requires stands { OwesDutiesOf v.now found.now }
+    requires stands { IsFaultlessInstruction v.now found.now }
     ensures { access_duties v.now found.now ≡ (if result then misaligned_duty v.now ∷ [] else []) }
 {
     let plan = v.ground.plan;

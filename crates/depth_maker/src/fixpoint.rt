@@ -3,10 +3,10 @@ ghost use Rattle.std.specs.Prelude.{◌≡◌, IfOk, IfErr, None};
 ghost use Rattle.indexmap.specs.IndexMap.{get};
 ghost use Rattle.frame_places.specs.declared.places.Spot as spots;
 ghost use Rattle.frame_places.specs.Spots.{spot_eq};
-ghost use Rattle.cfg_recover.specs.SetOperations.{HoldsCachedResults};
-ghost use Rattle.depth_maker.specs.TableInvariant.{TableInvariantHoldsOn, IsLeastClosedTable};
+ghost use Rattle.cfg_recover.specs.SetOperations.{IsCorrectCache};
+ghost use Rattle.depth_maker.specs.TableInvariant.{TableInvariantHoldsForInputs, IsLeastClosedTable};
 ghost use Rattle.depth_maker.specs.Answers.{RefusalIsRight};
-ghost use Rattle.depth_maker.specs.Visits.{NoVisitOpen, VisitsNextPlace, VisitsListedPlaces};
+ghost use Rattle.depth_maker.specs.Visits.{IsNoVisitOpen, VisitsNextPlace, VisitsListedPlaces};
 
 use crate::covered::CoveredEntries;
 use crate::inputs_and_limits::Ground;
@@ -50,7 +50,7 @@ pub(crate) fn least_fixpoint(alloc: Global, ground: &Ground) -> Result<Table, Re
 /// point is on the work list.
 #[inline(never)]
 fn initial_table(alloc: Global, ground: &Ground) -> Result<Table, Refusal>
-    ensures ok { IfOk result (λ t. TableInvariantHoldsOn ground.now t × NoVisitOpen t) }
+    ensures ok { IfOk result (λ t. TableInvariantHoldsForInputs ground.now t × IsNoVisitOpen t) }
     ensures err { IfErr result (RefusalIsRight ground.now) }
 {
     let key = start_key(ground.image, ground.plan);
@@ -93,8 +93,8 @@ fn visit_listed_places(
     table: &mut Table,
     scratch: &mut VisitScratch,
 ) -> Result<bool, Refusal>
-    requires fine { TableInvariantHoldsOn ground.now table.old }
-    requires none { NoVisitOpen table.old }
+    requires fine { TableInvariantHoldsForInputs ground.now table.old }
+    requires none { IsNoVisitOpen table.old }
     ensures { VisitsListedPlaces ground.now table.old table.new result }
 {
     let mut change = identity_change(scratch.state.state());
@@ -125,11 +125,11 @@ fn visit_next_place(
     change: &mut Change,
     cache: &mut OperationCache,
 ) -> Result<bool, Refusal>
-    requires fine { TableInvariantHoldsOn ground.now table.old }
-    requires none { NoVisitOpen table.old }
-    requires results { HoldsCachedResults ground.now.bounds.now cache.old }
+    requires fine { TableInvariantHoldsForInputs ground.now table.old }
+    requires none { IsNoVisitOpen table.old }
+    requires results { IsCorrectCache ground.now.bounds.now cache.old }
     ensures steps { VisitsNextPlace ground.now table.old table.new result }
-    ensures results { HoldsCachedResults ground.now.bounds.now cache.new }
+    ensures results { IsCorrectCache ground.now.bounds.now cache.new }
 {
     let Some(number) = table.work.pop()? else {
         return Ok(false);

@@ -1,5 +1,5 @@
 // What a certificate is made for.
-ghost use Rattle.depth_maker.specs.DutiesMonotone.{IsGround};
+ghost use Rattle.depth_maker.specs.DutiesMonotone.{AreMakerInputs};
 
 use cfg_recover::Located;
 use depth_cert::Key;
@@ -13,7 +13,7 @@ pub(crate) struct Ground<'a> {
     pub(crate) bounds: &'a Bounds,
     pub(crate) image: &'a Image,
     pub(crate) plan: &'a Plan,
-    pub ghost sound: { IsGround bounds.now image.now plan.now },
+    pub ghost sound: { AreMakerInputs bounds.now image.now plan.now },
 }
 
 /// A visited point, and its state.

@@ -1,13 +1,13 @@
 // The last contexts in which interrupts were taken: their handlers' entries are covered.
 ghost use Rattle.std.specs.Prelude.{◌≡◌, IsTrue};
 ghost use Rattle.value_domain.specs.declared.states.State.{State};
-ghost use Rattle.value_domain.specs.Values.{IsBelow, IsValue, IsWellFormed};
-ghost use Rattle.depth_maker.specs.InterruptHandlers.{IsEqualExceptStack, IsContextOf, IsWithinContext, joined_context, AreInterruptsCoveredAt};
+ghost use Rattle.value_domain.specs.Values.{IsBelow, IsInLattice, IsWellFormed};
+ghost use Rattle.depth_maker.specs.InterruptHandlers.{IsEqualExceptStack, IsContextOf, IsWithinContext, joined_context, AreInterruptsCoveredForCcpn};
 ghost use Rattle.vd_transfer.specs.Registers.{a10_of};
 ghost use Rattle.depth_cert.specs.WellFormed.{IsWellFormedState};
 ghost use Rattle.frame_places.specs.declared.places.Spot.TheVariants.{Point};
 ghost use Rattle.frame_places.specs.Numbers.{PlaceHasNumber};
-ghost use Rattle.depth_maker.specs.TableInvariant.{TableInvariantHoldsOn};
+ghost use Rattle.depth_maker.specs.TableInvariant.{TableInvariantHoldsForInputs};
 ghost use Rattle.depth_maker.specs.VisitDuties.{OwesDuties, JoinedBy, KeepsDutiesJoined, interrupt_duties};
 ghost use Rattle.depth_maker.specs.Visits.{VisitInvariantHolds};
 ghost use Rattle.depth_cert.specs.Known.{state};
@@ -79,8 +79,8 @@ impl InterruptContext {
     /// Joins the stack pointer A10 of a state into that of this interrupt context, which then
     /// covers both.
     pub(crate) fn join_stack(&mut self, b: &Bounds, s: &State)
-        requires own { IsValue b.now self.old.sp }
-        requires other { IsValue b.now (a10_of s.now) }
+        requires own { IsInLattice b.now self.old.sp }
+        requires other { IsInLattice b.now (a10_of s.now) }
         ensures { self.new ≡ joined_context b.now self.old (a10_of s.now) }
     {
         self.sp = join(b, &self.sp, &s.regs[A10_SLOT]);
@@ -119,7 +119,7 @@ pub(crate) fn are_interrupts_covered(table: &Table, v: &Visit) -> bool
 /// each frame with this CCPN off the interrupt stack.
 #[inline(always)]
 pub(crate) fn are_interrupts_covered_for_ccpn(table: &Table, is: bool, ccpn: u8) -> bool
-    ensures { IsTrue result → AreInterruptsCoveredAt table.now is ccpn }
+    ensures { IsTrue result → AreInterruptsCoveredForCcpn table.now is ccpn }
 {
     match &table.covered.interrupts.last {
         Some(last) => last.covers_any_stack(is, ccpn),
@@ -131,7 +131,7 @@ pub(crate) fn are_interrupts_covered_for_ccpn(table: &Table, is: bool, ccpn: u8)
 /// work. One that differs only in A10 is joined. A call of its own, since it has room for a value.
 #[inline(never)]
 pub(crate) fn note_covered_interrupts(table: &mut Table, v: &Visit)
-    requires fine { TableInvariantHoldsOn v.now.ground.now table.old }
+    requires fine { TableInvariantHoldsForInputs v.now.ground.now table.old }
     requires near { PlaceHasNumber table.old.places table.old.near (Point v.now.key v.now.addr) }
     requires well_formed { IsWellFormedState v.now.ground.now.bounds.now v.now.state.now }
     requires on { IsTrue v.now.state.now.ie }

@@ -2,7 +2,7 @@
 ghost use Rattle.std.specs.Prelude.{◌≡◌, ◌≤◌, ◌<◌, ◌+◌, ◌++◌, ◌∷◌, [], List, IfOk, OnOk, length, vec_len, vec_capacity};
 ghost use Rattle.depth_cert.specs.declared.keys.Key as keys;
 ghost use Rattle.frame_places.specs.Numbers.{AreFrameNumbers};
-ghost use Rattle.depth_maker.specs.InterruptHandlers.{AreHandlers, handler_nodes_above, taken_handlers};
+ghost use Rattle.depth_maker.specs.InterruptHandlers.{AreHandlersOfIrqs, handler_nodes_above, taken_handlers};
 
 use cfg_recover::irq_key;
 use depth_cert::Key;
@@ -27,7 +27,7 @@ pub(crate) fn all_handlers(
 ) -> Result<Vec<Handler>, AllocError>
     ensures { IfOk result (λ handlers. (frames : List keys.Key)
         → AreFrameNumbers numbers.now frames frames
-        → AreHandlers plan.now frames plan.now.irqs handlers.items) }
+        → AreHandlersOfIrqs plan.now frames plan.now.irqs handlers.items) }
 {
     let irqs = plan.irqs.as_slice();
     let mut handlers = Vec::new(alloc);

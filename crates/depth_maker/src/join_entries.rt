@@ -2,11 +2,11 @@
 ghost use Rattle.std.specs.Prelude.{◌≡◌, OnOk, IfErr, [], ◌∷◌, ℕ};
 ghost use Rattle.tc_isa.specs.InBounds.{IsShape};
 ghost use Rattle.vd_transfer.specs.Changes.{state_after};
-ghost use Rattle.cfg_recover.specs.Entries.{irqs_of};
+ghost use Rattle.cfg_recover.specs.Entries.{possible_irqs_of};
 ghost use Rattle.cfg_recover.specs.FlowDuties.{duties_of_irqs};
 ghost use Rattle.frame_places.specs.declared.places.Spot.TheVariants.{Point, Exit};
 ghost use Rattle.depth_maker.specs.Answers.{RefusalIsRight};
-ghost use Rattle.depth_maker.specs.VisitDuties.{OwesDuties, JoinedBy, OwesDutiesOf, access_duties, entry_duties, interrupt_duties, misaligned_duty, system_duties, enter_duties, OwesDuty};
+ghost use Rattle.depth_maker.specs.VisitDuties.{OwesDuties, JoinedBy, IsFaultlessInstruction, access_duties, entry_duties, interrupt_duties, misaligned_duty, system_call_duties, enter_duties, OwesDuty};
 ghost use Rattle.depth_maker.specs.Visits.{VisitInvariantHolds};
 ghost use Rattle.cfg_recover.specs.Entries as entries;
 ghost use Rattle.cfg_recover.specs.Duties.{owed, enter, resume, entry_and_return};
@@ -63,7 +63,7 @@ pub(crate) fn join_access_duties(
     found: &Located,
 ) -> Result<(), Refusal>
     requires visited { VisitInvariantHolds v.now table.old }
-    requires found { OwesDutiesOf v.now found.now }
+    requires found { IsFaultlessInstruction v.now found.now }
     requires owes { OwesDuties v.now (access_duties v.now found.now) }
     ensures ok { OnOk result (JoinedBy v.now table.old table.new (access_duties v.now found.now)) }
     ensures err { IfErr result (RefusalIsRight v.now.ground.now) }
@@ -199,8 +199,8 @@ fn join_system_call_duties(
     back: u32,
 ) -> Result<(), Refusal>
     requires visited { VisitInvariantHolds v.now table.old }
-    requires owes { OwesDuties v.now (system_duties v.now tin back) }
-    ensures ok { OnOk result (JoinedBy v.now table.old table.new (system_duties v.now tin back)) }
+    requires owes { OwesDuties v.now (system_call_duties v.now tin back) }
+    ensures ok { OnOk result (JoinedBy v.now table.old table.new (system_call_duties v.now tin back)) }
     ensures err { IfErr result (RefusalIsRight v.now.ground.now) }
 {
     let g = v.ground;
@@ -232,7 +232,7 @@ fn join_interrupt_entries(
     irqs: &[u8],
 ) -> Result<(), Refusal>
     requires visited { VisitInvariantHolds v.now table.old }
-    requires irqs { irqs.now ≡ irqs_of v.now.ground.now.plan.now v.now.state.now }
+    requires irqs { irqs.now ≡ possible_irqs_of v.now.ground.now.plan.now v.now.state.now }
     requires owes { OwesDuties v.now (interrupt_duties v.now) }
     ensures ok { OnOk result (JoinedBy v.now table.old table.new (interrupt_duties v.now)) }
     ensures err { IfErr result (RefusalIsRight v.now.ground.now) }

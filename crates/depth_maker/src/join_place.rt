@@ -5,16 +5,16 @@ ghost use Rattle.cfg_recover.specs.Assignments.{point};
 ghost use Rattle.depth_cert.specs.Known.{state};
 ghost use Rattle.small_states.specs.Incoming.{incoming_known, sender_state};
 ghost use Rattle.frame_places.specs.declared.places.Spot.TheVariants.{Point};
-ghost use Rattle.frame_places.specs.Marks.{AllListed, AreKnown, ForgetsReaders, IsAmongReaders, Requeues};
+ghost use Rattle.frame_places.specs.Marks.{AreQueuedPlacesListed, AreKnownPlaces, ForgetsReaders, IsAmongReaders, RequeuesPlaces};
 ghost use Rattle.frame_places.specs.Work.{all_work};
 ghost use Rattle.frame_places.specs.Numbers.{PlaceHasNumber};
 ghost use Rattle.frame_places.specs.Spots.{spot_eq};
-ghost use Rattle.depth_maker.specs.TableInvariant.{TableReadsExits, TableInvariantHoldsOn};
+ghost use Rattle.depth_maker.specs.TableInvariant.{OnlyExitsHaveReaders, TableInvariantHoldsForInputs};
 ghost use Rattle.depth_maker.specs.TableView.{view_of_table};
-ghost use Rattle.depth_maker.specs.AssignmentCounts.{AreFewEnough};
+ghost use Rattle.depth_maker.specs.AssignmentCounts.{AreWithinCertLimits};
 ghost use Rattle.depth_maker.specs.SpotsAsPlaces.{place_of_spot};
 ghost use Rattle.depth_maker.specs.Answers.{RefusalIsRight};
-ghost use Rattle.depth_maker.specs.Joins.{AddsJoinedPlace, FlowsInto, JoinsAtPlace, JoinsWithoutReaders};
+ghost use Rattle.depth_maker.specs.Joins.{AddsPlaceIfNew, FlowsInto, JoinsAtPlace, JoinsWithoutRequeuing};
 ghost use Rattle.depth_maker.specs.declared.inputs_and_limits.Ground.{Ground};
 
 use crate::inputs_and_limits::Visit;
@@ -36,10 +36,10 @@ pub(crate) fn add_place_if_new(
     y: Spot,
     value: SmallKnown,
 ) -> Result<Option<usize>, Refusal>
-    requires listed { AllListed table.old.places (all_work table.old.work) }
-    requires few { AreFewEnough (map place_of_spot table.old.points.items) table.old.frames.items }
-    ensures { (g : Ground) → TableInvariantHoldsOn g table.old → FlowsInto g table.old y value
-        → AddsJoinedPlace g table.old table.new y value result }
+    requires listed { AreQueuedPlacesListed table.old.places (all_work table.old.work) }
+    requires few { AreWithinCertLimits (map place_of_spot table.old.points.items) table.old.frames.items }
+    ensures { (g : Ground) → TableInvariantHoldsForInputs g table.old → FlowsInto g table.old y value
+        → AddsPlaceIfNew g table.old table.new y value result }
 {
     match add_or_find_place(&mut table.places, &mut table.work, y, value)? {
         None => {
@@ -59,7 +59,7 @@ pub(crate) fn join_at_place(
     y: &Spot,
     incoming: &Incoming,
 ) -> Result<(), Refusal>
-    requires fine { TableInvariantHoldsOn v.now.ground.now table.old }
+    requires fine { TableInvariantHoldsForInputs v.now.ground.now table.old }
     requires near { PlaceHasNumber table.old.places table.old.near (Point v.now.key v.now.addr) }
     requires at { (view_of_table table.old).cells (point v.now.key v.now.addr)
         ≡ Some (state v.now.state.now) }
@@ -93,13 +93,13 @@ fn join_without_requeuing(
     y: &Spot,
     incoming: &Incoming,
 ) -> Result<bool, Refusal>
-    requires fine { TableInvariantHoldsOn v.now.ground.now table.old }
+    requires fine { TableInvariantHoldsForInputs v.now.ground.now table.old }
     requires near { PlaceHasNumber table.old.places table.old.near (Point v.now.key v.now.addr) }
     requires at { (view_of_table table.old).cells (point v.now.key v.now.addr)
         ≡ Some (state v.now.state.now) }
     requires own { sender_state incoming.now ≡ v.now.state.now }
     requires incoming { FlowsInto v.now.ground.now table.old y.now (incoming_known incoming.now) }
-    ensures { JoinsWithoutReaders v.now.ground.now table.old table.new y.now
+    ensures { JoinsWithoutRequeuing v.now.ground.now table.old table.new y.now
         (incoming_known incoming.now) result }
 {
     if table.near < table.places.len().saturating_sub(1) {
@@ -126,12 +126,12 @@ fn requeue_readers_after_join(
     y: &Spot,
     waits: bool,
 ) -> Result<(), AllocError>
-    requires listed { AllListed places.old (all_work work.old) }
-    requires exits { TableReadsExits readers.old }
-    requires known { AreKnown places.old (IsAmongReaders (get spot_eq readers.old y.now)) }
+    requires listed { AreQueuedPlacesListed places.old (all_work work.old) }
+    requires exits { OnlyExitsHaveReaders readers.old }
+    requires known { AreKnownPlaces places.old (IsAmongReaders (get spot_eq readers.old y.now)) }
     ensures marks { OnOk result
-        (Requeues places.old places.new (IsAmongReaders (get spot_eq readers.old y.now))) }
-    ensures work { OnOk result (AllListed places.new (all_work work.new)) }
+        (RequeuesPlaces places.old places.new (IsAmongReaders (get spot_eq readers.old y.now))) }
+    ensures work { OnOk result (AreQueuedPlacesListed places.new (all_work work.new)) }
     ensures readers { OnOk result (ForgetsReaders readers.old readers.new y.now) }
 {
     if let Spot::Point(_, _) = *y {
@@ -150,14 +150,14 @@ fn join_known_place(
     y: &Spot,
     incoming: &Incoming,
 ) -> Result<bool, Refusal>
-    requires fine { TableInvariantHoldsOn v.now.ground.now table.old }
+    requires fine { TableInvariantHoldsForInputs v.now.ground.now table.old }
     requires there { PlaceHasNumber table.old.places number y.now }
     requires near { PlaceHasNumber table.old.places table.old.near (Point v.now.key v.now.addr) }
     requires at { (view_of_table table.old).cells (point v.now.key v.now.addr)
         ≡ Some (state v.now.state.now) }
     requires own { sender_state incoming.now ≡ v.now.state.now }
     requires incoming { FlowsInto v.now.ground.now table.old y.now (incoming_known incoming.now) }
-    ensures { JoinsWithoutReaders v.now.ground.now table.old table.new y.now
+    ensures { JoinsWithoutRequeuing v.now.ground.now table.old table.new y.now
         (incoming_known incoming.now) result }
 {
     let Some((_, place)) = table.places.get_index(number) else {

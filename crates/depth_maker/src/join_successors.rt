@@ -4,15 +4,15 @@ ghost use Rattle.tc_isa.specs.InBounds.{IsShape, IsTarget};
 ghost use Rattle.vd_transfer.specs.Changes.{state_after};
 ghost use Rattle.cfg_recover.specs.Assignments.{point};
 ghost use Rattle.cfg_recover.specs.LocalRules.{targets_of};
-ghost use Rattle.cfg_recover.specs.SetOperations.{HoldsCachedResults};
+ghost use Rattle.cfg_recover.specs.SetOperations.{IsCorrectCache};
 ghost use Rattle.cfg_recover.specs.Duties.{jumps_to, jump_on, owed, jump, resume, leave, exit_duties_of};
 ghost use Rattle.depth_cert.specs.Known.{state};
 ghost use Rattle.depth_maker.specs.TableView.{view_of_table};
 ghost use Rattle.depth_maker.specs.Answers.{RefusalIsRight};
-ghost use Rattle.depth_maker.specs.VisitDuties.{OwesDuties, JoinedBy, OwesDutiesOf, next_duties, side_state, jump_duties, OwesDuty};
+ghost use Rattle.depth_maker.specs.VisitDuties.{OwesDuties, JoinedBy, IsFaultlessInstruction, next_duties, side_state, successor_duties, OwesDuty};
 ghost use Rattle.depth_maker.specs.Visits.{VisitInvariantHolds};
 ghost use Rattle.indexmap.specs.IndexMap.{get};
-ghost use Rattle.depth_cert.specs.Exits.{exit_of};
+ghost use Rattle.depth_cert.specs.Exits.{exit_of_state};
 ghost use Rattle.frame_places.specs.declared.places.Spot.TheVariants.{Exit, Point};
 ghost use Rattle.frame_places.specs.Spots.{spot_eq};
 ghost use Rattle.frame_places.specs.Marks.{IsAmongReaders};
@@ -50,12 +50,12 @@ pub(crate) fn join_successors(
     requires visited { VisitInvariantHolds v.now table.old }
     requires at { (view_of_table table.old).cells (point v.now.key v.now.addr)
         ≡ Some (state v.now.state.now) }
-    requires found { OwesDutiesOf v.now found.now }
-    requires owes { OwesDuties v.now (jump_duties v.now found.now) }
-    requires results { HoldsCachedResults v.now.ground.now.bounds.now cache.old }
-    ensures ok { OnOk result (JoinedBy v.now table.old table.new (jump_duties v.now found.now)) }
+    requires found { IsFaultlessInstruction v.now found.now }
+    requires owes { OwesDuties v.now (successor_duties v.now found.now) }
+    requires results { IsCorrectCache v.now.ground.now.bounds.now cache.old }
+    ensures ok { OnOk result (JoinedBy v.now table.old table.new (successor_duties v.now found.now)) }
     ensures err { IfErr result (RefusalIsRight v.now.ground.now) }
-    ensures results { HoldsCachedResults v.now.ground.now.bounds.now cache.new }
+    ensures results { IsCorrectCache v.now.ground.now.bounds.now cache.new }
 {
     let shape = found.shape;
     match shape {
@@ -126,10 +126,10 @@ pub(crate) fn join_first_successor(
 /// CCPN of its state.
 pub(crate) fn join_exit(alloc: Global, table: &mut Table, v: &Visit) -> Result<(), Refusal>
     requires visited { VisitInvariantHolds v.now table.old }
-    requires owes { OwesDuty v.now (leave (exit_of v.now.state.now)) }
+    requires owes { OwesDuty v.now (leave (exit_of_state v.now.state.now)) }
     ensures ok { (rule : ℕ)
         → OnOk result
-        (JoinedBy v.now table.old table.new (owed rule (leave (exit_of v.now.state.now)) ∷ [])) }
+        (JoinedBy v.now table.old table.new (owed rule (leave (exit_of_state v.now.state.now)) ∷ [])) }
     ensures err { IfErr result (RefusalIsRight v.now.ground.now) }
 {
     if is_place_queued(&table.places, table.near) {
@@ -264,12 +264,12 @@ fn join_next_instruction(
     requires visited { VisitInvariantHolds v.now table.old }
     requires at { (view_of_table table.old).cells (point v.now.key v.now.addr)
         ≡ Some (state v.now.state.now) }
-    requires found { OwesDutiesOf v.now found.now }
+    requires found { IsFaultlessInstruction v.now found.now }
     requires owes { OwesDuties v.now (next_duties v.now found.now) }
-    requires results { HoldsCachedResults v.now.ground.now.bounds.now cache.old }
+    requires results { IsCorrectCache v.now.ground.now.bounds.now cache.old }
     ensures ok { OnOk result (JoinedBy v.now table.old table.new (next_duties v.now found.now)) }
     ensures err { IfErr result (RefusalIsRight v.now.ground.now) }
-    ensures results { HoldsCachedResults v.now.ground.now.bounds.now cache.new }
+    ensures results { IsCorrectCache v.now.ground.now.bounds.now cache.new }
 {
     write_step_change(v, found.shape, c, cache);
     join_first_successor(alloc, table, v, v.addr.wrapping_add(found.size), &*c)

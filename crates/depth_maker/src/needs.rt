@@ -1,7 +1,7 @@
 // The least needs of the frames of a closed table.
 ghost use Rattle.std.specs.Prelude.{◌≡◌, ◌≤◌, ◌-◌, IfOk, None};
 ghost use Rattle.depth_maker.specs.Rows.{IsRowSource, RowsOn};
-ghost use Rattle.depth_maker.specs.Needs.{LeastNeedsOrRecursion, AreLeastNeedsOrTooMany};
+ghost use Rattle.depth_maker.specs.Needs.{IsLeastNeedsOrRecursion, AreLeastNeedsOrTooMany};
 ghost use Rattle.depth_maker.specs.Answers.{MakeErrHolds};
 ghost use Rattle.depth_maker.specs.Recursing.{IsFirstRecursion};
 
@@ -34,7 +34,7 @@ pub(crate) fn least_frame_needs(
     source: &Source,
 ) -> Result<Result<Vec<u32>, Option<(Key, u32)>>, AllocError>
     requires { IsRowSource source.now }
-    ensures { IfOk result (LeastNeedsOrRecursion source.now) }
+    ensures { IfOk result (IsLeastNeedsOrRecursion source.now) }
 {
     let mut rows = need_rows(alloc, source)?;
     let frames = source.table.frames.as_slice();
@@ -92,7 +92,7 @@ fn least_needs_from_rows(
     requires rows { RowsOn source.now.ground.now source.now.table.now rows.now }
     requires recurs { IsFirstRecursion source.now recurs }
     requires frames { frames.now ≡ source.now.table.now.frames.items }
-    ensures { IfOk result (LeastNeedsOrRecursion source.now) }
+    ensures { IfOk result (IsLeastNeedsOrRecursion source.now) }
 {
     if let Some(place) = recurs {
         return Ok(Err(Some(place)));

@@ -1,11 +1,11 @@
 // Fast path: points whose instruction only passes the state on. Their successor shares it if it is
 // new, and a nop takes some 400 instructions less of `cert`.
 ghost use Rattle.std.specs.Prelude.{IsTrue, IfSome};
-ghost use Rattle.cfg_recover.specs.Code.{LocatesCode};
+ghost use Rattle.cfg_recover.specs.Code.{FindsShapeAndSize};
 ghost use Rattle.frame_places.specs.declared.places.Spot.TheVariants.{Point};
 ghost use Rattle.frame_places.specs.Numbers.{PlaceHasNumber};
 ghost use Rattle.depth_maker.specs.SharedStates.{MayShareState, JoinsBySharing, PassesStateTo};
-ghost use Rattle.depth_maker.specs.TableInvariant.{TableInvariantHoldsOn};
+ghost use Rattle.depth_maker.specs.TableInvariant.{TableInvariantHoldsForInputs};
 ghost use Rattle.tc_isa.specs.InBounds.{IsShape};
 
 use crate::inputs_and_limits::Site;
@@ -22,10 +22,10 @@ use tc_isa::Shape;
 /// joins nothing, and returns false. Tried only at the place that was found last: other places'
 /// successors are mostly known.
 pub(crate) fn join_shared(alloc: Global, table: &mut Table, site: &Site) -> Result<bool, Refusal>
-    requires fine { TableInvariantHoldsOn site.now.ground.now table.old }
+    requires fine { TableInvariantHoldsForInputs site.now.ground.now table.old }
     requires near { PlaceHasNumber table.old.places table.old.near
         (Point site.now.key site.now.addr) }
-    requires code { LocatesCode site.now.ground.now.image.now site.now.ground.now.plan.now
+    requires code { FindsShapeAndSize site.now.ground.now.image.now site.now.ground.now.plan.now
         site.now.addr site.now.located.now }
     requires shape { IfSome site.now.located.now (λ found. IsShape found.shape) }
     ensures { JoinsBySharing site.now table.old table.new result }
@@ -50,7 +50,7 @@ pub(crate) fn join_shared(alloc: Global, table: &mut Table, site: &Site) -> Resu
 /// address, or None for others.
 #[inline(always)]
 fn unchanged_state_successor(site: &Site) -> Option<u32>
-    requires code { LocatesCode site.now.ground.now.image.now site.now.ground.now.plan.now
+    requires code { FindsShapeAndSize site.now.ground.now.image.now site.now.ground.now.plan.now
         site.now.addr site.now.located.now }
     requires shape { IfSome site.now.located.now (λ found. IsShape found.shape) }
     ensures { IfSome result
@@ -70,7 +70,7 @@ fn unchanged_state_successor(site: &Site) -> Option<u32>
 /// then a new successor may share its state.
 #[inline(always)]
 fn may_share_state(table: &Table, site: &Site) -> bool
-    requires fine { TableInvariantHoldsOn site.now.ground.now table.now }
+    requires fine { TableInvariantHoldsForInputs site.now.ground.now table.now }
     requires near { PlaceHasNumber table.now.places table.now.near
         (Point site.now.key site.now.addr) }
     ensures { IsTrue result → MayShareState site.now table.now }

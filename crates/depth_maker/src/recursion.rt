@@ -1,6 +1,6 @@
 // The first point that enters a frame from which its own is reached.
 ghost use Rattle.std.specs.Prelude.{◌≡◌, ◌↔◌, IsTrue, IfOk};
-ghost use Rattle.depth_maker.specs.Recursing.{AreTableEdges, EntersMarkedFrame, IsFirstRecursiveAddress, IsFirstRecursiveAddressWith, IsFirstRecursion};
+ghost use Rattle.depth_maker.specs.Recursing.{AreTableEdges, EntersMarkedFrame, IsFirstRecursiveAddress, UpdatesFirstRecursiveAddress, IsFirstRecursion};
 ghost use Rattle.depth_maker.specs.Rows.{IsRowSource};
 
 use crate::rows::{KnownPoint, Source, point_row};
@@ -69,7 +69,7 @@ fn lesser_recursive_address(
     first: Option<u32>,
 ) -> Result<Option<u32>, AllocError>
     requires { IsRowSource source.now }
-    ensures { IfOk result (IsFirstRecursiveAddressWith source.now marks.now key place first) }
+    ensures { IfOk result (UpdatesFirstRecursiveAddress source.now marks.now key place first) }
 {
     let Some(addr) = address_in_frame(key, place) else {
         return Ok(first);

@@ -5,8 +5,8 @@ ghost use Rattle.depth_cert.specs.declared.keys.Key as keys;
 ghost use Rattle.depth_cert.specs.WellFormed.{IsWellFormedState};
 ghost use Rattle.frame_places.specs.Numbers.{frame_number_in};
 ghost use Rattle.depth_maker.specs.InterruptHandlers.{AreNumberedHandlers};
-ghost use Rattle.depth_maker.specs.VisitDuties.{OwesDutiesOf};
-ghost use Rattle.depth_maker.specs.Rows.{AddsPointRow, AreRowFramesAmong, HasFirstRows, IsKnownRowPoint, IsPointRow, IsVisitedPointRow, HasEqualRow, IsRowSource, RowsOn};
+ghost use Rattle.depth_maker.specs.VisitDuties.{IsFaultlessInstruction};
+ghost use Rattle.depth_maker.specs.Rows.{AddsPointRow, AreRowFramesAmong, HasFirstRows, IsTablePoint, IsRowOfTablePoint, IsRowOfVisitedPoint, HasEqualRow, IsRowSource, RowsOn};
 
 use crate::entered_frames::entered_frame_keys;
 use crate::inputs_and_limits::{Ground, Visit};
@@ -49,8 +49,8 @@ pub(crate) fn point_row(
     at: &KnownPoint,
 ) -> Result<NeedRow, AllocError>
     requires source { IsRowSource source.now }
-    requires at { IsKnownRowPoint source.now at.now }
-    ensures { IfOk result (IsPointRow source.now at.now.key at.now.addr) }
+    requires at { IsTablePoint source.now at.now }
+    ensures { IfOk result (IsRowOfTablePoint source.now at.now.key at.now.addr) }
 {
     let g = source.ground;
     let cell = &at.known.value;
@@ -76,13 +76,13 @@ fn visited_point_row(
     node: usize,
     found: &Located,
 ) -> Result<NeedRow, AllocError>
-    requires found { OwesDutiesOf v.now found.now }
+    requires found { IsFaultlessInstruction v.now found.now }
     requires well_formed { IsWellFormedState v.now.ground.now.bounds.now v.now.state.now }
     ensures { IfOk result (λ row. (frames : List keys.Key)
         → AreNumberedHandlers v.now.ground.now.plan.now source.now.numbers.now
         source.now.handlers.now frames
         → AreRowFramesAmong v.now frames → node ≡ frame_number_in frames v.now.key
-        → IsVisitedPointRow v.now frames row) }
+        → IsRowOfVisitedPoint v.now frames row) }
 {
     let keys = entered_frame_keys(alloc, v, found)?;
     let more = source.handlers.len();
@@ -188,7 +188,7 @@ fn add_point_row(
     at: &KnownPoint,
 ) -> Result<(), AllocError>
     requires source { IsRowSource source.now }
-    requires at { IsKnownRowPoint source.now at.now }
+    requires at { IsTablePoint source.now at.now }
     ensures { OnOk result (AddsPointRow source.now draft.old draft.new at.now) }
 {
     if is_plain_mark(at.known.mark) {

@@ -1,10 +1,10 @@
 // Writes the certificate of a table, point by point.
 ghost use Rattle.std.specs.Prelude.{◌≡◌, ◌<◌, ◌^◌, ◌⊎◌, OnOk, IfOk};
-ghost use Rattle.frame_places.specs.PointEntries.{place_at};
+ghost use Rattle.frame_places.specs.PointEntries.{place_of_entry};
 ghost use Rattle.frame_places.specs.Spots.{spot_address};
 ghost use Rattle.depth_maker.specs.Needs.{need_of_frame, AreLeastTableNeeds};
 ghost use Rattle.depth_maker.specs.Rows.{IsRowSource};
-ghost use Rattle.depth_maker.specs.SpelledCert.{AreTableFrames, AreTablePointEntries, IsTableFrame, SourceHasLimitsOfFormat, IsOrderedCertSource, IsTablePointEntry, AreClosedCertBytesOf, SpellsTableExit, SpellsTableNode, SpellsTableNodes, SpellsTablePoint, SpellsTablePoints};
+ghost use Rattle.depth_maker.specs.SpelledCert.{AreTableFrames, AreTablePointEntries, IsTableFrame, SourceHasLimitsOfFormat, IsOrderedCertSource, IsTablePointEntry, AreClosedCertBytesFromSource, AppendsTableExit, AppendsTableNode, AppendsTableNodes, AppendsTablePoint, AppendsTablePoints};
 ghost use Rattle.depth_maker.specs.SpotsAsPlaces.{spots_of_entries};
 
 use crate::rows::Source;
@@ -34,8 +34,8 @@ fn append_table_point(
 ) -> Result<(), NoMemory>
     requires source { IsRowSource source.now }
     requires point { IsTablePointEntry source.now _key point.now }
-    ensures { OnOk result (SpellsTablePoint source.now _key
-        (spot_address (place_at source.now.table.now.places point.now))
+    ensures { OnOk result (AppendsTablePoint source.now _key
+        (spot_address (place_of_entry source.now.table.now.places point.now))
         out.old.items out.new.items) }
 {
     let Some((place, known)) = source.table.places.get_index(point.entry) else {
@@ -57,7 +57,7 @@ fn append_table_points(
 ) -> Result<(), NoMemory>
     requires source { IsRowSource source.now }
     requires points { AreTablePointEntries source.now key points.now }
-    ensures { OnOk result (SpellsTablePoints source.now key (spots_of_entries source.now points.now)
+    ensures { OnOk result (AppendsTablePoints source.now key (spots_of_entries source.now points.now)
         out.old.items out.new.items) }
 {
     for p in points {
@@ -70,7 +70,7 @@ fn append_table_points(
 /// known.
 fn append_table_exit(out: &mut Vec<u8>, source: &Source, key: Key) -> Result<(), NoMemory>
     requires source { IsRowSource source.now }
-    ensures { OnOk result (SpellsTableExit source.now key out.old.items out.new.items) }
+    ensures { OnOk result (AppendsTableExit source.now key out.old.items out.new.items) }
 {
     let Some(known) = source.table.places.get(&Spot::Exit(key)) else {
         write_no_exit(out)?;
@@ -119,7 +119,7 @@ pub(crate) fn serialize_cert(
     requires known { (version ≡ 1) ⊎ (version ≡ 2) }
     requires limits { SourceHasLimitsOfFormat source.now version }
     requires needs { AreLeastTableNeeds source.now needs.now }
-    ensures { IfOk result (λ out. AreClosedCertBytesOf source.now version out.items) }
+    ensures { IfOk result (λ out. AreClosedCertBytesFromSource source.now version out.items) }
 {
     let frames = sorted_frames(alloc, source.table.frames.as_slice())?;
     let points = sorted_points(alloc, &source.table.places)?;
@@ -142,7 +142,7 @@ pub(crate) fn serialize_cert(
 fn append_table_nodes(out: &mut Vec<u8>, ordered: &Ordered, frames: &[Key]) -> Result<(), NoMemory>
     requires ordered { IsOrderedCertSource ordered.now }
     requires frames { AreTableFrames ordered.now frames.now }
-    ensures { OnOk result (SpellsTableNodes ordered.now frames.now out.old.items out.new.items) }
+    ensures { OnOk result (AppendsTableNodes ordered.now frames.now out.old.items out.new.items) }
 {
     for k in frames {
         append_table_node(out, ordered, *k)?;
@@ -154,7 +154,7 @@ fn append_table_nodes(out: &mut Vec<u8>, ordered: &Ordered, frames: &[Key]) -> R
 fn append_table_node(out: &mut Vec<u8>, ordered: &Ordered, key: Key) -> Result<(), NoMemory>
     requires ordered { IsOrderedCertSource ordered.now }
     requires key { IsTableFrame ordered.now.source.now key }
-    ensures { OnOk result (SpellsTableNode ordered.now key out.old.items out.new.items) }
+    ensures { OnOk result (AppendsTableNode ordered.now key out.old.items out.new.items) }
 {
     let source = ordered.source;
     let points = points_of_frame(ordered.points, key);

@@ -1,22 +1,22 @@
 // A visit joins all that a point owes, in the order of its duties.
 ghost use Rattle.std.specs.Prelude.{◌≡◌, IsTrue, OnOk, IfErr, IfOk, IfSome, Some};
 ghost use Rattle.cfg_recover.specs.Assignments.{point};
-ghost use Rattle.cfg_recover.specs.Code.{LocatesCode};
+ghost use Rattle.cfg_recover.specs.Code.{FindsShapeAndSize};
 ghost use Rattle.depth_cert.specs.Known.{state};
 ghost use Rattle.frame_places.specs.declared.places.Spot.TheVariants.{Point};
-ghost use Rattle.cfg_recover.specs.SetOperations.{HoldsCachedResults};
-ghost use Rattle.depth_maker.specs.EnteredFrames.{EntersNoFrameAt, EntersNoFrameIn};
-ghost use Rattle.depth_maker.specs.VisitDuties.{JoinedBy, OwesDutiesOf, visit_duties, state_after_step};
+ghost use Rattle.cfg_recover.specs.SetOperations.{IsCorrectCache};
+ghost use Rattle.depth_maker.specs.EnteredFrames.{InstructionEntersNoFrame, PlaceEntersNoFrame};
+ghost use Rattle.depth_maker.specs.VisitDuties.{JoinedBy, IsFaultlessInstruction, visit_duties, state_after_step};
 ghost use Rattle.depth_maker.specs.TableView.{view_of_table};
 ghost use Rattle.depth_maker.specs.Answers.{RefusalIsRight};
-ghost use Rattle.depth_maker.specs.Visits.{VisitJoinsDutiesOn, VisitInvariantHolds};
+ghost use Rattle.depth_maker.specs.Visits.{VisitJoinsDutiesForInputs, VisitInvariantHolds};
 ghost use Rattle.frame_places.specs.declared.places.Spot as spots;
 ghost use Rattle.frame_places.specs.Numbers.{PlaceHasNumber};
-ghost use Rattle.depth_maker.specs.TableInvariant.{TableInvariantHoldsOn};
+ghost use Rattle.depth_maker.specs.TableInvariant.{TableInvariantHoldsForInputs};
 ghost use Rattle.tc_isa.specs.InBounds.{IsShape};
-ghost use Rattle.value_domain.specs.State.{AreValues};
+ghost use Rattle.value_domain.specs.State.{AreInLattice};
 ghost use Rattle.vd_transfer.specs.Changes.{state_after};
-ghost use Rattle.vd_transfer.specs.EffectsOnStates.{EffectHasRoom};
+ghost use Rattle.vd_transfer.specs.EffectsOnStates.{LocalsFitInstruction};
 
 use crate::entered_frames::enters_no_frame;
 use crate::fixpoint::VisitScratch;
@@ -41,15 +41,15 @@ pub(crate) fn visit_place(
     change: &mut Change,
     cache: &mut OperationCache,
 ) -> Result<bool, Refusal>
-    requires fine { TableInvariantHoldsOn ground.now table.old }
-    requires results { HoldsCachedResults ground.now.bounds.now cache.old }
+    requires fine { TableInvariantHoldsForInputs ground.now table.old }
+    requires results { IsCorrectCache ground.now.bounds.now cache.old }
     ensures ok { (x : spots.Spot) → PlaceHasNumber table.old.places table.old.near x
-        → OnOk result (VisitJoinsDutiesOn ground.now table.old table.new x) }
+        → OnOk result (VisitJoinsDutiesForInputs ground.now table.old table.new x) }
     ensures plain { (x : spots.Spot) → PlaceHasNumber table.old.places table.old.near x
         → IfOk result (λ plain. IsTrue plain
-        → EntersNoFrameIn ground.now.image.now ground.now.plan.now x) }
+        → PlaceEntersNoFrame ground.now.image.now ground.now.plan.now x) }
     ensures err { IfErr result (RefusalIsRight ground.now) }
-    ensures results { HoldsCachedResults ground.now.bounds.now cache.new }
+    ensures results { IsCorrectCache ground.now.bounds.now cache.new }
 {
     let Some((at, _)) = table.places.get_index(table.near) else {
         return Ok(false);
@@ -80,11 +80,11 @@ pub(crate) fn write_step_change(
     cache: &mut OperationCache,
 )
     requires shape { IsShape shape }
-    requires values { AreValues v.now.ground.now.bounds.now v.now.state.now.regs }
-    requires room { EffectHasRoom v.now.ground.now.bounds.now shape v.now.state.now }
-    requires results { HoldsCachedResults v.now.ground.now.bounds.now cache.old }
+    requires values { AreInLattice v.now.ground.now.bounds.now v.now.state.now.regs }
+    requires room { LocalsFitInstruction v.now.ground.now.bounds.now shape v.now.state.now }
+    requires results { IsCorrectCache v.now.ground.now.bounds.now cache.old }
     ensures change { state_after v.now.state.now c.new ≡ state_after_step v.now shape }
-    ensures results { HoldsCachedResults v.now.ground.now.bounds.now cache.new }
+    ensures results { IsCorrectCache v.now.ground.now.bounds.now cache.new }
 {
     let g = v.ground;
     if cache.write_change(g.bounds, g.plan, shape, v.state, c) {
@@ -106,11 +106,11 @@ fn join_visit_duties(
     requires visited { VisitInvariantHolds v.now table.old }
     requires at { (view_of_table table.old).cells (point v.now.key v.now.addr)
         ≡ Some (state v.now.state.now) }
-    requires found { OwesDutiesOf v.now found.now }
-    requires results { HoldsCachedResults v.now.ground.now.bounds.now cache.old }
+    requires found { IsFaultlessInstruction v.now found.now }
+    requires results { IsCorrectCache v.now.ground.now.bounds.now cache.old }
     ensures ok { OnOk result (JoinedBy v.now table.old table.new (visit_duties v.now found.now)) }
     ensures err { IfErr result (RefusalIsRight v.now.ground.now) }
-    ensures results { HoldsCachedResults v.now.ground.now.bounds.now cache.new }
+    ensures results { IsCorrectCache v.now.ground.now.bounds.now cache.new }
 {
     join_successors(alloc, table, v, found, c, cache)?;
     join_entry_duties(alloc, table, v, found.shape, found.size, c)?;
@@ -129,20 +129,20 @@ fn visit_point(
     change: &mut Change,
     cache: &mut OperationCache,
 ) -> Result<bool, Refusal>
-    requires fine { TableInvariantHoldsOn site.now.ground.now table.old }
+    requires fine { TableInvariantHoldsForInputs site.now.ground.now table.old }
     requires near { PlaceHasNumber table.old.places table.old.near
         (Point site.now.key site.now.addr) }
-    requires code { LocatesCode site.now.ground.now.image.now site.now.ground.now.plan.now
+    requires code { FindsShapeAndSize site.now.ground.now.image.now site.now.ground.now.plan.now
         site.now.addr site.now.located.now }
     requires shape { IfSome site.now.located.now (λ found. IsShape found.shape) }
-    requires results { HoldsCachedResults site.now.ground.now.bounds.now cache.old }
-    ensures ok { OnOk result (VisitJoinsDutiesOn site.now.ground.now table.old table.new
+    requires results { IsCorrectCache site.now.ground.now.bounds.now cache.old }
+    ensures ok { OnOk result (VisitJoinsDutiesForInputs site.now.ground.now table.old table.new
         (Point site.now.key site.now.addr)) }
     ensures plain { IfOk result (λ plain. IsTrue plain
-        → EntersNoFrameAt site.now.ground.now.image.now site.now.ground.now.plan.now
+        → InstructionEntersNoFrame site.now.ground.now.image.now site.now.ground.now.plan.now
         site.now.addr) }
     ensures err { IfErr result (RefusalIsRight site.now.ground.now) }
-    ensures results { HoldsCachedResults site.now.ground.now.bounds.now cache.new }
+    ensures results { IsCorrectCache site.now.ground.now.bounds.now cache.new }
 {
     let Some((_, place)) = table.places.get_index(table.near) else {
         unreachable!();

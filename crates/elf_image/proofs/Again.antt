@@ -8,8 +8,8 @@ use Rattle.std.proofs.lemmas.List.Sums.{sum_by-cons}
 use Rattle.std.proofs.lemmas.Bool.Decides.{nat_tests}
 use Rattle.elf_image.specs.declared.headers.Header.{Header}
 use Rattle.elf_image.specs.declared.errors.ImageErr.TheVariants.{BadSegment}
-use Rattle.elf_image.specs.Images.{ImageData, SegmentData, IsImage, is_segment, are_segments_apart, are_all_segments_apart}
-use Rattle.elf_image.specs.ReadElf.{e_phoff, e_phnum, e_phentsize, program_header_at, program_headers_of, is_bad_header, loads_file_bytes, has_overlap_with, load_headers, program_header_refusal, exceeds_limits, overlap_refusal, segment_of, image_of_file}
+use Rattle.elf_image.specs.Images.{ImageData, SegmentData, IsImage, is_segment, are_segments_disjoint, are_all_segments_disjoint}
+use Rattle.elf_image.specs.ReadElf.{e_phoff, e_phnum, e_phentsize, program_header_at, program_headers_of, is_bad_header, loads_file_bytes, has_overlap_with, load_headers, program_header_refusal, exceeds_image_limits, overlap_refusal, loaded_segment, image_of_file}
 use Rattle.elf_image.specs.WrittenElf.{elf_header, program_header, program_headers, elf_contents_offset, elf_contents, elf_file}
 use Rattle.elf_image.proofs.Fields.{written_header, header_at-written, start-elf_header, entry-elf_header, phoff-elf_header, phentsize-elf_header, phnum-elf_header, length-elf_header, length-program_header}
 use Rattle.elf_image.proofs.Refusals.{image_of-loaded}
@@ -118,39 +118,39 @@ unfolding headers_from written_header
 size_again number offset [] = refl
 size_again number offset (s ∷ ss) = omega (arith, sum_by-cons (λ (h : Header). h.file_size) (written_header number offset s.at (len s)) (headers_from (number + 1) (offset + len s) ss), size-cons s ss, size_again (number + 1) (offset + len s) ss)
 
-not_large : (hs : List Header) → length hs ≤ 64 → sum_by (λ h. h.file_size) hs ≤ 2 ^ 24 → exceeds_limits hs ≡ false
-unfolding exceeds_limits
+not_large : (hs : List Header) → length hs ≤ 64 → sum_by (λ h. h.file_size) hs ≤ 2 ^ 24 → exceeds_image_limits hs ≡ false
+unfolding exceeds_image_limits
 not_large hs few small = grind (arith, nat_tests)
 
 -- no two of the headers share an address
-not_met : (s t : SegmentData) (number offset other place : ℕ) → are_segments_apart s t ≡ true → has_overlap_with (written_header number offset s.at (len s)) (written_header other place t.at (len t)) ≡ false
+not_met : (s t : SegmentData) (number offset other place : ℕ) → are_segments_disjoint s t ≡ true → has_overlap_with (written_header number offset s.at (len s)) (written_header other place t.at (len t)) ≡ false
 unfolding has_overlap_with written_header
 not_met s t number offset other place h = grind (arith, nat_tests)
 
-none_met : (s : SegmentData) (number offset other place : ℕ) (ss : List SegmentData) → list_all (are_segments_apart s) ss ≡ true → find (has_overlap_with (written_header number offset s.at (len s))) (headers_from other place ss) ≡ None
+none_met : (s : SegmentData) (number offset other place : ℕ) (ss : List SegmentData) → list_all (are_segments_disjoint s) ss ≡ true → find (has_overlap_with (written_header number offset s.at (len s))) (headers_from other place ss) ≡ None
 unfolding headers_from
 none_met s number offset other place [] h = refl
 none_met s number offset other place (t ∷ ss) h =
-    let head = not_met s t number offset other place (both_first (are_segments_apart s t) (list_all (are_segments_apart s) ss) h) in
-    rw head (none_met s number offset (other + 1) (place + len t) ss (both_second (are_segments_apart s t) (list_all (are_segments_apart s) ss) h))
+    let head = not_met s t number offset other place (both_first (are_segments_disjoint s t) (list_all (are_segments_disjoint s) ss) h) in
+    rw head (none_met s number offset (other + 1) (place + len t) ss (both_second (are_segments_disjoint s t) (list_all (are_segments_disjoint s) ss) h))
 
-apart_again : (number offset : ℕ) (ss : List SegmentData) → are_all_segments_apart ss ≡ true → overlap_refusal (headers_from number offset ss) ≡ None
+apart_again : (number offset : ℕ) (ss : List SegmentData) → are_all_segments_disjoint ss ≡ true → overlap_refusal (headers_from number offset ss) ≡ None
 unfolding headers_from overlap_refusal
 apart_again number offset [] h = refl
 apart_again number offset (s ∷ ss) h =
-    let head = none_met s number offset (number + 1) (offset + len s) ss (both_first (list_all (are_segments_apart s) ss) (are_all_segments_apart ss) h) in
-    rw head (apart_again (number + 1) (offset + len s) ss (both_second (list_all (are_segments_apart s) ss) (are_all_segments_apart ss) h))
+    let head = none_met s number offset (number + 1) (offset + len s) ss (both_first (list_all (are_segments_disjoint s) ss) (are_all_segments_disjoint ss) h) in
+    rw head (apart_again (number + 1) (offset + len s) ss (both_second (list_all (are_segments_disjoint s) ss) (are_all_segments_disjoint ss) h))
 
 -- ---- the segments
 
-part_again : (file front back bytes : List ℕ) (number offset at : ℕ) → file ≡ front ++ (bytes ++ back) → length front ≡ offset → segment_of file (written_header number offset at (length bytes)) ≡ record { at = at; bytes = bytes }
+part_again : (file front back bytes : List ℕ) (number offset at : ℕ) → file ≡ front ++ (bytes ++ back) → length front ≡ offset → loaded_segment file (written_header number offset at (length bytes)) ≡ record { at = at; bytes = bytes }
 unfolding written_header
 part_again file front back bytes number offset at is place =
     let dropped : drop offset file ≡ bytes ++ back = ap (drop offset) is ∙ drop_at front (bytes ++ back) offset place in
     let taken : take (length bytes) (drop offset file) ≡ bytes = ap (take (length bytes)) dropped ∙ take_at bytes back (length bytes) refl in
     ap (λ (b : List ℕ). record { at = at; bytes = b }) taken
 
-segments_again : (file front : List ℕ) (number offset : ℕ) (ss : List SegmentData) → file ≡ front ++ elf_contents ss → length front ≡ offset → map (segment_of file) (headers_from number offset ss) ≡ ss
+segments_again : (file front : List ℕ) (number offset : ℕ) (ss : List SegmentData) → file ≡ front ++ elf_contents ss → length front ≡ offset → map (loaded_segment file) (headers_from number offset ss) ≡ ss
 unfolding headers_from elf_contents
 segments_again file front number offset [] is place = refl
 segments_again file front number offset (s ∷ ss) is place =
@@ -184,8 +184,8 @@ image_of-file_of i h =
     let again : program_headers_of file ≡ headers_from 0 place ss = ap (λ m. map (program_header_at file) (range_with_len 0 m)) count ∙ headers_again file header (elf_contents ss) 0 place ss refl first (length-elf_header i.entry n) (omega (arith, h.few, h.small)) h.segments in
     let loads : load_headers file ≡ headers_from 0 place ss = ap (filter loads_file_bytes) again ∙ loads_again 0 place ss h.segments in
     let fine : find (is_bad_header file) (program_headers_of file) ≡ None = ap (find (is_bad_header file)) again ∙ fine_again file 0 place ss first (omega (arith, length_is i)) (omega (arith, length_is i)) h.segments in
-    let small : exceeds_limits (load_headers file) ≡ false = ap exceeds_limits loads ∙ not_large (headers_from 0 place ss) (omega (arith, length_again 0 place ss, h.few)) (omega (arith, size_again 0 place ss, h.small)) in
+    let small : exceeds_image_limits (load_headers file) ≡ false = ap exceeds_image_limits loads ∙ not_large (headers_from 0 place ss) (omega (arith, length_again 0 place ss, h.few)) (omega (arith, size_again 0 place ss, h.small)) in
     let alone : overlap_refusal (load_headers file) ≡ None = ap overlap_refusal loads ∙ apart_again 0 place ss h.apart in
     let front : length (header ++ table) ≡ place = omega (arith, length-append header table, length-elf_header i.entry n, length-program_headers place ss) in
-    let same : map (segment_of file) (load_headers file) ≡ ss = ap (map (segment_of file)) loads ∙ segments_again file (header ++ table) 0 place ss (sym (append_assoc header table (elf_contents ss))) front in
+    let same : map (loaded_segment file) (load_headers file) ≡ ss = ap (map (loaded_segment file)) loads ∙ segments_again file (header ++ table) 0 place ss (sym (append_assoc header table (elf_contents ss))) front in
     image_of-loaded file i.entry ss (sym (start-elf_header i.entry n rest)) (sym (no_refusal file (phentsize-elf_header i.entry n rest) fine)) small (sym alone) (sym (entry-elf_header i.entry n rest h.entry)) (sym same)

@@ -4,7 +4,7 @@ use Rattle.std.proofs.lemmas.List.{append-nil, length-append}
 use Rattle.std.proofs.lemmas.List.Sums.{sum_by-append}
 use Rattle.std.proofs.lemmas.Bool.Decides.{nat_tests}
 use Rattle.elf_image.specs.declared.headers.Header.{Header}
-use Rattle.elf_image.specs.ReadElf.{e_phnum, program_header_at, loads_file_bytes, load_headers, exceeds_limits}
+use Rattle.elf_image.specs.ReadElf.{e_phnum, program_header_at, loads_file_bytes, load_headers, exceeds_image_limits}
 use Rattle.elf_image.proofs.Rest.{rest_of, rest_of-start, rest_of-more, rest_of-end}
 
 -- the headers so far and those that follow are all; those so far are within the limits of an image
@@ -49,27 +49,27 @@ loads_more bytes i n h loads total so_far lt is e few small = record {
   small = small;
 }
 
-large : (loads front back : List Header) (h : Header) → (front ++ h ∷ []) ++ back ≡ loads → (64 ≤ length front) ⊎ (2 ^ 24 < sum_by (λ x. x.file_size) front + h.file_size) → exceeds_limits loads ≡ true
-unfolding exceeds_limits
+large : (loads front back : List Header) (h : Header) → (front ++ h ∷ []) ++ back ≡ loads → (64 ≤ length front) ⊎ (2 ^ 24 < sum_by (λ x. x.file_size) front + h.file_size) → exceeds_image_limits loads ≡ true
+unfolding exceeds_image_limits
 large loads front back h e much =
     let len : length loads ≡ length front + 1 + length back = ap length (sym e) ∙ omega (arith, length-append (front ++ h ∷ []) back, length-append front (h ∷ [])) in
     let all : sum_by (λ x. x.file_size) loads ≡ sum_by (λ x. x.file_size) front + h.file_size + sum_by (λ x. x.file_size) back = ap (sum_by (λ (x : Header). x.file_size)) (sym e) ∙ omega (arith, sum_by-append (λ (x : Header). x.file_size) (front ++ h ∷ []) back, sum_by-append (λ (x : Header). x.file_size) front (h ∷ [])) in
     elim much [ inl a ↦ grind (arith, nat_tests) | inr a ↦ grind (arith, nat_tests) ]
 
 -- one header too many
-pub loads_many : (bytes : List ℕ) (i n : ℕ) (h : Header) (loads : List Header) (total : ℕ) → LoadsSoFar bytes i n loads total → i < n → h ≡ program_header_at bytes i → loads_file_bytes h ≡ true → length loads ≡ 64 → exceeds_limits (load_headers bytes) ≡ true
+pub loads_many : (bytes : List ℕ) (i n : ℕ) (h : Header) (loads : List Header) (total : ℕ) → LoadsSoFar bytes i n loads total → i < n → h ≡ program_header_at bytes i → loads_file_bytes h ≡ true → length loads ≡ 64 → exceeds_image_limits (load_headers bytes) ≡ true
 loads_many bytes i n h loads total so_far lt is e much = large (load_headers bytes) loads (filter loads_file_bytes (rest_of bytes (i + 1) n)) h (taken bytes i n h loads total so_far lt is e) (inl (omega arith))
 
 -- too many bytes
-pub loads_long : (bytes : List ℕ) (i n : ℕ) (h : Header) (loads : List Header) (total : ℕ) → LoadsSoFar bytes i n loads total → i < n → h ≡ program_header_at bytes i → loads_file_bytes h ≡ true → 2 ^ 24 - total < h.file_size → exceeds_limits (load_headers bytes) ≡ true
+pub loads_long : (bytes : List ℕ) (i n : ℕ) (h : Header) (loads : List Header) (total : ℕ) → LoadsSoFar bytes i n loads total → i < n → h ≡ program_header_at bytes i → loads_file_bytes h ≡ true → 2 ^ 24 - total < h.file_size → exceeds_image_limits (load_headers bytes) ≡ true
 loads_long bytes i n h loads total so_far lt is e much = large (load_headers bytes) loads (filter loads_file_bytes (rest_of bytes (i + 1) n)) h (taken bytes i n h loads total so_far lt is e) (inr (omega (arith, so_far.sum, so_far.small)))
 
 -- all headers
 pub loads_all : (bytes : List ℕ) (i n : ℕ) (loads : List Header) (total : ℕ) → LoadsSoFar bytes i n loads total → n ≤ i → loads ≡ load_headers bytes
 loads_all bytes i n loads total h le = sym (append-nil loads) ∙ ap (λ (hs : List Header). loads ++ hs) (ap (filter loads_file_bytes) (sym (rest_of-end bytes i n le))) ∙ h.all
 
-pub loads_fit : (loads : List Header) (total : ℕ) → total ≡ sum_by (λ h. h.file_size) loads → length loads ≤ 64 → total ≤ 2 ^ 24 → exceeds_limits loads ≡ false
-unfolding exceeds_limits
+pub loads_fit : (loads : List Header) (total : ℕ) → total ≡ sum_by (λ h. h.file_size) loads → length loads ≤ 64 → total ≤ 2 ^ 24 → exceeds_image_limits loads ≡ false
+unfolding exceeds_image_limits
 loads_fit loads total e few small = grind (arith, nat_tests)
 
 pub loads_same : (bytes : List ℕ) (i n : ℕ) (loads others : List Header) (total other : ℕ) → others ≡ loads → other ≡ total → LoadsSoFar bytes i n loads total → LoadsSoFar bytes i n others other

@@ -28,13 +28,13 @@ abbrev pub is_segment : SegmentData → Bool
 is_segment s = nat_lt 0 (length s.bytes) && nat_le (s.at + length s.bytes) (2 ^ 32)
 
 -- two segments share no address
-abbrev pub are_segments_apart : SegmentData → SegmentData → Bool
-are_segments_apart s t = nat_le (s.at + length s.bytes) t.at || nat_le (t.at + length t.bytes) s.at
+abbrev pub are_segments_disjoint : SegmentData → SegmentData → Bool
+are_segments_disjoint s t = nat_le (s.at + length s.bytes) t.at || nat_le (t.at + length t.bytes) s.at
 
 -- no two segments share an address
-abbrev pub are_all_segments_apart : List SegmentData → Bool
-are_all_segments_apart [] = true
-are_all_segments_apart (s ∷ ss) = list_all (are_segments_apart s) ss && are_all_segments_apart ss
+abbrev pub are_all_segments_disjoint : List SegmentData → Bool
+are_all_segments_disjoint [] = true
+are_all_segments_disjoint (s ∷ ss) = list_all (are_segments_disjoint s) ss && are_all_segments_disjoint ss
 
 -- the bytes in the segments of an image are numbers below 256
 abbrev pub AreSegmentBytes : List SegmentData → Type 0
@@ -47,22 +47,22 @@ pub record IsImage (i : ImageData) : Type 0 where
   pub few : length i.segments ≤ 64
   pub segments : IsTrue (list_all is_segment i.segments)
   pub bytes : AreSegmentBytes i.segments
-  pub apart : IsTrue (are_all_segments_apart i.segments)
+  pub apart : IsTrue (are_all_segments_disjoint i.segments)
   pub small : sum_by (λ s. length s.bytes) i.segments ≤ 2 ^ 24
 
 -- the segment holds the address x
-abbrev pub is_held_by_segment : SegmentData → ℕ → Bool
-is_held_by_segment s x = nat_le s.at x && nat_lt x (s.at + length s.bytes)
+abbrev pub segment_contains : SegmentData → ℕ → Bool
+segment_contains s x = nat_le s.at x && nat_lt x (s.at + length s.bytes)
 
 -- the byte at address x, of the first of these segments that holds x; None if no segment holds x
-abbrev pub segments_byte : List SegmentData → ℕ → Option ℕ
-segments_byte [] x = None
-segments_byte (s ∷ ss) x = if is_held_by_segment s x then slice_get s.bytes (x - s.at) else segments_byte ss x
+abbrev pub byte_in_segments : List SegmentData → ℕ → Option ℕ
+byte_in_segments [] x = None
+byte_in_segments (s ∷ ss) x = if segment_contains s x then slice_get s.bytes (x - s.at) else byte_in_segments ss x
 
 -- the byte of the image at x, None if no segment holds x
 abbrev pub image_byte : ImageData → ℕ → Option ℕ
-image_byte i x = segments_byte i.segments x
+image_byte i x = byte_in_segments i.segments x
 
 -- the image has these bytes from an address on
-abbrev pub HoldsFrom : ImageData → ℕ → List ℕ → Type 0
-HoldsFrom image at bytes = (k b : ℕ) → slice_get bytes k ≡ Some b → image_byte image (at + k) ≡ Some b
+abbrev pub HoldsBytesFrom : ImageData → ℕ → List ℕ → Type 0
+HoldsBytesFrom image at bytes = (k b : ℕ) → slice_get bytes k ≡ Some b → image_byte image (at + k) ≡ Some b

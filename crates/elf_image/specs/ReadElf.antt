@@ -21,8 +21,8 @@ elf_word_at bytes at =
 -- ---- the fields of the ELF header, Elf32_Ehdr
 
 -- ELF's magic bytes, then ELFCLASS32 and ELFDATA2LSB
-abbrev pub ident : List ℕ
-ident = 127 ∷ 69 ∷ 76 ∷ 70 ∷ 1 ∷ 1 ∷ []
+abbrev pub elf_ident_prefix : List ℕ
+elf_ident_prefix = 127 ∷ 69 ∷ 76 ∷ 70 ∷ 1 ∷ 1 ∷ []
 
 -- the kind of file
 abbrev pub e_type : List ℕ → ℕ
@@ -79,15 +79,15 @@ is_load h = h.kind == 1
 
 -- the header's bytes pass the end of a file of this length or address 2^32, or p_filesz is above
 -- p_memsz
-abbrev pub exceeds_bounds : ℕ → Header → Bool
-exceeds_bounds len h =
+abbrev pub has_bytes_out_of_bounds : ℕ → Header → Bool
+has_bytes_out_of_bounds len h =
     nat_lt len (h.offset + h.file_size)
     || nat_lt (2 ^ 32) (h.address + h.file_size)
     || nat_lt h.memory_size h.file_size
 
 -- the program header isn't wholly in the file, or loads bytes that pass a bound
 unfoldable pub is_bad_header : List ℕ → Header → Bool
-is_bad_header bytes h = is_truncated_header bytes h.number || (is_load h && exceeds_bounds (length bytes) h)
+is_bad_header bytes h = is_truncated_header bytes h.number || (is_load h && has_bytes_out_of_bounds (length bytes) h)
 
 -- the program header loads bytes of the file
 unfoldable pub loads_file_bytes : Header → Bool
@@ -108,7 +108,7 @@ has_overlap_with h k = nat_lt h.address (k.address + k.file_size) && nat_lt k.ad
 unfoldable pub elf_header_refusal : List ℕ → Option ImageErr
 elf_header_refusal bytes =
     if nat_lt (length bytes) 52 then Some Short
-    else (if not (starts_with nat_eq bytes ident) then Some NotElf32Le
+    else (if not (starts_with nat_eq bytes elf_ident_prefix) then Some NotElf32Le
     else (if not (e_machine bytes == 44) then Some NotTriCore
     else (if not (e_type bytes == 2) then Some NotExec
     else None)))
@@ -121,8 +121,8 @@ program_header_refusal bytes =
 
 -- the program headers load more segments or more bytes than an image can have: over 64, or over
 -- 2^24
-unfoldable pub exceeds_limits : List Header → Bool
-exceeds_limits loads = nat_lt 64 (length loads) || nat_lt (2 ^ 24) (sum_by (λ h. h.file_size) loads)
+unfoldable pub exceeds_image_limits : List Header → Bool
+exceeds_image_limits loads = nat_lt 64 (length loads) || nat_lt (2 ^ 24) (sum_by (λ h. h.file_size) loads)
 
 -- the first header that shares an address with a later one, and the first such later one
 unfoldable pub overlap_refusal : List Header → Option ImageErr
@@ -135,18 +135,18 @@ unfoldable pub image_refusal : List ℕ → Option ImageErr
 image_refusal bytes =
     option_or (elf_header_refusal bytes)
     (option_or (program_header_refusal bytes)
-    (option_or (then_some (exceeds_limits (load_headers bytes)) TooLarge)
+    (option_or (then_some (exceeds_image_limits (load_headers bytes)) TooLarge)
     (overlap_refusal (load_headers bytes))))
 
 -- ---- the image of a file
 
 -- p_filesz bytes of the file from p_offset on, at p_paddr
-abbrev pub segment_of : List ℕ → Header → SegmentData
-segment_of bytes h = record { at = h.address; bytes = take h.file_size (drop h.offset bytes) }
+abbrev pub loaded_segment : List ℕ → Header → SegmentData
+loaded_segment bytes h = record { at = h.address; bytes = take h.file_size (drop h.offset bytes) }
 
 -- the entry, and a segment for each program header that loads bytes of the file
-unfoldable pub image_of_loads : List ℕ → ImageData
-image_of_loads bytes = record { entry = e_entry bytes; segments = map (segment_of bytes) (load_headers bytes) }
+unfoldable pub image_of_load_headers : List ℕ → ImageData
+image_of_load_headers bytes = record { entry = e_entry bytes; segments = map (loaded_segment bytes) (load_headers bytes) }
 
 -- the refusal, if there is one, else this image
 abbrev pub image_unless_refused : Option ImageErr → ImageData → Result ImageData ImageErr
@@ -155,7 +155,7 @@ image_unless_refused (Some e) i = Err e
 
 -- the image that the bytes of a file load, or the first refusal
 unfoldable pub image_of_file : List ℕ → Result ImageData ImageErr
-image_of_file bytes = image_unless_refused (image_refusal bytes) (image_of_loads bytes)
+image_of_file bytes = image_unless_refused (image_refusal bytes) (image_of_load_headers bytes)
 
 -- a reader's answer is this one, or out of memory
 abbrev pub GivesImage : Result ImageData ImageErr → Result ImageData ImageErr → Type 0

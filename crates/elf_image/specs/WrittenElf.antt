@@ -14,14 +14,14 @@ abbrev pub elf_word_bytes : ℕ → List ℕ
 elf_word_bytes n = to_le_bytes w32 n
 
 -- e_ident: ELF's magic bytes, ELFCLASS32, ELFDATA2LSB and EV_CURRENT
-abbrev pub identification : List ℕ
-identification = 127 ∷ 69 ∷ 76 ∷ 70 ∷ 1 ∷ 1 ∷ 1 ∷ 0 ∷ 0 ∷ 0 ∷ 0 ∷ 0 ∷ 0 ∷ 0 ∷ 0 ∷ 0 ∷ []
+abbrev pub elf_ident : List ℕ
+elf_ident = 127 ∷ 69 ∷ 76 ∷ 70 ∷ 1 ∷ 1 ∷ 1 ∷ 0 ∷ 0 ∷ 0 ∷ 0 ∷ 0 ∷ 0 ∷ 0 ∷ 0 ∷ 0 ∷ []
 
 -- the ELF header of a written file: e_ident; e_type ET_EXEC, e_machine 44, e_version; e_entry,
 -- e_phoff, e_shoff, e_flags; e_ehsize, e_phentsize, e_phnum, e_shentsize, e_shnum and e_shstrndx
 unfoldable pub elf_header : ℕ → ℕ → List ℕ
 elf_header entry count =
-    identification ++ elf_half_bytes 2 ++ elf_half_bytes 44 ++ elf_word_bytes 1 ++ elf_word_bytes entry ++ elf_word_bytes 52 ++ elf_word_bytes 0 ++ elf_word_bytes 0
+    elf_ident ++ elf_half_bytes 2 ++ elf_half_bytes 44 ++ elf_word_bytes 1 ++ elf_word_bytes entry ++ elf_word_bytes 52 ++ elf_word_bytes 0 ++ elf_word_bytes 0
     ++ elf_half_bytes 52 ++ elf_half_bytes 32 ++ elf_half_bytes count ++ elf_half_bytes 0 ++ elf_half_bytes 0 ++ elf_half_bytes 0
 
 -- the program header of a segment in a written file: p_type PT_LOAD, p_offset, p_vaddr, p_paddr;

@@ -2,7 +2,7 @@
 ghost use Rattle.std.specs.Prelude.{◌≡◌, ◌+◌, ◌≤◌, ◌<◌, length, find, Option, Some, None, OnOk, ◌-◌, true};
 ghost use Rattle.std.specs.Result.{result_err};
 ghost use Rattle.std.specs.Option.{option_map};
-ghost use Rattle.elf_image.specs.ReadElf.{program_headers_of, is_bad_header, elf_header_refusal, program_header_refusal, has_overlap_with, overlap_refusal, exceeds_bounds, program_header_offset, program_header_at};
+ghost use Rattle.elf_image.specs.ReadElf.{program_headers_of, is_bad_header, elf_header_refusal, program_header_refusal, has_overlap_with, overlap_refusal, has_bytes_out_of_bounds, program_header_offset, program_header_at};
 
 use crate::ImageErr;
 use crate::headers::{
@@ -62,7 +62,7 @@ pub(crate) fn check_no_overlap(loads: &[Header]) -> Result<(), ImageErr>
 /// Returns true if a check refuses a program header: its bytes pass the end of a file of this
 /// length, address 2^32 or its own memory size.
 pub(crate) fn has_bytes_out_of_bounds(len: usize, header: &Header) -> bool
-    ensures { result ≡ exceeds_bounds len header.now }
+    ensures { result ≡ has_bytes_out_of_bounds len header.now }
 {
     let size = u64::from(header.file_size);
     u64::from(header.offset) + size > len as u64

@@ -1,7 +1,7 @@
 // Segments: bytes from an address on, and those that an ELF file loads.
 ghost use Rattle.std.specs.Prelude.{◌≡◌, ◌≤◌, ◌<◌, ◌-◌, ◌^◌, All, map, slice_get, ◌+◌, length, IfOk, IfErr};
-ghost use Rattle.elf_image.specs.Images.{segment_data, is_held_by_segment, AreSegmentBytes};
-ghost use Rattle.elf_image.specs.ReadElf.{segment_of};
+ghost use Rattle.elf_image.specs.Images.{segment_data, segment_contains, AreSegmentBytes};
+ghost use Rattle.elf_image.specs.ReadElf.{loaded_segment};
 
 use crate::ImageErr;
 use crate::headers::Header;
@@ -16,7 +16,7 @@ pub struct Segment {
 
 /// Returns true if this segment of an executable holds an address.
 pub(crate) fn segment_contains(segment: &Segment, addr: u32) -> bool
-    ensures { result ≡ is_held_by_segment (segment_data segment.now) addr }
+    ensures { result ≡ segment_contains (segment_data segment.now) addr }
 {
     segment.at <= addr && ((addr - segment.at) as usize) < segment.bytes.len()
 }
@@ -47,7 +47,7 @@ pub(crate) fn loaded_segments(
 ) -> Result<Vec<Segment>, ImageErr>
     requires { All (λ h. h.offset + h.file_size ≤ length bytes.now) loads.now }
     ensures ok { IfOk result (λ v.
-        map segment_data v.items ≡ map (segment_of bytes.now) loads.now) }
+        map segment_data v.items ≡ map (loaded_segment bytes.now) loads.now) }
     ensures err { IfErr result (λ e. e ≡ ImageErr.NoMemory) }
 {
     let mut segments = Vec::new(alloc);
@@ -70,7 +70,7 @@ fn segment_bytes_below_256(bytes: &[u8])
 // Returns the segment that a program header loads from an ELF file.
 fn loaded_segment(alloc: Global, bytes: &[u8], load: &Header) -> Result<Segment, ImageErr>
     requires { load.now.offset + load.now.file_size ≤ length bytes.now }
-    ensures ok { IfOk result (λ s. segment_data s ≡ segment_of bytes.now load.now) }
+    ensures ok { IfOk result (λ s. segment_data s ≡ loaded_segment bytes.now load.now) }
     ensures err { IfErr result (λ e. e ≡ ImageErr.NoMemory) }
 {
     let start = load.offset as usize;

@@ -10,7 +10,7 @@ use Rattle.std.specs.declared.alloc.Global.{Global}
 use Rattle.indexmap.specs.IndexMap.{IndexMap, get}
 use Rattle.frame_places.specs.declared.needs.reach.FrameEdge.{FrameEdge}
 use Rattle.frame_places.specs.declared.needs.row.NeedRow.{NeedRow}
-use Rattle.frame_places.specs.NodeGraph.{edge_to, AreEdges, AddsEdges, AreEdgesBetween, LeadsAlongEdges, here, along, IsRecursiveNode, unmarked_nodes, HasPredecessor, ArePredecessors, ArePredecessorsBelow, AddsPredecessor, MarksNodes, IsMarking, AreReachingMarks, IsFirstRecursiveNodeBefore, IsFirstRecursiveNode, IsNodeMarked}
+use Rattle.frame_places.specs.NodeGraph.{edge_between, AreEdgesOfRows, AddsEdges, AreEdgesBelow, IsNodeReachedFrom, here, along, IsRecursiveNode, count_unmarked, IsAmongPredecessors, ArePredecessors, ArePredecessorsBelow, AddsPredecessor, MarksAndQueues, SearchInvariantHolds, AreReachingMarks, IsFirstRecursiveNodeBefore, IsFirstRecursiveNode, IsNodeMarked}
 use Rattle.frame_places.specs.Hashed.{edge_eq}
 
 -- ---- one more mark
@@ -31,7 +31,7 @@ marked_keeps marks i k lt m =
       | inr ne ↦ get_or-set_other marks i k true false ne ∙ m
     ]
 
-unmarked_less : (marks : List Bool) (i : ℕ) → i < length marks → get_or marks i false ≡ false → unmarked_nodes (set marks i true) < unmarked_nodes marks
+unmarked_less : (marks : List Bool) (i : ℕ) → i < length marks → get_or marks i false ≡ false → count_unmarked (set marks i true) < count_unmarked marks
 unmarked_less [] i lt e = absurd (omega arith)
 unmarked_less (true ∷ ms) zero lt e = cc
 unmarked_less (false ∷ ms) zero lt e = omega arith
@@ -45,7 +45,7 @@ one_node node k c = at c.0 c.1 c.2 where
   at (suc i) lt same = absurd (omega arith)
 
 -- ---- one more node
-pub node_new : (node : ℕ) (marks : List Bool) (work : List ℕ) → node < length marks → get_or marks node false ≡ false → MarksNodes (node ∷ []) marks (set marks node true) work (work ++ node ∷ [])
+pub node_new : (node : ℕ) (marks : List Bool) (work : List ℕ) → node < length marks → get_or marks node false ≡ false → MarksAndQueues (node ∷ []) marks (set marks node true) work (work ++ node ∷ [])
 node_new node marks work lt free = record {
   keeps = λ k m. marked_keeps marks node k lt m;
   marks = λ k c. subst (IsNodeMarked (set marks node true)) (one_node node k c) (marked_same marks node lt);
@@ -71,7 +71,7 @@ node_new node marks work lt free = record {
 
 -- ---- several
 
-pub nodes_more : (ns : List ℕ) (n : ℕ) (a b d : List Bool) (w x y : List ℕ) → MarksNodes ns a b w x → MarksNodes (n ∷ []) b d x y → MarksNodes (ns ++ n ∷ []) a d w y
+pub nodes_more : (ns : List ℕ) (n : ℕ) (a b d : List Bool) (w x y : List ℕ) → MarksAndQueues ns a b w x → MarksAndQueues (n ∷ []) b d x y → MarksAndQueues (ns ++ n ∷ []) a d w y
 nodes_more ns n a b d w x y h g = record {
   keeps = λ k m. g.keeps k (h.keeps k m);
   marks = λ k c.
@@ -102,13 +102,13 @@ nodes_more ns n a b d w x y h g = record {
 -- ---- all from which a node is reached
 -- the sources of a queued node are marked
 pub marking_more : {S : Type 0} (edges : List FrameEdge) (sources : IndexMap ℕ (Vec ℕ Global) S) (nodes j t : ℕ) (list : Vec ℕ Global) (a b : List Bool) (w x : List ℕ) → ArePredecessors edges sources
-    → get nat_eq sources t ≡ Some list → MarksNodes list.items a b w x → IsMarking edges nodes j a (w ++ t ∷ []) → IsMarking edges nodes j b x
+    → get nat_eq sources t ≡ Some list → MarksAndQueues list.items a b w x → SearchInvariantHolds edges nodes j a (w ++ t ∷ []) → SearchInvariantHolds edges nodes j b x
 marking_more edges sources nodes j t list a b w x are at m old = record {
   all = m.same ∙ old.all;
   sound = λ k h.
       elim (m.only k h) [
         | inl o ↦ old.sound k o
-        | inr c ↦ along k t (are.sound k t (subst (λ (o : Option (Vec ℕ Global)). HasPredecessor o k) (sym at) c)) (old.sound t (old.listed t (Contains-push w t)))
+        | inr c ↦ along k t (are.sound k t (subst (λ (o : Option (Vec ℕ Global)). IsAmongPredecessors o k) (sym at) c)) (old.sound t (old.listed t (Contains-push w t)))
       ];
   goal = m.keeps j old.goal;
   listed = λ k c.
@@ -121,7 +121,7 @@ marking_more edges sources nodes j t list a b w x are at m old = record {
         | inl o ↦ (elim (old.done k u e o) [
           | inl c ↦ (elim (Contains-push_cases w t u c) [
             | inl i ↦ inl (m.listed u i)
-            | inr same ↦ inr (m.marks k (subst (λ (o : Option (Vec ℕ Global)). HasPredecessor o k) at (subst (λ (n : ℕ). HasPredecessor (get nat_eq sources n) k) (sym same) (are.complete k u e))))
+            | inr same ↦ inr (m.marks k (subst (λ (o : Option (Vec ℕ Global)). IsAmongPredecessors o k) at (subst (λ (n : ℕ). IsAmongPredecessors (get nat_eq sources n) k) (sym same) (are.complete k u e))))
           ])
           | inr p ↦ inr (m.keeps k p)
         ])
@@ -131,7 +131,7 @@ marking_more edges sources nodes j t list a b w x are at m old = record {
 
 -- a node without sources is skipped
 pub marking_past : {S : Type 0} (edges : List FrameEdge) (sources : IndexMap ℕ (Vec ℕ Global) S) (nodes j t : ℕ) (a : List Bool) (w : List ℕ) → ArePredecessors edges sources
-    → get nat_eq sources t ≡ None → IsMarking edges nodes j a (w ++ t ∷ []) → IsMarking edges nodes j a w
+    → get nat_eq sources t ≡ None → SearchInvariantHolds edges nodes j a (w ++ t ∷ []) → SearchInvariantHolds edges nodes j a w
 marking_past edges sources nodes j t a w are none old = record {
   all = old.all;
   sound = old.sound;
@@ -141,20 +141,20 @@ marking_past edges sources nodes j t a w are none old = record {
       elim (old.done k u e h) [
         | inl c ↦ (elim (Contains-push_cases w t u c) [
           | inl i ↦ inl i
-          | inr same ↦ absurd (subst (λ (o : Option (Vec ℕ Global)). HasPredecessor o k) none (subst (λ (n : ℕ). HasPredecessor (get nat_eq sources n) k) (sym same) (are.complete k u e)))
+          | inr same ↦ absurd (subst (λ (o : Option (Vec ℕ Global)). IsAmongPredecessors o k) none (subst (λ (n : ℕ). IsAmongPredecessors (get nat_eq sources n) k) (sym same) (are.complete k u e)))
         ])
         | inr p ↦ inr p
       ];
 }
 
-pub sources_below : {S : Type 0} (edges : List FrameEdge) (sources : IndexMap ℕ (Vec ℕ Global) S) (nodes : ℕ) → ArePredecessors edges sources → AreEdgesBetween edges nodes → ArePredecessorsBelow sources nodes
-sources_below edges sources nodes are between k t h = between.node (edge_to k t) (are.sound k t h)
+pub sources_below : {S : Type 0} (edges : List FrameEdge) (sources : IndexMap ℕ (Vec ℕ Global) S) (nodes : ℕ) → ArePredecessors edges sources → AreEdgesBelow edges nodes → ArePredecessorsBelow sources nodes
+sources_below edges sources nodes are between k t h = between.node (edge_between k t) (are.sound k t h)
 
-closed_marks : (edges : List FrameEdge) (nodes j : ℕ) (marks : List Bool) → IsMarking edges nodes j marks [] → (k : ℕ) → LeadsAlongEdges edges j k → IsNodeMarked marks k
+closed_marks : (edges : List FrameEdge) (nodes j : ℕ) (marks : List Bool) → SearchInvariantHolds edges nodes j marks [] → (k : ℕ) → IsNodeReachedFrom edges j k → IsNodeMarked marks k
 closed_marks edges nodes j marks m _ here = m.goal
 closed_marks edges nodes j marks m _ (along k t c r) = elim (m.done k t c (closed_marks edges nodes j marks m t r)) [ inl i ↦ absurd (omega (arith, i.1)) | inr h ↦ h ]
 
-pub marking_done : (edges : List FrameEdge) (nodes j : ℕ) (marks : List Bool) → IsMarking edges nodes j marks [] → AreReachingMarks edges nodes j marks
+pub marking_done : (edges : List FrameEdge) (nodes j : ℕ) (marks : List Bool) → SearchInvariantHolds edges nodes j marks [] → AreReachingMarks edges nodes j marks
 marking_done edges nodes j marks m = record { each = m.all; sound = m.sound; complete = closed_marks edges nodes j marks m }
 
 zeros : (n k : ℕ) → get_or (replicate n false) k false ≡ false
@@ -169,10 +169,10 @@ only_goal nodes j k m =
       | inr e ↦ e
     ]
 
-pub marking_begins : (edges : List FrameEdge) (nodes j : ℕ) → j < nodes → length (replicate nodes false) ≡ nodes → IsMarking edges nodes j (set (replicate nodes false) j true) (j ∷ [])
+pub marking_begins : (edges : List FrameEdge) (nodes j : ℕ) → j < nodes → length (replicate nodes false) ≡ nodes → SearchInvariantHolds edges nodes j (set (replicate nodes false) j true) (j ∷ [])
 marking_begins edges nodes j lt len = record {
   all = length-set (replicate nodes false) j true ∙ len;
-  sound = λ k m. subst (LeadsAlongEdges edges j) (sym (only_goal nodes j k m)) here;
+  sound = λ k m. subst (IsNodeReachedFrom edges j) (sym (only_goal nodes j k m)) here;
   goal = marked_same (replicate nodes false) j (omega arith);
   listed = λ k c. subst (IsNodeMarked (set (replicate nodes false) j true)) (one_node j k c) (marked_same (replicate nodes false) j (omega arith));
   done = λ k t e m. inl (subst (λ (n : ℕ). Contains (j ∷ []) n) (sym (only_goal nodes j t m)) (0, omega arith, refl));
@@ -180,7 +180,7 @@ marking_begins edges nodes j lt len = record {
 
 -- a node is recursive if it enters one from which it is reached
 pub recurring_marks : (edges : List FrameEdge) (nodes node : ℕ) (marks : List Bool) (r : Bool) → AreReachingMarks edges nodes node marks
-    → (IsTrue r → (t : ℕ) × Contains edges (edge_to node t) × IsNodeMarked marks t) × (((t : ℕ) × Contains edges (edge_to node t) × IsNodeMarked marks t) → IsTrue r)
+    → (IsTrue r → (t : ℕ) × Contains edges (edge_between node t) × IsNodeMarked marks t) × (((t : ℕ) × Contains edges (edge_between node t) × IsNodeMarked marks t) → IsTrue r)
     → (IsTrue r → IsRecursiveNode edges node) × (IsRecursiveNode edges node → IsTrue r)
 recurring_marks edges nodes node marks r are tells = (
   (λ h. let f = tells.0 h in record { next = f.0; enters = f.1; back = are.sound f.0 f.2 }),
@@ -188,9 +188,9 @@ recurring_marks edges nodes node marks r are tells = (
 )
 
 -- ---- the first so far
-pub first_done : (orders : List ℕ) (edges : List FrameEdge) (first : Option ℕ) (n : ℕ) → AreEdgesBetween edges (length orders) → length orders ≤ n → IsFirstRecursiveNodeBefore orders edges n first → IsFirstRecursiveNode orders edges first
-first_done orders edges None n between le h = λ k r. h k (omega (arith, between.node (edge_to k r.next) r.enters)) r
-first_done orders edges (Some k) n between le h = (h.0, h.1, (λ j r. h.2 j (omega (arith, between.node (edge_to j r.next) r.enters)) r))
+pub first_done : (orders : List ℕ) (edges : List FrameEdge) (first : Option ℕ) (n : ℕ) → AreEdgesBelow edges (length orders) → length orders ≤ n → IsFirstRecursiveNodeBefore orders edges n first → IsFirstRecursiveNode orders edges first
+first_done orders edges None n between le h = λ k r. h k (omega (arith, between.node (edge_between k r.next) r.enters)) r
+first_done orders edges (Some k) n between le h = (h.0, h.1, (λ j r. h.2 j (omega (arith, between.node (edge_between j r.next) r.enters)) r))
 
 -- a node that isn't recursive
 pub first_not : (orders : List ℕ) (edges : List FrameEdge) (first : Option ℕ) (n : ℕ) → IsFirstRecursiveNodeBefore orders edges n first → (IsRecursiveNode edges n → ⊥) → IsFirstRecursiveNodeBefore orders edges (n + 1) first
@@ -205,17 +205,17 @@ first_here orders edges (Some k) n lt h less r = (lt, r, below_more _ n (λ j b 
 
 -- ---- edges
 
-pub edges_more : (rows : List NeedRow) (row : NeedRow) (old new : List FrameEdge) → AreEdges rows old → AddsEdges old new row.node row.into.items → AreEdges (rows ++ row ∷ []) new
+pub edges_more : (rows : List NeedRow) (row : NeedRow) (old new : List FrameEdge) → AreEdgesOfRows rows old → AddsEdges old new row.node row.into.items → AreEdgesOfRows (rows ++ row ∷ []) new
 edges_more rows row old new are adds = record {
   sound = λ k t c.
-      elim (adds.sound (edge_to k t) c) [
+      elim (adds.sound (edge_between k t) c) [
         | inl h ↦ (let r = are.sound k t h in (r.0, Contains-append_left rows (row ∷ []) r.0 r.1, r.2, r.3))
         | inr h ↦ (row, Contains-push rows row, sym h.0, h.1)
       ];
   complete = λ k t h.
       elim (Contains-push_cases rows row h.0 h.1) [
-        | inl i ↦ adds.keeps (edge_to k t) (are.complete k t (h.0, i, h.2, h.3))
-        | inr e ↦ subst (λ (n : ℕ). Contains new (edge_to n t)) (ap (λ (r : NeedRow). r.node) e ∙ h.2) (adds.complete t (subst (λ (r : NeedRow). Contains r.into.items t) (sym e) h.3))
+        | inl i ↦ adds.keeps (edge_between k t) (are.complete k t (h.0, i, h.2, h.3))
+        | inr e ↦ subst (λ (n : ℕ). Contains new (edge_between n t)) (ap (λ (r : NeedRow). r.node) e ∙ h.2) (adds.complete t (subst (λ (r : NeedRow). Contains r.into.items t) (sym e) h.3))
       ];
 }
 
@@ -229,11 +229,11 @@ key_kept false es e x c = Contains-append_left es (e ∷ []) x c
 
 -- one more edge, unless it is there
 pub adds_more : (t : Bool) (old new after : List FrameEdge) (node i x d : ℕ) (into : List ℕ) → AddsEdges old new node (take i into) → i < length into → x ≡ get_or into i d
-    → after ≡ (if t then new else new ++ edge_to node x ∷ []) → Contains after (edge_to node x) → AddsEdges old after node (take (i + 1) into)
+    → after ≡ (if t then new else new ++ edge_between node x ∷ []) → Contains after (edge_between node x) → AddsEdges old after node (take (i + 1) into)
 adds_more t old new after node i x d into adds lt is after_is has = record {
-  keeps = λ e c. subst (λ (l : List FrameEdge). Contains l e) (sym after_is) (key_kept t new (edge_to node x) e (adds.keeps e c));
+  keeps = λ e c. subst (λ (l : List FrameEdge). Contains l e) (sym after_is) (key_kept t new (edge_between node x) e (adds.keeps e c));
   sound = λ e c.
-      elim (key_sides t new (edge_to node x) e (subst (λ (l : List FrameEdge). Contains l e) after_is c)) [
+      elim (key_sides t new (edge_between node x) e (subst (λ (l : List FrameEdge). Contains l e) after_is c)) [
         | inl h ↦ (elim (adds.sound e h) [
           | inl o ↦ inl o
           | inr m ↦ inr (m.0, subst (λ (l : List ℕ). Contains l e.into) (sym (take_more into i d lt)) (Contains-append_left (take i into) (get_or into i d ∷ []) e.into m.1))
@@ -246,8 +246,8 @@ adds_more t old new after node i x d into adds lt is after_is has = record {
       ];
   complete = λ y c.
       elim (Contains-push_cases (take i into) (get_or into i d) y (subst (λ (l : List ℕ). Contains l y) (take_more into i d lt) c)) [
-        | inl h ↦ subst (λ (l : List FrameEdge). Contains l (edge_to node y)) (sym after_is) (key_kept t new (edge_to node x) (edge_to node y) (adds.complete y h))
-        | inr e ↦ subst (λ (n : ℕ). Contains after (edge_to node n)) (is ∙ e) has
+        | inl h ↦ subst (λ (l : List FrameEdge). Contains l (edge_between node y)) (sym after_is) (key_kept t new (edge_between node x) (edge_between node y) (adds.complete y h))
+        | inr e ↦ subst (λ (n : ℕ). Contains after (edge_between node n)) (is ∙ e) has
       ];
 }
 
@@ -267,22 +267,22 @@ pub sources_more : {S T : Type 0} (edges : List FrameEdge) (edge : FrameEdge) (o
 sources_more edges edge old new are adds = record {
   sound = λ k t h.
       elim (adds.sound k t h) [
-        | inl o ↦ Contains-append_left edges (edge ∷ []) (edge_to k t) (are.sound k t o)
-        | inr e ↦ subst (Contains (edges ++ edge ∷ [])) (λ i. edge_to (sym e.0 i) (sym e.1 i)) (Contains-push edges edge)
+        | inl o ↦ Contains-append_left edges (edge ∷ []) (edge_between k t) (are.sound k t o)
+        | inr e ↦ subst (Contains (edges ++ edge ∷ [])) (λ i. edge_between (sym e.0 i) (sym e.1 i)) (Contains-push edges edge)
       ];
   complete = λ k t c.
-      elim (Contains-push_cases edges edge (edge_to k t) c) [
+      elim (Contains-push_cases edges edge (edge_between k t) c) [
         | inl i ↦ adds.keeps k t (are.complete k t i)
-        | inr e ↦ subst (λ (z : FrameEdge). HasPredecessor (get nat_eq new z.into) z.node) e adds.there
+        | inr e ↦ subst (λ (z : FrameEdge). IsAmongPredecessors (get nat_eq new z.into) z.node) e adds.there
       ];
 }
 
 -- if ranks rise along each edge, no node is reached from one that it enters
 pub ranks_rise : (edges : List FrameEdge) (ranks : List ℕ) → ((e : FrameEdge) → Contains edges e → slice_index ranks e.node < slice_index ranks e.into) → (k : ℕ) → IsRecursiveNode edges k → ⊥
 ranks_rise edges ranks rise k r = let a = past k r.next r.enters in let b = lead k r.next r.back in omega (arith, a, b) where
-  past : (k t : ℕ) → Contains edges (edge_to k t) → slice_index ranks k < slice_index ranks t
-  past k t c = rise (edge_to k t) c
+  past : (k t : ℕ) → Contains edges (edge_between k t) → slice_index ranks k < slice_index ranks t
+  past k t c = rise (edge_between k t) c
 
-  lead : (j k : ℕ) → LeadsAlongEdges edges j k → slice_index ranks k ≤ slice_index ranks j
+  lead : (j k : ℕ) → IsNodeReachedFrom edges j k → slice_index ranks k ≤ slice_index ranks j
   lead j _ here = omega arith
   lead j _ (along k t c r) = let a = past k t c in let b = lead j t r in omega (arith, a, b)

@@ -4,7 +4,7 @@ use Rattle.std.specs.Prelude.{IfSome, IfNone}
 use Rattle.std.proofs.lemmas.List.Elements.{Contains-append_cases, Contains-append_left, Contains-append_right, Contains-push, Contains-push_cases}
 use Rattle.std.proofs.lemmas.List.Sorted.{Contains-permutation, IsPermutation-append_left, IsPermutation-append_right, IsPermutation-middle, IsPermutation-refl, IsPermutation-sym, IsPermutation-to_front, IsPermutation-trans, length_permutation}
 use Rattle.std.specs.List.Sorted.{IsPermutation}
-use Rattle.frame_places.specs.Work.{BeginsRound, HasNoNext, WorkLists, PutsWaitingOrNext, PutsEntry, PutsEntryOrNext, PutsNext, PutsWaiting, TakesPlace, TakesFirst, TakesLast, TakesRound, RefillsFirst, all_work}
+use Rattle.frame_places.specs.Work.{BeginsRound, HasEmptyQueue, WorkLists, PushesWaitingOrNext, PushesEntry, PushesEntryOrNext, PushesNext, PushesWaiting, PopsPlace, PopsFirst, PopsLast, PopsFromRound, RefillsFirst, all_work}
 
 -- a list has the elements of another, and one number
 abbrev pub Adds : List ℕ → List ℕ → ℕ → Type 0
@@ -49,32 +49,32 @@ behind xs ys zs number adds =
     IsPermutation-trans (number ∷ (xs ++ ys)) (xs ++ number ∷ ys) (xs ++ zs) (IsPermutation-sym (xs ++ number ∷ ys) (number ∷ (xs ++ ys)) (IsPermutation-middle xs number ys))
     (IsPermutation-append_right xs (number ∷ ys) zs adds)
 
-pub adds_next : (old new : WorkLists) (number : ℕ) → PutsNext old new number → Adds (all_work old) (all_work new) number
+pub adds_next : (old new : WorkLists) (number : ℕ) → PushesNext old new number → Adds (all_work old) (all_work new) number
 adds_next old new number puts =
     let rest = old.round ++ old.waiting in
     let more = old.next ++ number ∷ [] in
     subst (λ (l : List ℕ). Adds (all_work old) l number) (sym (parts new old.first more old.round old.waiting puts.first puts.next puts.round puts.waiting))
     (behind old.first (old.next ++ rest) (more ++ rest) number (IsPermutation-append_left rest (number ∷ old.next) more (at_end old.next number)))
 
-pub adds_waiting : (old new : WorkLists) (number : ℕ) → PutsWaiting old new number → Adds (all_work old) (all_work new) number
+pub adds_waiting : (old new : WorkLists) (number : ℕ) → PushesWaiting old new number → Adds (all_work old) (all_work new) number
 adds_waiting old new number puts =
     let rest = old.round ++ old.waiting in
     let more = old.round ++ new.waiting in
     subst (λ (l : List ℕ). Adds (all_work old) l number) (sym (parts new old.first old.next old.round new.waiting puts.first puts.next puts.round refl))
     (behind old.first (old.next ++ rest) (old.next ++ more) number (behind old.next rest more number (behind old.round old.waiting new.waiting number puts.waiting)))
 
-pub adds_either : (waits : Bool) (old new : WorkLists) (number : ℕ) → PutsWaitingOrNext waits old new number → Adds (all_work old) (all_work new) number
+pub adds_either : (waits : Bool) (old new : WorkLists) (number : ℕ) → PushesWaitingOrNext waits old new number → Adds (all_work old) (all_work new) number
 adds_either true old new number puts = adds_waiting old new number puts
 adds_either false old new number puts = adds_next old new number puts
 
-pub adds_entry : (old new : WorkLists) (number : ℕ) → PutsEntry old new number → Adds (all_work old) (all_work new) number
+pub adds_entry : (old new : WorkLists) (number : ℕ) → PushesEntry old new number → Adds (all_work old) (all_work new) number
 adds_entry old new number puts =
     let rest = old.round ++ old.waiting in
     let more = new.round ++ old.waiting in
     subst (λ (l : List ℕ). Adds (all_work old) l number) (sym (parts new old.first old.next new.round old.waiting puts.first puts.next refl puts.waiting))
     (behind old.first (old.next ++ rest) (old.next ++ more) number (behind old.next rest more number (IsPermutation-append_left old.waiting (number ∷ old.round) new.round puts.round)))
 
-pub adds_new : (entry : Bool) (old new : WorkLists) (number : ℕ) → PutsEntryOrNext entry old new number → Adds (all_work old) (all_work new) number
+pub adds_new : (entry : Bool) (old new : WorkLists) (number : ℕ) → PushesEntryOrNext entry old new number → Adds (all_work old) (all_work new) number
 adds_new true old new number puts = adds_entry old new number puts
 adds_new false old new number puts = adds_next old new number puts
 
@@ -84,25 +84,25 @@ from_end : (xs ys : List ℕ) (number : ℕ) → IsPermutation ((xs ++ number �
 from_end xs ys number = IsPermutation-append_left ys (xs ++ number ∷ []) (number ∷ xs) (IsPermutation-to_front xs number)
 
 -- from the whole list
-taken_of : (old new : WorkLists) (number : ℕ) (before after : List ℕ) → all_work old ≡ before → all_work new ≡ after → IsPermutation before (number ∷ after) → TakesPlace old new number
+taken_of : (old new : WorkLists) (number : ℕ) (before after : List ℕ) → all_work old ≡ before → all_work new ≡ after → IsPermutation before (number ∷ after) → PopsPlace old new number
 taken_of old new number before after a b h =
     subst (λ (l : List ℕ). IsPermutation l (number ∷ all_work new)) (sym a) (subst (λ (l : List ℕ). IsPermutation before (number ∷ l)) (sym b) h)
 
 same_of : (old new : WorkLists) (before after : List ℕ) → all_work old ≡ before → all_work new ≡ after → IsPermutation before after → IsPermutation (all_work old) (all_work new)
 same_of old new before after a b h = subst (λ (l : List ℕ). IsPermutation l (all_work new)) (sym a) (subst (λ (l : List ℕ). IsPermutation before l) (sym b) h)
 
-takes_same : (old mid new : WorkLists) (number : ℕ) → IsPermutation (all_work old) (all_work mid) → TakesPlace mid new number → TakesPlace old new number
+takes_same : (old mid new : WorkLists) (number : ℕ) → IsPermutation (all_work old) (all_work mid) → PopsPlace mid new number → PopsPlace old new number
 takes_same old mid new number same takes = IsPermutation-trans (all_work old) (all_work mid) (number ∷ all_work new) same takes
 
 -- the first one
-pub takes_first : (old new : WorkLists) (number : ℕ) → TakesFirst old new number → TakesPlace old new number
+pub takes_first : (old new : WorkLists) (number : ℕ) → PopsFirst old new number → PopsPlace old new number
 takes_first old new number takes =
     let rest = new.next ++ (new.round ++ new.waiting) in
     taken_of old new number ((new.first ++ number ∷ []) ++ rest) (new.first ++ rest)
     (parts old (new.first ++ number ∷ []) new.next new.round new.waiting takes.first (sym takes.next) (sym takes.round) (sym takes.waiting)) refl (from_end new.first rest number)
 
 -- the last of those that are next
-pub takes_last : (old new : WorkLists) (number : ℕ) → old.first ≡ [] → TakesLast old new number → TakesPlace old new number
+pub takes_last : (old new : WorkLists) (number : ℕ) → old.first ≡ [] → PopsLast old new number → PopsPlace old new number
 takes_last old new number none takes =
     let rest = new.round ++ new.waiting in
     taken_of old new number ((new.next ++ number ∷ []) ++ rest) (new.next ++ rest)
@@ -117,12 +117,12 @@ turned_all old mid none turns =
     (parts mid mid.first [] old.round old.waiting refl (turns.next ∙ none) turns.round turns.waiting) (IsPermutation-append_left rest old.next mid.first turns.first)
 
 -- for the result of a call
-pub last_some : (old mid new : WorkLists) (r : Option ℕ) → mid ≡ old → old.first ≡ [] → IfSome r (TakesLast mid new) → IfSome r (TakesPlace old new)
+pub last_some : (old mid new : WorkLists) (r : Option ℕ) → mid ≡ old → old.first ≡ [] → IfSome r (PopsLast mid new) → IfSome r (PopsPlace old new)
 last_some old mid new None same none takes = takes
 last_some old mid new (Some number) same none takes =
-    subst (λ (w : WorkLists). TakesPlace w new number) same (takes_last mid new number (ap (λ (w : WorkLists). w.first) same ∙ none) takes)
+    subst (λ (w : WorkLists). PopsPlace w new number) same (takes_last mid new number (ap (λ (w : WorkLists). w.first) same ∙ none) takes)
 
-pub last_none : (old mid new : WorkLists) (r : Option ℕ) → mid ≡ old → old.first ≡ [] → IfNone r ((mid.next ≡ []) × (new ≡ mid)) → IfNone r (HasNoNext old new)
+pub last_none : (old mid new : WorkLists) (r : Option ℕ) → mid ≡ old → old.first ≡ [] → IfNone r ((mid.next ≡ []) × (new ≡ mid)) → IfNone r (HasEmptyQueue old new)
 last_none old mid new None same none left =
     let all = left.1 ∙ same in
     record {
@@ -132,13 +132,13 @@ last_none old mid new None same none left =
     }
 last_none old mid new (Some number) same none left = left
 
-pub turned_some : (old mid turned new : WorkLists) (r : Option ℕ) → mid ≡ old → old.first ≡ [] → RefillsFirst mid turned → IfSome r (TakesFirst turned new) → IfSome r (TakesPlace old new)
+pub turned_some : (old mid turned new : WorkLists) (r : Option ℕ) → mid ≡ old → old.first ≡ [] → RefillsFirst mid turned → IfSome r (PopsFirst turned new) → IfSome r (PopsPlace old new)
 turned_some old mid turned new None same none turns takes = takes
 turned_some old mid turned new (Some number) same none turns takes =
-    subst (λ (w : WorkLists). TakesPlace w new number) same
+    subst (λ (w : WorkLists). PopsPlace w new number) same
     (takes_same mid turned new number (turned_all mid turned (ap (λ (w : WorkLists). w.first) same ∙ none) turns) (takes_first turned new number takes))
 
-pub turned_none : (old mid turned new : WorkLists) (r : Option ℕ) → mid ≡ old → old.first ≡ [] → RefillsFirst mid turned → IfNone r ((turned.first ≡ []) × (new ≡ turned)) → IfNone r (HasNoNext old new)
+pub turned_none : (old mid turned new : WorkLists) (r : Option ℕ) → mid ≡ old → old.first ≡ [] → RefillsFirst mid turned → IfNone r ((turned.first ≡ []) × (new ≡ turned)) → IfNone r (HasEmptyQueue old new)
 turned_none old mid turned new None same none turns left =
     let empty = ap (λ (w : WorkLists). w.first) same ∙ none in
     record {
@@ -156,7 +156,7 @@ moved_same old new first next both =
     (IsPermutation-append_right old.first (old.next ++ (old.round ++ old.waiting)) (old.next ++ (new.round ++ new.waiting)) (IsPermutation-append_right old.next (old.round ++ old.waiting) (new.round ++ new.waiting) both))
 
 -- one of this round
-pub takes_round : (old mid new : WorkLists) (number : ℕ) → HasNoNext old mid → TakesRound mid new number → TakesPlace old new number
+pub takes_round : (old mid new : WorkLists) (number : ℕ) → HasEmptyQueue old mid → PopsFromRound mid new number → PopsPlace old new number
 takes_round old mid new number has takes =
     takes_same old mid new number has.same
     (taken_of mid new number ((new.round ++ number ∷ []) ++ new.waiting) (new.round ++ new.waiting)
@@ -164,7 +164,7 @@ takes_round old mid new number has takes =
     (parts new [] [] new.round new.waiting (takes.first ∙ has.first) (takes.next ∙ has.next) refl refl) (from_end new.round new.waiting number))
 
 -- or of a new round
-begun_all : (old mid begun : WorkLists) → HasNoNext old mid → BeginsRound mid begun → HasNoNext old begun
+begun_all : (old mid begun : WorkLists) → HasEmptyQueue old mid → BeginsRound mid begun → HasEmptyQueue old begun
 begun_all old mid begun has begins = record {
   first = begins.first ∙ has.first;
   next = begins.next ∙ has.next;
@@ -173,7 +173,7 @@ begun_all old mid begun has begins = record {
       (parts begun [] [] begun.round begun.waiting (begins.first ∙ has.first) (begins.next ∙ has.next) refl refl) begins.both);
 }
 
-pub begun_some : (old mid begun new : WorkLists) (r : Option ℕ) → HasNoNext old mid → BeginsRound mid begun → IfSome r (TakesRound begun new) → IfSome r (TakesPlace old new)
+pub begun_some : (old mid begun new : WorkLists) (r : Option ℕ) → HasEmptyQueue old mid → BeginsRound mid begun → IfSome r (PopsFromRound begun new) → IfSome r (PopsPlace old new)
 begun_some old mid begun new None has begins takes = takes
 begun_some old mid begun new (Some number) has begins takes = takes_round old begun new number (begun_all old mid begun has begins) takes
 
@@ -182,13 +182,13 @@ empty_list [] e = refl
 empty_list (x ∷ xs) e = absurd (omega arith)
 
 -- none is left
-pub begun_empty : (old mid begun new : WorkLists) (r : Option ℕ) → HasNoNext old mid → BeginsRound mid begun → IfNone r ((begun.round ≡ []) × (new ≡ begun)) → IfNone r (all_work new ≡ [])
+pub begun_empty : (old mid begun new : WorkLists) (r : Option ℕ) → HasEmptyQueue old mid → BeginsRound mid begun → IfNone r ((begun.round ≡ []) × (new ≡ begun)) → IfNone r (all_work new ≡ [])
 begun_empty old mid begun new None has begins left =
     ap all_work left.1 ∙ parts begun [] [] [] [] (begins.first ∙ has.first) (begins.next ∙ has.next) left.0 (begins.some left.0)
 begun_empty old mid begun new (Some number) has begins left = left
 
 -- nor was any before
-pub begun_none : (old mid begun new : WorkLists) (r : Option ℕ) → HasNoNext old mid → BeginsRound mid begun → IfNone r ((begun.round ≡ []) × (new ≡ begun)) → IfNone r (all_work old ≡ [])
+pub begun_none : (old mid begun new : WorkLists) (r : Option ℕ) → HasEmptyQueue old mid → BeginsRound mid begun → IfNone r ((begun.round ≡ []) × (new ≡ begun)) → IfNone r (all_work old ≡ [])
 begun_none old mid begun new None has begins left =
     let same = length_permutation (all_work old) (all_work begun) (begun_all old mid begun has begins).same in
     let gone = ap (λ (xs : List ℕ). length xs) (parts begun [] [] [] [] (begins.first ∙ has.first) (begins.next ∙ has.next) left.0 (begins.some left.0)) in
@@ -196,13 +196,13 @@ begun_none old mid begun new None has begins left =
 begun_none old mid begun new (Some number) has begins left = left
 
 -- the place that was taken was listed
-pub takes_there : (old new : WorkLists) (number : ℕ) → TakesPlace old new number → Contains (all_work old) number
+pub takes_there : (old new : WorkLists) (number : ℕ) → PopsPlace old new number → Contains (all_work old) number
 takes_there old new number takes = adds_there (all_work new) (all_work old) number (IsPermutation-sym (all_work old) (number ∷ all_work new) takes)
 
 -- all that is left was listed
-pub takes_left : (old new : WorkLists) (number n : ℕ) → TakesPlace old new number → Contains (all_work new) n → Contains (all_work old) n
+pub takes_left : (old new : WorkLists) (number n : ℕ) → PopsPlace old new number → Contains (all_work new) n → Contains (all_work old) n
 takes_left old new number n takes c = adds_kept (all_work new) (all_work old) number n (IsPermutation-sym (all_work old) (number ∷ all_work new) takes) c
 
 -- and nothing else was
-pub takes_only : (old new : WorkLists) (number n : ℕ) → TakesPlace old new number → Contains (all_work old) n → Contains (all_work new) n ⊎ (number ≡ n)
+pub takes_only : (old new : WorkLists) (number n : ℕ) → PopsPlace old new number → Contains (all_work old) n → Contains (all_work new) n ⊎ (number ≡ n)
 takes_only old new number n takes c = first_or_not number n (all_work new) (Contains-permutation (all_work old) (number ∷ all_work new) n takes c)

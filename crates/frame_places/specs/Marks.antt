@@ -8,51 +8,51 @@ use Rattle.frame_places.specs.declared.places.Spot.{Spot}
 use Rattle.frame_places.specs.declared.places.Mark.{Mark}
 use Rattle.frame_places.specs.declared.places.Marked.{Marked}
 use Rattle.frame_places.specs.declared.places.Mark.TheVariants.{Idle, Plain, Queued, Open}
-use Rattle.frame_places.specs.Numbers.{PlaceHasNumber, KeepsNumbers}
+use Rattle.frame_places.specs.Numbers.{PlaceHasNumber, KeepsPlaceNumbers}
 use Rattle.frame_places.specs.Spots.{spot_eq}
 use Rattle.frame_places.specs.Work.{WorkLists, all_work}
 
 -- the value that a map of places has for a place, or none if the place is unknown
-abbrev pub value_for : {V S : Type 0} → IndexMap Spot (Marked V) S → Spot → Option V
-value_for places q = option_map (λ m. m.value) (get spot_eq places q)
+abbrev pub value_of_place : {V S : Type 0} → IndexMap Spot (Marked V) S → Spot → Option V
+value_of_place places q = option_map (λ m. m.value) (get spot_eq places q)
 
 -- the mark that a map of places has for a place, or none if the place is unknown
-abbrev pub mark_for : {V S : Type 0} → IndexMap Spot (Marked V) S → Spot → Option Mark
-mark_for places q = option_map (λ m. m.mark) (get spot_eq places q)
+abbrev pub mark_of_place : {V S : Type 0} → IndexMap Spot (Marked V) S → Spot → Option Mark
+mark_of_place places q = option_map (λ m. m.mark) (get spot_eq places q)
 
 -- each of these places is in the map of places, with a value and a mark
-abbrev pub AreKnown : {V S : Type 0} → IndexMap Spot (Marked V) S → (Spot → Type 0) → Type 0
-AreKnown places these = (q : Spot) → these q → IsSome (value_for places q)
+abbrev pub AreKnownPlaces : {V S : Type 0} → IndexMap Spot (Marked V) S → (Spot → Type 0) → Type 0
+AreKnownPlaces places these = (q : Spot) → these q → IsSome (value_of_place places q)
 
 -- the marks of places agree with the work: each place marked as queued is listed by its number, and
 -- each number that is listed is a place's
-pub record AllListed {V S : Type 0} (places : IndexMap Spot (Marked V) S) (work : List ℕ) : Type 0 where
-  pub listed : (q : Spot) → mark_for places q ≡ Some Queued → (number : ℕ) × Contains work number × PlaceHasNumber places number q
+pub record AreQueuedPlacesListed {V S : Type 0} (places : IndexMap Spot (Marked V) S) (work : List ℕ) : Type 0 where
+  pub listed : (q : Spot) → mark_of_place places q ≡ Some Queued → (number : ℕ) × Contains work number × PlaceHasNumber places number q
   pub known : (number : ℕ) → Contains work number → (q : Spot) × PlaceHasNumber places number q
 
 -- the place x gets this mark in the map of places; no other mark, no value and no number changes
-pub record MarksAs {V S : Type 0} (old new : IndexMap Spot (Marked V) S) (x : Spot) (mark : Mark) : Type 0 where
-  pub values : (q : Spot) → value_for new q ≡ value_for old q
-  pub marks : (q : Spot) → mark_for new q ≡ (if spot_eq x q then Some mark else mark_for old q)
-  pub numbers : KeepsNumbers old new
+pub record MarksPlaceAs {V S : Type 0} (old new : IndexMap Spot (Marked V) S) (x : Spot) (mark : Mark) : Type 0 where
+  pub values : (q : Spot) → value_of_place new q ≡ value_of_place old q
+  pub marks : (q : Spot) → mark_of_place new q ≡ (if spot_eq x q then Some mark else mark_of_place old q)
+  pub numbers : KeepsPlaceNumbers old new
 
 -- the place y gets this value in the map of places and is queued; nothing else changes
-pub record PutsPlaceValue {V S : Type 0} (old new : IndexMap Spot (Marked V) S) (y : Spot) (value : V) : Type 0 where
-  pub values : (q : Spot) → value_for new q ≡ (if spot_eq y q then Some value else value_for old q)
-  pub marks : (q : Spot) → mark_for new q ≡ (if spot_eq y q then Some Queued else mark_for old q)
-  pub numbers : KeepsNumbers old new
+pub record SetsAndQueuesPlace {V S : Type 0} (old new : IndexMap Spot (Marked V) S) (y : Spot) (value : V) : Type 0 where
+  pub values : (q : Spot) → value_of_place new q ≡ (if spot_eq y q then Some value else value_of_place old q)
+  pub marks : (q : Spot) → mark_of_place new q ≡ (if spot_eq y q then Some Queued else mark_of_place old q)
+  pub numbers : KeepsPlaceNumbers old new
 
 -- y was unknown, and now has this value and is marked as queued; or it has this number already, and
 -- nothing changes
-abbrev pub AddsOrFinds : {V S : Type 0} → IndexMap Spot (Marked V) S → IndexMap Spot (Marked V) S → WorkLists → WorkLists → Spot → V → Option ℕ → Type 0
-AddsOrFinds old new before after y value None = (value_for old y ≡ None) × PutsPlaceValue old new y value × AllListed new (all_work after)
-AddsOrFinds old new before after y value (Some number) = PlaceHasNumber old number y × (new.entries ≡ old.entries) × (after ≡ before)
+abbrev pub AddsOrFindsPlace : {V S : Type 0} → IndexMap Spot (Marked V) S → IndexMap Spot (Marked V) S → WorkLists → WorkLists → Spot → V → Option ℕ → Type 0
+AddsOrFindsPlace old new before after y value None = (value_of_place old y ≡ None) × SetsAndQueuesPlace old new y value × AreQueuedPlacesListed new (all_work after)
+AddsOrFindsPlace old new before after y value (Some number) = PlaceHasNumber old number y × (new.entries ≡ old.entries) × (after ≡ before)
 
 -- these places are queued now in the map of places, and nothing else changes
-pub record Requeues {V S : Type 0} (old new : IndexMap Spot (Marked V) S) (these : Spot → Type 0) : Type 0 where
-  pub values : (q : Spot) → value_for new q ≡ value_for old q
-  pub marks : (q : Spot) → ((mark_for new q ≡ Some Queued) × these q) ⊎ ((mark_for new q ≡ mark_for old q) × (these q → ⊥))
-  pub numbers : KeepsNumbers old new
+pub record RequeuesPlaces {V S : Type 0} (old new : IndexMap Spot (Marked V) S) (these : Spot → Type 0) : Type 0 where
+  pub values : (q : Spot) → value_of_place new q ≡ value_of_place old q
+  pub marks : (q : Spot) → ((mark_of_place new q ≡ Some Queued) × these q) ⊎ ((mark_of_place new q ≡ mark_of_place old q) × (these q → ⊥))
+  pub numbers : KeepsPlaceNumbers old new
 
 -- the mark of a place without work
 abbrev pub is_idle : Option Mark → Bool
@@ -71,12 +71,12 @@ is_queued (Some Queued) = true
 is_queued (Some Open) = false
 
 -- the mark of a place without work, which may be plain
-abbrev pub idle_mark : Bool → Mark
-idle_mark plain = if plain then Plain else Idle
+abbrev pub mark_without_work : Bool → Mark
+mark_without_work plain = if plain then Plain else Idle
 
 -- the mark of a place after a visit; a place that was queued during the visit stays queued
-abbrev pub settled_mark : Bool → Option Mark → Mark
-settled_mark plain o = if is_queued o then Queued else idle_mark plain
+abbrev pub mark_at_visit_end : Bool → Option Mark → Mark
+mark_at_visit_end plain o = if is_queued o then Queued else mark_without_work plain
 
 -- a place is among the readers of an exit, which are marked as queued when the exit rises
 abbrev pub IsAmongReaders : Option (Vec Spot Global) → Spot → Type 0

@@ -25,5 +25,5 @@ abbrev pub PlaceHasNumber : {X S : Type 0} → IndexMap Spot X S → ℕ → Spo
 PlaceHasNumber m number x = slice_get (keys m) number ≡ Some x
 
 -- each place of the old map of places has the same number in the new one
-abbrev pub KeepsNumbers : {V S : Type 0} → IndexMap Spot (Marked V) S → IndexMap Spot (Marked V) S → Type 0
-KeepsNumbers old new = (number : ℕ) (q : Spot) → PlaceHasNumber old number q → PlaceHasNumber new number q
+abbrev pub KeepsPlaceNumbers : {V S : Type 0} → IndexMap Spot (Marked V) S → IndexMap Spot (Marked V) S → Type 0
+KeepsPlaceNumbers old new = (number : ℕ) (q : Spot) → PlaceHasNumber old number q → PlaceHasNumber new number q

@@ -31,13 +31,13 @@ pub record MeetsRowUpToCap (cap : ℕ) (needs : List ℕ) (row : NeedRow) : Type
   pub into : (t : ℕ) → Contains row.into.items t → min (row.held + 1 + slice_index needs t) (cap + 1) ≤ slice_index needs row.node
 
 -- none of these needs of frames is above the other ones
-abbrev pub AllAtMost : List ℕ → (ℕ → ℕ) → Type 0
-AllAtMost needs other = (k : ℕ) → k < length needs → slice_index needs k ≤ other k
+abbrev pub AreNeedsAtMost : List ℕ → (ℕ → ℕ) → Type 0
+AreNeedsAtMost needs other = (k : ℕ) → k < length needs → slice_index needs k ≤ other k
 
 -- a step of the iteration for the least needs: one row's need is raised if too low, and stays a
 -- lower bound
 pub record RaisesNeedByRow (cap : ℕ) (old new : List ℕ) (row : NeedRow) (changed : Bool) : Type 0 where
-  pub low : (other : ℕ → ℕ) → MeetsRow other row → AllAtMost old other → AllAtMost new other
+  pub low : (other : ℕ → ℕ) → MeetsRow other row → AreNeedsAtMost old other → AreNeedsAtMost new other
   pub capped : (k : ℕ) → slice_index new k ≤ cap + 1
   pub grows : changed ≡ true → sum old < sum new
   pub same : changed ≡ false → new ≡ old
@@ -46,14 +46,14 @@ pub record RaisesNeedByRow (cap : ℕ) (old new : List ℕ) (row : NeedRow) (cha
 -- a pass of the iteration for the least needs: needs are raised by these rows, and stay lower
 -- bounds
 pub record RaisesNeedsByRows (cap : ℕ) (old new : List ℕ) (rows : List NeedRow) (changed : Bool) : Type 0 where
-  pub low : (other : ℕ → ℕ) → MeetsRows other rows → AllAtMost old other → AllAtMost new other
+  pub low : (other : ℕ → ℕ) → MeetsRows other rows → AreNeedsAtMost old other → AreNeedsAtMost new other
   pub capped : (k : ℕ) → slice_index new k ≤ cap + 1
   pub grows : changed ≡ true → sum old < sum new
   pub same : changed ≡ false → new ≡ old
   pub met : changed ≡ false → (row : NeedRow) → Contains rows row → MeetsRowUpToCap cap new row
 
 -- the least needs that meet the rows, none above the cap; or any needs that meet the rows pass it
-abbrev pub LeastNeeds : ℕ → List NeedRow → ℕ → Result (Option (Vec ℕ Global)) AllocError → Type 0
-LeastNeeds nodes rows cap (Ok (Some needs)) = (length needs.items ≡ nodes) × MeetsRows (λ k. slice_index needs.items k) rows × AreLowerBounds needs.items rows × ((k : ℕ) → slice_index needs.items k ≤ cap)
-LeastNeeds nodes rows cap (Ok None) = (other : ℕ → ℕ) → MeetsRows other rows → (k : ℕ) × (k < nodes) × (cap < other k)
-LeastNeeds nodes rows cap (Err e) = Unit {0}
+abbrev pub IsLeastNeedsResult : ℕ → List NeedRow → ℕ → Result (Option (Vec ℕ Global)) AllocError → Type 0
+IsLeastNeedsResult nodes rows cap (Ok (Some needs)) = (length needs.items ≡ nodes) × MeetsRows (λ k. slice_index needs.items k) rows × AreLowerBounds needs.items rows × ((k : ℕ) → slice_index needs.items k ≤ cap)
+IsLeastNeedsResult nodes rows cap (Ok None) = (other : ℕ → ℕ) → MeetsRows other rows → (k : ℕ) × (k < nodes) × (cap < other k)
+IsLeastNeedsResult nodes rows cap (Err e) = Unit {0}

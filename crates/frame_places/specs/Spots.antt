@@ -11,9 +11,9 @@ abbrev pub spot_eq : Spot → Spot → Bool
 spot_eq = (block.ghosts).eq
 
 -- the number by which places are sorted: that of the frame's key, then the address
-abbrev pub spot_number : Spot → ℕ
-spot_number (Point k p) = number_of_key k * 2 ^ 32 + p
-spot_number (Exit k) = number_of_key k * 2 ^ 32 + 0
+abbrev pub spot_order_number : Spot → ℕ
+spot_order_number (Point k p) = number_of_key k * 2 ^ 32 + p
+spot_order_number (Exit k) = number_of_key k * 2 ^ 32 + 0
 
 -- the address of a place of a frame: that of a point, 0 for an exit
 abbrev pub spot_address : Spot → ℕ
@@ -32,13 +32,13 @@ is_point_of k (Exit j) = false
 
 -- each of these places of frames is a point in range: its frame's key is valid, and its address is
 -- below 2^32
-abbrev pub AreRangedSpots : List Spot → Type 0
-AreRangedSpots ps = (q : Spot) → Contains ps q → (k : Key) × (p : ℕ) × (q ≡ Point k p) × IsKey k × (p < 2 ^ 32)
+abbrev pub ArePointsInRange : List Spot → Type 0
+ArePointsInRange ps = (q : Spot) → Contains ps q → (k : Key) × (p : ℕ) × (q ≡ Point k p) × IsKey k × (p < 2 ^ 32)
 
 -- the address of the place y if y is a point of the frame k; or y is no point of k
-abbrev pub IsAddressIn : Key → Spot → Option ℕ → Type 0
-IsAddressIn k y None = (p : ℕ) → y ≡ Point k p → ⊥
-IsAddressIn k y (Some p) = y ≡ Point k p
+abbrev pub IsAddressInFrame : Key → Spot → Option ℕ → Type 0
+IsAddressInFrame k y None = (p : ℕ) → y ≡ Point k p → ⊥
+IsAddressInFrame k y (Some p) = y ≡ Point k p
 
 -- a place is a point
 abbrev pub is_point : Spot → Bool

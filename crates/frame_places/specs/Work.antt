@@ -15,35 +15,35 @@ abbrev pub all_work : WorkLists → List ℕ
 all_work work = work.first ++ (work.next ++ (work.round ++ work.waiting))
 
 -- one more place is at the end of the work list's queue
-pub record PutsNext (old new : WorkLists) (number : ℕ) : Type 0 where
+pub record PushesNext (old new : WorkLists) (number : ℕ) : Type 0 where
   pub first : new.first ≡ old.first
   pub next : new.next ≡ old.next ++ number ∷ []
   pub round : new.round ≡ old.round
   pub waiting : new.waiting ≡ old.waiting
 
 -- one more place of the work list waits for the next round
-pub record PutsWaiting (old new : WorkLists) (number : ℕ) : Type 0 where
+pub record PushesWaiting (old new : WorkLists) (number : ℕ) : Type 0 where
   pub first : new.first ≡ old.first
   pub next : new.next ≡ old.next
   pub round : new.round ≡ old.round
   pub waiting : IsPermutation (number ∷ old.waiting) new.waiting
 
 -- one more place is in the work list's round, at any position
-pub record PutsEntry (old new : WorkLists) (number : ℕ) : Type 0 where
+pub record PushesEntry (old new : WorkLists) (number : ℕ) : Type 0 where
   pub first : new.first ≡ old.first
   pub next : new.next ≡ old.next
   pub round : IsPermutation (number ∷ old.round) new.round
   pub waiting : new.waiting ≡ old.waiting
 
 -- an entry point is put into the work list's round, any other place at the end of its queue
-abbrev pub PutsEntryOrNext : Bool → WorkLists → WorkLists → ℕ → Type 0
-PutsEntryOrNext true old new number = PutsEntry old new number
-PutsEntryOrNext false old new number = PutsNext old new number
+abbrev pub PushesEntryOrNext : Bool → WorkLists → WorkLists → ℕ → Type 0
+PushesEntryOrNext true old new number = PushesEntry old new number
+PushesEntryOrNext false old new number = PushesNext old new number
 
 -- one more place of the work list waits for the next round, or is at the end of the queue
-abbrev pub PutsWaitingOrNext : Bool → WorkLists → WorkLists → ℕ → Type 0
-PutsWaitingOrNext true old new number = PutsWaiting old new number
-PutsWaitingOrNext false old new number = PutsNext old new number
+abbrev pub PushesWaitingOrNext : Bool → WorkLists → WorkLists → ℕ → Type 0
+PushesWaitingOrNext true old new number = PushesWaiting old new number
+PushesWaitingOrNext false old new number = PushesNext old new number
 
 -- some of the work list's waiting places, one at least if any waits, come into its round
 pub record BeginsRound (old new : WorkLists) : Type 0 where
@@ -60,21 +60,21 @@ pub record RefillsFirst (old new : WorkLists) : Type 0 where
   pub waiting : new.waiting ≡ old.waiting
 
 -- this place is taken off the front of the work list's queue
-pub record TakesFirst (old new : WorkLists) (number : ℕ) : Type 0 where
+pub record PopsFirst (old new : WorkLists) (number : ℕ) : Type 0 where
   pub first : old.first ≡ new.first ++ number ∷ []
   pub next : new.next ≡ old.next
   pub round : new.round ≡ old.round
   pub waiting : new.waiting ≡ old.waiting
 
 -- this place, the last of the work list's queue, is taken off
-pub record TakesLast (old new : WorkLists) (number : ℕ) : Type 0 where
+pub record PopsLast (old new : WorkLists) (number : ℕ) : Type 0 where
   pub first : new.first ≡ old.first
   pub next : old.next ≡ new.next ++ number ∷ []
   pub round : new.round ≡ old.round
   pub waiting : new.waiting ≡ old.waiting
 
 -- this place is taken off the work list's round
-pub record TakesRound (old new : WorkLists) (number : ℕ) : Type 0 where
+pub record PopsFromRound (old new : WorkLists) (number : ℕ) : Type 0 where
   pub first : new.first ≡ old.first
   pub next : new.next ≡ old.next
   pub round : old.round ≡ new.round ++ number ∷ []
@@ -85,11 +85,11 @@ abbrev pub HasSameWork : WorkLists → WorkLists → Type 0
 HasSameWork old new = IsPermutation (all_work old) (all_work new)
 
 -- this place is taken off the work list once, and the others stay listed
-abbrev pub TakesPlace : WorkLists → WorkLists → ℕ → Type 0
-TakesPlace old new number = IsPermutation (all_work old) (number ∷ all_work new)
+abbrev pub PopsPlace : WorkLists → WorkLists → ℕ → Type 0
+PopsPlace old new number = IsPermutation (all_work old) (number ∷ all_work new)
 
 -- the work list's queue is empty, and no place was taken
-pub record HasNoNext (old new : WorkLists) : Type 0 where
+pub record HasEmptyQueue (old new : WorkLists) : Type 0 where
   pub first : new.first ≡ []
   pub next : new.next ≡ []
   pub same : HasSameWork old new

@@ -4,7 +4,7 @@ ghost use Rattle.frame_places.specs.declared.places.Spot.{Spot};
 ghost use Rattle.frame_places.specs.declared.places.Mark.TheVariants.{Open, Plain, Queued};
 ghost use Rattle.frame_places.specs.Numbers.{PlaceHasNumber};
 ghost use Rattle.frame_places.specs.Work.{all_work};
-ghost use Rattle.frame_places.specs.Marks.{AllListed, AreKnown, MarksAs, Requeues, idle_mark, is_queued, mark_for, settled_mark, value_for};
+ghost use Rattle.frame_places.specs.Marks.{AreQueuedPlacesListed, AreKnownPlaces, MarksPlaceAs, RequeuesPlaces, mark_without_work, is_queued, mark_of_place, mark_at_visit_end, value_of_place};
 
 use crate::places::{Mark, Marked, Spot};
 use crate::work_list::{Work, enqueue};
@@ -23,7 +23,7 @@ pub(crate) fn is_unvisited_entry(entry: bool, visits: u8) -> bool {
 #[inline(always)]
 pub(crate) fn mark_place<V>(places: &mut IndexMap<Spot, Marked<V>>, number: usize, mark: Mark)
     ensures { (x : Spot) → PlaceHasNumber places.old number x
-        → MarksAs places.old places.new x mark }
+        → MarksPlaceAs places.old places.new x mark }
 {
     if let Some(place) = places.get_index_mut(number) {
         place.mark = mark;
@@ -56,10 +56,10 @@ pub(crate) fn requeue_places<V>(
     readers: &[Spot],
     waits: bool,
 ) -> Result<(), AllocError>
-    requires listed { AllListed places.old (all_work work.old) }
-    requires known { AreKnown places.old (Contains readers.now) }
-    ensures marks { OnOk result (Requeues places.old places.new (Contains readers.now)) }
-    ensures work { OnOk result (AllListed places.new (all_work work.new)) }
+    requires listed { AreQueuedPlacesListed places.old (all_work work.old) }
+    requires known { AreKnownPlaces places.old (Contains readers.now) }
+    ensures marks { OnOk result (RequeuesPlaces places.old places.new (Contains readers.now)) }
+    ensures work { OnOk result (AreQueuedPlacesListed places.new (all_work work.new)) }
 {
     for x in readers {
         requeue_place(places, work, *x, waits)?;
@@ -71,7 +71,7 @@ pub(crate) fn requeue_places<V>(
 #[inline(always)]
 pub fn is_place_queued<V>(places: &IndexMap<Spot, Marked<V>>, number: usize) -> bool
     ensures { (x : Spot) → PlaceHasNumber places.now number x
-        → result ≡ is_queued (mark_for places.now x) }
+        → result ≡ is_queued (mark_of_place places.now x) }
 {
     match places.get_index(number) {
         None => false,
@@ -83,7 +83,7 @@ pub fn is_place_queued<V>(places: &IndexMap<Spot, Marked<V>>, number: usize) -> 
 #[inline(always)]
 pub fn begin_visit<V>(places: &mut IndexMap<Spot, Marked<V>>, number: usize)
     ensures { (x : Spot) → PlaceHasNumber places.old number x
-        → MarksAs places.old places.new x Open }
+        → MarksPlaceAs places.old places.new x Open }
 {
     if let Some(place) = places.get_index_mut(number) {
         place.mark = Mark::Open;
@@ -105,7 +105,7 @@ pub fn is_plain_mark(mark: Mark) -> bool
 #[inline(always)]
 pub fn end_visit<V>(places: &mut IndexMap<Spot, Marked<V>>, number: usize, plain: bool)
     ensures { (x : Spot) → PlaceHasNumber places.old number x
-        → MarksAs places.old places.new x (settled_mark plain (mark_for places.old x)) }
+        → MarksPlaceAs places.old places.new x (mark_at_visit_end plain (mark_of_place places.old x)) }
 {
     if let Some(place) = places.get_index_mut(number) {
         place.mark = mark_after_visit(place.mark, plain);
@@ -120,10 +120,10 @@ pub(crate) fn requeue_place<V>(
     x: Spot,
     waits: bool,
 ) -> Result<(), AllocError>
-    requires listed { AllListed places.old (all_work work.old) }
-    requires known { IsSome (value_for places.old x) }
-    ensures marks { OnOk result (MarksAs places.old places.new x Queued) }
-    ensures work { OnOk result (AllListed places.new (all_work work.new)) }
+    requires listed { AreQueuedPlacesListed places.old (all_work work.old) }
+    requires known { IsSome (value_of_place places.old x) }
+    ensures marks { OnOk result (MarksPlaceAs places.old places.new x Queued) }
+    ensures work { OnOk result (AreQueuedPlacesListed places.new (all_work work.new)) }
 {
     let Some(number) = places.get_index_of(&x) else {
         return Ok(());
@@ -140,7 +140,7 @@ pub(crate) fn requeue_place<V>(
 /// idle.
 #[inline(always)]
 fn mark_after_visit(mark: Mark, plain: bool) -> Mark
-    ensures { result ≡ settled_mark plain (Some mark) }
+    ensures { result ≡ mark_at_visit_end plain (Some mark) }
 {
     match mark {
         Mark::Queued => Mark::Queued,
@@ -151,7 +151,7 @@ fn mark_after_visit(mark: Mark, plain: bool) -> Mark
 /// Returns the mark of a place that has no work after its visit: plain or idle.
 #[inline(always)]
 fn plain_or_idle_mark(plain: bool) -> Mark
-    ensures { result ≡ idle_mark plain }
+    ensures { result ≡ mark_without_work plain }
 {
     if plain { Mark::Plain } else { Mark::Idle }
 }

@@ -1,13 +1,13 @@
 // Places of frames, and their marks for the work list.
 ghost use Rattle.std.specs.Prelude.{◌≡◌, IfOk, None, OnOk, Some};
 ghost use Rattle.std.specs.Hash as fed;
-ghost use Rattle.frame_places.specs.Spots.{is_entry_point, spot_number, IsAddressIn, spot_address};
+ghost use Rattle.frame_places.specs.Spots.{is_entry_point, spot_order_number, IsAddressInFrame, spot_address};
 ghost use Rattle.frame_places.specs.Hashed.{hashed_word};
 ghost use Rattle.frame_places.specs.declared.places.Spot.{Spot};
 ghost use Rattle.frame_places.specs.declared.places.Mark.TheVariants.{Queued};
 ghost use Rattle.frame_places.specs.Numbers.{PlaceHasNumber};
 ghost use Rattle.frame_places.specs.Work.{all_work};
-ghost use Rattle.frame_places.specs.Marks.{AddsOrFinds, AllListed, PutsPlaceValue, value_for};
+ghost use Rattle.frame_places.specs.Marks.{AddsOrFindsPlace, AreQueuedPlacesListed, SetsAndQueuesPlace, value_of_place};
 
 use crate::marks::is_unvisited_entry;
 use crate::work_list::{Work, enqueue, enqueue_new};
@@ -34,7 +34,7 @@ impl Spot {
     /// address, 0 for an exit.
     #[inline(always)]
     pub(crate) fn order_number(&self) -> u128
-        ensures { result ≡ spot_number self.now }
+        ensures { result ≡ spot_order_number self.now }
     {
         match self {
             Spot::Point(key, addr) => u128::from(key_number(key)) * ADDRESSES + u128::from(*addr),
@@ -113,7 +113,7 @@ pub fn place_address(place: &Spot) -> u32
 
 /// Returns the address of a place if the place is a point of the frame `key`, else `None`.
 pub fn address_in_frame(key: Key, place: Spot) -> Option<u32>
-    ensures { IsAddressIn key place result }
+    ensures { IsAddressInFrame key place result }
 {
     let Spot::Point(other, addr) = place else {
         return None;
@@ -130,10 +130,10 @@ pub fn add_queued_place<V: Drop>(
     y: Spot,
     value: V,
 ) -> Result<(), AllocError>
-    requires listed { AllListed places.old (all_work work.old) }
-    requires new { value_for places.old y ≡ None }
-    ensures puts { OnOk result (PutsPlaceValue places.old places.new y value) }
-    ensures work { OnOk result (AllListed places.new (all_work work.new)) }
+    requires listed { AreQueuedPlacesListed places.old (all_work work.old) }
+    requires new { value_of_place places.old y ≡ None }
+    ensures puts { OnOk result (SetsAndQueuesPlace places.old places.new y value) }
+    ensures work { OnOk result (AreQueuedPlacesListed places.new (all_work work.new)) }
 {
     let number = places.len();
     let entry = y.is_entry();
@@ -156,8 +156,8 @@ pub fn add_or_find_place<V: Drop>(
     y: Spot,
     value: V,
 ) -> Result<Option<usize>, AllocError>
-    requires listed { AllListed places.old (all_work work.old) }
-    ensures { IfOk result (AddsOrFinds places.old places.new work.old work.new y value) }
+    requires listed { AreQueuedPlacesListed places.old (all_work work.old) }
+    ensures { IfOk result (AddsOrFindsPlace places.old places.new work.old work.new y value) }
 {
     let number = places.len();
     let entry = y.is_entry();
@@ -186,11 +186,11 @@ pub fn set_and_queue_place<V: Drop>(
     value: V,
     entry: bool,
 ) -> Result<(), AllocError>
-    requires listed { AllListed places.old (all_work work.old) }
+    requires listed { AreQueuedPlacesListed places.old (all_work work.old) }
     ensures puts { (y : Spot) → PlaceHasNumber places.old number y
-        → OnOk result (PutsPlaceValue places.old places.new y value) }
+        → OnOk result (SetsAndQueuesPlace places.old places.new y value) }
     ensures work { (y : Spot) → PlaceHasNumber places.old number y
-        → OnOk result (AllListed places.new (all_work work.new)) }
+        → OnOk result (AreQueuedPlacesListed places.new (all_work work.new)) }
 {
     let Some(place) = places.get_index_mut(number) else {
         return Ok(());

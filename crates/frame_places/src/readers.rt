@@ -1,7 +1,7 @@
 // Which points read which exits.
 ghost use Rattle.std.specs.Prelude.{◌↔◌, ◌⊎◌, ◌≡◌, Contains, OnOk, None, Some, IfOk};
 ghost use Rattle.frame_places.specs.declared.places.Spot as spots;
-ghost use Rattle.frame_places.specs.Marks.{RegistersReader, ForgetsReaders, AllListed, AreKnown, IsAmongReaders, Requeues};
+ghost use Rattle.frame_places.specs.Marks.{RegistersReader, ForgetsReaders, AreQueuedPlacesListed, AreKnownPlaces, IsAmongReaders, RequeuesPlaces};
 ghost use Rattle.indexmap.specs.IndexMap.{get};
 ghost use Rattle.frame_places.specs.declared.places.Spot.{Spot};
 ghost use Rattle.frame_places.specs.Spots.{spot_eq};
@@ -59,11 +59,11 @@ pub fn requeue_readers_of<V>(
     y: Spot,
     waits: bool,
 ) -> Result<(), AllocError>
-    requires listed { AllListed places.old (all_work work.old) }
-    requires known { AreKnown places.old (IsAmongReaders (get spot_eq readers.old y)) }
+    requires listed { AreQueuedPlacesListed places.old (all_work work.old) }
+    requires known { AreKnownPlaces places.old (IsAmongReaders (get spot_eq readers.old y)) }
     ensures marks { OnOk result
-        (Requeues places.old places.new (IsAmongReaders (get spot_eq readers.old y))) }
-    ensures work { OnOk result (AllListed places.new (all_work work.new)) }
+        (RequeuesPlaces places.old places.new (IsAmongReaders (get spot_eq readers.old y))) }
+    ensures work { OnOk result (AreQueuedPlacesListed places.new (all_work work.new)) }
     ensures readers { OnOk result (ForgetsReaders readers.old readers.new y) }
 {
     let Some(list) = readers.get_mut(&y) else {

@@ -1,6 +1,6 @@
 // The work list.
 ghost use Rattle.std.specs.Prelude.{◌≡◌, ◌<◌, ◌^◌, ◌==◌, IfOk, IfSome, IfNone, OnOk, OnErr, [], length};
-ghost use Rattle.frame_places.specs.Work.{BeginsRound, HasNoNext, HasSameWork, PutsEntry, PutsNext, PutsWaiting, TakesPlace, TakesFirst, TakesLast, TakesRound, RefillsFirst, all_work, PutsWaitingOrNext, PutsEntryOrNext};
+ghost use Rattle.frame_places.specs.Work.{BeginsRound, HasEmptyQueue, HasSameWork, PushesEntry, PushesNext, PushesWaiting, PopsPlace, PopsFirst, PopsLast, PopsFromRound, RefillsFirst, all_work, PushesWaitingOrNext, PushesEntryOrNext};
 
 use std::alloc::{AllocError, Global};
 use std::cmp::Reverse;
@@ -82,7 +82,7 @@ impl Work {
     /// Puts a place on the work list, at the end of the queue of those that are next.
     #[inline(always)]
     pub(crate) fn push_next(&mut self, number: usize) -> Result<(), AllocError>
-        ensures { OnOk result (PutsNext self.old self.new number) }
+        ensures { OnOk result (PushesNext self.old self.new number) }
     {
         self.next.push(number)?;
         Ok(())
@@ -91,7 +91,7 @@ impl Work {
     /// Puts a place on the work list among those that wait for the next round.
     #[inline(always)]
     pub(crate) fn push_waiting(&mut self, number: usize) -> Result<(), AllocError>
-        ensures { OnOk result (PutsWaiting self.old self.new number) }
+        ensures { OnOk result (PushesWaiting self.old self.new number) }
     {
         self.waiting.push(Reverse(number))?;
         Ok(())
@@ -103,7 +103,7 @@ impl Work {
     /// were rises.
     #[inline(always)]
     pub(crate) fn push_entry(&mut self, number: usize) -> Result<(), AllocError>
-        ensures { OnOk result (PutsEntry self.old self.new number) }
+        ensures { OnOk result (PushesEntry self.old self.new number) }
     {
         let len = self.round.len();
         let at = self.base.max(len.saturating_sub(MOST_SHIFTED)).min(len);
@@ -115,7 +115,7 @@ impl Work {
     /// Without memory, all places stay listed.
     #[inline(always)]
     pub fn pop(&mut self) -> Result<Option<usize>, AllocError>
-        ensures some { IfOk result (λ o. IfSome o (TakesPlace self.old self.new)) }
+        ensures some { IfOk result (λ o. IfSome o (PopsPlace self.old self.new)) }
         ensures none { IfOk result (λ o. IfNone o (all_work self.old ≡ [])) }
         ensures empty { IfOk result (λ o. IfNone o (all_work self.new ≡ [])) }
         ensures err { OnErr result (HasSameWork self.old self.new) }
@@ -133,8 +133,8 @@ impl Work {
     /// Takes the first place of the work list's queue, or `None` if no place is next.
     #[inline(always)]
     fn pop_next(&mut self) -> Option<usize>
-        ensures some { IfSome result (TakesPlace self.old self.new) }
-        ensures none { IfNone result (HasNoNext self.old self.new) }
+        ensures some { IfSome result (PopsPlace self.old self.new) }
+        ensures none { IfNone result (HasEmptyQueue self.old self.new) }
     {
         if let Some(number) = self.pop_first() {
             return Some(number);
@@ -149,7 +149,7 @@ impl Work {
     /// Takes a place of the work list's current round, or `None` if the round is over.
     #[inline(always)]
     fn pop_from_round(&mut self) -> Option<usize>
-        ensures some { IfSome result (TakesRound self.old self.new) }
+        ensures some { IfSome result (PopsFromRound self.old self.new) }
         ensures none { IfNone result ((self.old.round ≡ []) × (self.new ≡ self.old)) }
     {
         let number = self.round.pop();
@@ -177,7 +177,7 @@ impl Work {
     /// Takes the front place of the work list's queue, or `None` if its reversed part is empty.
     #[inline(always)]
     fn pop_first(&mut self) -> Option<usize>
-        ensures some { IfSome result (TakesFirst self.old self.new) }
+        ensures some { IfSome result (PopsFirst self.old self.new) }
         ensures none { IfNone result ((self.old.first ≡ []) × (self.new ≡ self.old)) }
     {
         self.first.pop()
@@ -196,7 +196,7 @@ impl Work {
     /// that part is empty.
     #[inline(always)]
     fn pop_last(&mut self) -> Option<usize>
-        ensures some { IfSome result (TakesLast self.old self.new) }
+        ensures some { IfSome result (PopsLast self.old self.new) }
         ensures none { IfNone result ((self.old.next ≡ []) × (self.new ≡ self.old)) }
     {
         self.next.pop()
@@ -206,7 +206,7 @@ impl Work {
 /// Puts a place on the work list: for the next round if `waits`, else at the end of the queue.
 #[inline(always)]
 pub(crate) fn enqueue(work: &mut Work, number: usize, waits: bool) -> Result<(), AllocError>
-    ensures { OnOk result (PutsWaitingOrNext waits work.old work.new number) }
+    ensures { OnOk result (PushesWaitingOrNext waits work.old work.new number) }
 {
     if waits {
         work.push_waiting(number)
@@ -219,7 +219,7 @@ pub(crate) fn enqueue(work: &mut Work, number: usize, waits: bool) -> Result<(),
 /// other at the end of the queue.
 #[inline(always)]
 pub(crate) fn enqueue_new(work: &mut Work, number: usize, entry: bool) -> Result<(), AllocError>
-    ensures { OnOk result (PutsEntryOrNext entry work.old work.new number) }
+    ensures { OnOk result (PushesEntryOrNext entry work.old work.new number) }
 {
     if entry {
         work.push_entry(number)

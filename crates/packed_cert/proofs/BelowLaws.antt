@@ -6,15 +6,15 @@ use Rattle.tcd_base.specs.Bytes.{word_in_bytes}
 use Rattle.value_domain.specs.Sets.{Among, IsAscending}
 use Rattle.value_domain.proofs.Loops.{among_get}
 use Rattle.value_domain.proofs.WordLaws.{among_place}
-use Rattle.packed_cert.specs.ValuesInBytes.{words_at}
+use Rattle.packed_cert.specs.ValuesInBytes.{words_in_bytes}
 
-pub length-words_at : (bytes : List ℕ) (place n : ℕ) → length (words_at bytes place n) ≡ n
-unfolding words_at
+pub length-words_at : (bytes : List ℕ) (place n : ℕ) → length (words_in_bytes bytes place n) ≡ n
+unfolding words_in_bytes
 length-words_at bytes place zero = refl
 length-words_at bytes place (suc n) = ap suc (length-words_at bytes (place + 4) n)
 
-pub get-words_at : (bytes : List ℕ) (place n k : ℕ) → k < n → get_or (words_at bytes place n) k 0 ≡ word_in_bytes bytes (place + 4 * k)
-unfolding words_at
+pub get-words_at : (bytes : List ℕ) (place n k : ℕ) → k < n → get_or (words_in_bytes bytes place n) k 0 ≡ word_in_bytes bytes (place + 4 * k)
+unfolding words_in_bytes
 get-words_at bytes place zero k h = absurd (omega arith)
 get-words_at bytes place (suc n) zero h = let e : place ≡ place + 4 * 0 = omega arith in ap (word_in_bytes bytes) e
 get-words_at bytes place (suc n) (suc k) h =
@@ -34,18 +34,18 @@ Below bytes place k x = (j : ℕ) → j < k → word_in_bytes bytes (place + 4 *
 
 -- where the word that is reached isn't x, x is none of them
 -- the first of some words, which are those that stand at a place
-pub front_words : (ws bytes : List ℕ) (place n : ℕ) → n ≤ length ws → ((j : ℕ) → j < n → get_or ws j 0 ≡ word_in_bytes bytes (place + 4 * j)) → take n ws ≡ words_at bytes place n
+pub front_words : (ws bytes : List ℕ) (place n : ℕ) → n ≤ length ws → ((j : ℕ) → j < n → get_or ws j 0 ≡ word_in_bytes bytes (place + 4 * j)) → take n ws ≡ words_in_bytes bytes place n
 front_words ws bytes place n few each =
     let size = length-take-le n ws few in
-    ext_get_or 0 (take n ws) (words_at bytes place n) (size ∙ sym (length-words_at bytes place n))
+    ext_get_or 0 (take n ws) (words_in_bytes bytes place n) (size ∙ sym (length-words_at bytes place n))
     (λ k lt.
     let within : k < n = omega (arith, size) in
     get_or-take n ws k 0 within ∙ each k within ∙ sym (get-words_at bytes place n k within))
 
-pub not_among : (bytes : List ℕ) (place n k x : ℕ) → IsAscending (words_at bytes place n) → Below bytes place k x → k ≤ n → (k < n → x ≤ word_in_bytes bytes (place + 4 * k))
-    → (k < n → word_in_bytes bytes (place + 4 * k) ≡ x → ⊥) → Among x (words_at bytes place n) → ⊥
+pub not_among : (bytes : List ℕ) (place n k x : ℕ) → IsAscending (words_in_bytes bytes place n) → Below bytes place k x → k ≤ n → (k < n → x ≤ word_in_bytes bytes (place + 4 * k))
+    → (k < n → word_in_bytes bytes (place + 4 * k) ≡ x → ⊥) → Among x (words_in_bytes bytes place n) → ⊥
 not_among bytes place n k x rising below end reached other i =
-    let p = among_place (words_at bytes place n) x i in
+    let p = among_place (words_in_bytes bytes place n) x i in
     let len = length-words_at bytes place n in
     let at = get-words_at bytes place n p.0 (omega (arith, p.1)) in
     elim (cases_lt p.0 k) [
@@ -54,16 +54,16 @@ not_among bytes place n k x rising below end reached other i =
           elim (cases_eq p.0 k) [
             | inl e ↦ other (omega (arith, p.1)) (ap (λ (j : ℕ). word_in_bytes bytes (place + 4 * j)) (sym e) ∙ sym at ∙ p.2)
             | inr ne ↦
-                let high = rising_places (words_at bytes place n) rising k p.0 (omega arith) p.1 in
+                let high = rising_places (words_in_bytes bytes place n) rising k p.0 (omega arith) p.1 in
                 let here = get-words_at bytes place n k (omega (arith, p.1)) in
                 let low = reached (omega (arith, p.1)) in
                 omega (arith, p.2)
           ]
     ]
 
-pub among_here : (bytes : List ℕ) (place n k x : ℕ) → k < n → word_in_bytes bytes (place + 4 * k) ≡ x → Among x (words_at bytes place n)
+pub among_here : (bytes : List ℕ) (place n k x : ℕ) → k < n → word_in_bytes bytes (place + 4 * k) ≡ x → Among x (words_in_bytes bytes place n)
 among_here bytes place n k x h e =
-    subst (λ (y : ℕ). Among y (words_at bytes place n)) (get-words_at bytes place n k h ∙ e) (among_get (words_at bytes place n) k (omega (arith, length-words_at bytes place n)))
+    subst (λ (y : ℕ). Among y (words_in_bytes bytes place n)) (get-words_at bytes place n k h ∙ e) (among_get (words_in_bytes bytes place n) k (omega (arith, length-words_at bytes place n)))
 
 -- the words that were passed are below x
 pub passed_more : (bytes : List ℕ) (place k m x : ℕ) → Below bytes place k x → ((j : ℕ) → k ≤ j → j < m → word_in_bytes bytes (place + 4 * j) < x) → Below bytes place m x

@@ -6,9 +6,9 @@ use Rattle.value_domain.specs.declared.values.Val.{Val}
 use Rattle.value_domain.specs.Values.{any_val, IsWellFormed, IsBelow}
 use Rattle.value_domain.proofs.RangeLaws.{below_any}
 use Rattle.value_domain.specs.State.{AreWellFormed, is_lower_slot}
-use Rattle.depth_cert.specs.Exits.{lower_values, values_with_lower_from}
+use Rattle.depth_cert.specs.Exits.{lower_values, values_after_return_from}
 use Rattle.depth_cert.proofs.ExitValues.{restored_at, after-at, lower_low, lower_high}
-use Rattle.packed_cert.specs.ValuesInBytes.{place_after_value, value_in, values_in, HasValueInBytes, HaveValuesInBytes}
+use Rattle.packed_cert.specs.ValuesInBytes.{place_after_value, value_in_bytes, values_in_bytes, HasValueInBytes, HaveValuesInBytes}
 use Rattle.packed_cert.proofs.SameBytes.{Small}
 use Rattle.packed_cert.proofs.ValueShapes.{left_first, length-values_in, stands_at, well_of}
 
@@ -34,28 +34,28 @@ other_before i h e = grind (arith)
 -- those that are left stand from a place on, where n were looked at
 pub record LeftBehind (version : ℕ) (bytes : List ℕ) (place n from : ℕ) : Type 0 where
   pub have : HaveValuesInBytes version bytes from (14 - n)
-  pub left : drop n (values_in version bytes place 14) ≡ values_in version bytes from (14 - n)
+  pub left : drop n (values_in_bytes version bytes place 14) ≡ values_in_bytes version bytes from (14 - n)
 
 -- the value at place i
 abbrev pub restored_in : ℕ → List ℕ → ℕ → ℕ → List Val → Val
-restored_in version bytes from i regs = cond (is_lower_slot i) (value_in version bytes from) (get_or regs i any_val)
+restored_in version bytes from i regs = cond (is_lower_slot i) (value_in_bytes version bytes from) (get_or regs i any_val)
 
 pub record LowerStep (version : ℕ) (bytes : List ℕ) (place i from : ℕ) (regs : List Val) : Type 0 where
   pub has : IsTrue (is_lower_slot i) → HasValueInBytes version bytes from
-  pub is : get_or (values_with_lower_from 0 (values_in version bytes place 14) regs) i any_val ≡ restored_in version bytes from i regs
+  pub is : get_or (values_after_return_from 0 (values_in_bytes version bytes place 14) regs) i any_val ≡ restored_in version bytes from i regs
   pub next : LeftBehind version bytes place (lower_before (i + 1)) (cond (is_lower_slot i) (place_after_value bytes from) from)
 
 pub lower_step : (version : ℕ) (bytes : List ℕ) (place i from : ℕ) (regs : List Val) → i < 27 → length regs ≡ 27 → LeftBehind version bytes place (lower_before i) from → LowerStep version bytes place i from regs
 lower_step version bytes place i from regs h len l =
-    let ls : List Val = values_in version bytes place 14 in
-    let at : get_or (values_with_lower_from 0 ls regs) i any_val ≡ restored_at i ls (get_or regs i any_val) = after-at ls regs i (omega arith) in
+    let ls : List Val = values_in_bytes version bytes place 14 in
+    let at : get_or (values_after_return_from 0 ls regs) i any_val ≡ restored_at i ls (get_or regs i any_val) = after-at ls regs i (omega arith) in
     elim (cases_Bool (is_lower_slot i)) [
       | inl t ↦
           let k = slot_before i h t in
           let f = left_first version bytes from 14 (lower_before i) ls k.1 (length-values_in version bytes place 14) l.have l.left in
           let next : LeftBehind version bytes place (lower_before i + 1) (place_after_value bytes from) = record { have = f.1; left = f.3 } in
-          let value : restored_at i ls (get_or regs i any_val) ≡ value_in version bytes from = rw t (ap (λ (n : ℕ). get_or ls n any_val) k.2 ∙ f.2) in
-          let back : value_in version bytes from ≡ restored_in version bytes from i regs = rw t refl in
+          let value : restored_at i ls (get_or regs i any_val) ≡ value_in_bytes version bytes from = rw t (ap (λ (n : ℕ). get_or ls n any_val) k.2 ∙ f.2) in
+          let back : value_in_bytes version bytes from ≡ restored_in version bytes from i regs = rw t refl in
           record {
             has = λ s. f.0;
             is = at ∙ value ∙ back;
@@ -76,7 +76,7 @@ pub any_above : (i : ℕ) (regs : List Val) (version : ℕ) (bytes : List ℕ) (
 any_above i regs version bytes from high small h len well has any =
     elim (cases_Bool (is_lower_slot i)) [
       | inl t ↦
-          let v : Val = value_in version bytes from in
+          let v : Val = value_in_bytes version bytes from in
           let there = stands_at version bytes from small (has t) in
           let below : IsBelow v high = subst (λ (w : Val). IsBelow v w) (sym any) (below_any v (well_of version v there.well)) in
           rw t (λ y. below, λ b. refl)

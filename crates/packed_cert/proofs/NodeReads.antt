@@ -16,54 +16,54 @@ use Rattle.depth_cert.specs.Nodes.{NodeData, count_points, key_numbers}
 use Rattle.depth_cert.specs.Grammar.{exit_at, optional_exit_at, last_number_read, key_after, need_at, points_at, node_after}
 use Rattle.packed_cert.specs.declared.places.NodePlaces.{NodePlaces}
 use Rattle.packed_cert.specs.ValuesInBytes.{place_in_bytes, read_from_bytes_or}
-use Rattle.packed_cert.specs.PointsInBytes.{point_in}
-use Rattle.packed_cert.specs.NodesInBytes.{exit_in, HasExit, AreNodePlaces, node_of, nodes_of}
+use Rattle.packed_cert.specs.PointsInBytes.{point_in_bytes}
+use Rattle.packed_cert.specs.NodesInBytes.{exit_in_bytes, HasExitInBytes, AreNodePlaces, node_in_bytes, nodes_in_bytes}
 use Rattle.depth_cert.specs.Exits.{no_exit}
 
 -- the exit that was read stands where it was read
-pub exit_read : (version : ℕ) (bytes : List ℕ) (c : Place) (x : ℕ) (e : Exit) (q : Place) → c.bytes ≡ bytes → x ≡ c.place → exit_at version c ≡ Ok (e, q) → (exit_in version bytes x ≡ e) × HasExit version bytes x
+pub exit_read : (version : ℕ) (bytes : List ℕ) (c : Place) (x : ℕ) (e : Exit) (q : Place) → c.bytes ≡ bytes → x ≡ c.place → exit_at version c ≡ Ok (e, q) → (exit_in_bytes version bytes x ≡ e) × HasExitInBytes version bytes x
 exit_read version bytes c x e q b p h =
     let there : place_in_bytes bytes x ≡ c = ap (λ (k : ℕ). place_in_bytes bytes k) p ∙ ap (λ (l : List ℕ). place_in_bytes l c.place) (sym b) in
     let read : exit_at version (place_in_bytes bytes x) ≡ Ok (e, q) = ap (exit_at version) there ∙ h in
     (ap (read_from_bytes_or no_exit) read, ((e, q), read))
 
 -- the exit that is read at a place is the one that stands there
-pub exit_whole : (version : ℕ) (bytes : List ℕ) (x : ℕ) (e : Exit) (q c : Place) → c ≡ place_in_bytes bytes x → exit_at version c ≡ Ok (e, q) → e ≡ exit_in version bytes x
+pub exit_whole : (version : ℕ) (bytes : List ℕ) (x : ℕ) (e : Exit) (q c : Place) → c ≡ place_in_bytes bytes x → exit_at version c ≡ Ok (e, q) → e ≡ exit_in_bytes version bytes x
 exit_whole version bytes x e q c there read = sym (ap (read_from_bytes_or no_exit) (ap (exit_at version) (sym there) ∙ read))
 
-pub exit_never : (version : ℕ) (bytes : List ℕ) (x : ℕ) (f : FormErr) (c : Place) → c ≡ place_in_bytes bytes x → HasExit version bytes x → exit_at version c ≡ Err f → ⊥
+pub exit_never : (version : ℕ) (bytes : List ℕ) (x : ℕ) (f : FormErr) (c : Place) → c ≡ place_in_bytes bytes x → HasExitInBytes version bytes x → exit_at version c ≡ Err f → ⊥
 exit_never version bytes x f c there h read = never f h.0 (sym (ap (exit_at version) (sym there) ∙ read) ∙ h.1)
   where
     never : (f : FormErr) (y : Exit × Place) → ◌≡◌ {A = Result (Exit × Place) FormErr} (Err f) (Ok y) → ⊥
     never f y g = cc
 
 -- the exit that was read into its place is the one that stands there
-pub whole_exit : {A : Type 0} (version : ℕ) (bytes : List ℕ) (x : ℕ) (r : Result A FormErr) (e : Exit) (c d : Place) → c ≡ place_in_bytes bytes x → HasExit version bytes x
-    → OnOk r (exit_at version c ≡ Ok (e, d)) → IfErr r (λ f. exit_at version c ≡ Err f) → e ≡ exit_in version bytes x
+pub whole_exit : {A : Type 0} (version : ℕ) (bytes : List ℕ) (x : ℕ) (r : Result A FormErr) (e : Exit) (c d : Place) → c ≡ place_in_bytes bytes x → HasExitInBytes version bytes x
+    → OnOk r (exit_at version c ≡ Ok (e, d)) → IfErr r (λ f. exit_at version c ≡ Err f) → e ≡ exit_in_bytes version bytes x
 whole_exit {A} version bytes x (Ok n) e c d there h ok err = exit_whole version bytes x e d c there ok
 whole_exit {A} version bytes x (Err f) e c d there h ok err = absurd (exit_never version bytes x f c there h err)
 
-pub keys_in : (version : ℕ) (bytes : List ℕ) (ns : List NodePlaces) → All (AreNodePlaces version bytes) ns → key_numbers (nodes_of version bytes ns) ≡ map (λ n. n.number) ns
+pub keys_in : (version : ℕ) (bytes : List ℕ) (ns : List NodePlaces) → All (AreNodePlaces version bytes) ns → key_numbers (nodes_in_bytes version bytes ns) ≡ map (λ n. n.number) ns
 keys_in version bytes [] all = refl
 keys_in version bytes (n ∷ ns) all =
     let here : number_of_key n.key ≡ n.number = sym (all 0 n (omega arith)).number in
     let more : All (AreNodePlaces version bytes) ns = λ k d h. all (suc k) d (omega arith) in
-    ap (λ (k : ℕ). k ∷ key_numbers (nodes_of version bytes ns)) here ∙ ap (λ (l : List ℕ). n.number ∷ l) (keys_in version bytes ns more)
+    ap (λ (k : ℕ). k ∷ key_numbers (nodes_in_bytes version bytes ns)) here ∙ ap (λ (l : List ℕ). n.number ∷ l) (keys_in version bytes ns more)
 
-pub nodes_push : (version : ℕ) (bytes : List ℕ) (ns : List NodePlaces) (n : NodePlaces) → nodes_of version bytes (ns ++ n ∷ []) ≡ nodes_of version bytes ns ++ node_of version bytes n ∷ []
-nodes_push version bytes ns n = map-append (node_of version bytes) ns (n ∷ [])
+pub nodes_push : (version : ℕ) (bytes : List ℕ) (ns : List NodePlaces) (n : NodePlaces) → nodes_in_bytes version bytes (ns ++ n ∷ []) ≡ nodes_in_bytes version bytes ns ++ node_in_bytes version bytes n ∷ []
+nodes_push version bytes ns n = map-append (node_in_bytes version bytes) ns (n ∷ [])
 
-pub count_push : (version : ℕ) (bytes : List ℕ) (ns : List NodePlaces) (n : NodePlaces) → count_points (nodes_of version bytes (ns ++ n ∷ [])) ≡ count_points (nodes_of version bytes ns) + length n.points.items
+pub count_push : (version : ℕ) (bytes : List ℕ) (ns : List NodePlaces) (n : NodePlaces) → count_points (nodes_in_bytes version bytes (ns ++ n ∷ [])) ≡ count_points (nodes_in_bytes version bytes ns) + length n.points.items
 count_push version bytes ns n =
-    let more = ap count_points (nodes_push version bytes ns n) ∙ sum_by-append (λ (n : NodeData). length n.points) (nodes_of version bytes ns) (node_of version bytes n ∷ []) in
-    let one = length-map n.points.items (point_in version bytes) in
+    let more = ap count_points (nodes_push version bytes ns n) ∙ sum_by-append (λ (n : NodeData). length n.points) (nodes_in_bytes version bytes ns) (node_in_bytes version bytes n ∷ []) in
+    let one = length-map n.points.items (point_in_bytes version bytes) in
     omega (arith, more, one)
 
-pub count_in : (version : ℕ) (bytes : List ℕ) (ns : List NodePlaces) → count_points (nodes_of version bytes ns) ≡ sum_by (λ (n : NodePlaces). length n.points.items) ns
+pub count_in : (version : ℕ) (bytes : List ℕ) (ns : List NodePlaces) → count_points (nodes_in_bytes version bytes ns) ≡ sum_by (λ (n : NodePlaces). length n.points.items) ns
 count_in version bytes [] = refl
 count_in version bytes (n ∷ ns) =
-    sum_by-cons (λ (m : NodeData). length m.points) (node_of version bytes n) (nodes_of version bytes ns)
-    ∙ ap (λ (k : ℕ). k + count_points (nodes_of version bytes ns)) (length-map n.points.items (point_in version bytes))
+    sum_by-cons (λ (m : NodeData). length m.points) (node_in_bytes version bytes n) (nodes_in_bytes version bytes ns)
+    ∙ ap (λ (k : ℕ). k + count_points (nodes_in_bytes version bytes ns)) (length-map n.points.items (point_in_bytes version bytes))
     ∙ ap (λ (k : ℕ). length n.points.items + k) (count_in version bytes ns)
     ∙ sym (sum_by-cons (λ (m : NodePlaces). length m.points.items) n ns)
 

@@ -12,7 +12,7 @@ use Rattle.depth_cert.specs.Grammar.{values_at, state_at, last_number_read, addr
 use Rattle.depth_cert.proofs.PointReads.{point_reads}
 use Rattle.packed_cert.specs.declared.places.PointPlace.{PointPlace}
 use Rattle.packed_cert.specs.ValuesInBytes.{AreValuesBetween, place_in_bytes}
-use Rattle.packed_cert.specs.PointsInBytes.{state_in, point_in, points_in}
+use Rattle.packed_cert.specs.PointsInBytes.{state_in_bytes, point_in_bytes, points_in_bytes}
 use Rattle.packed_cert.proofs.SameBytes.{Small, values_stand}
 
 -- the values that were read stand where they were read
@@ -24,20 +24,20 @@ read_stand version n bytes c vs q x small b p h e =
     let s = values_stand version bytes n x [] vs q small h (ap (values_at version n) there ∙ e) in
     (h, subst (λ (l : List Val). AreValuesBetween version bytes x l q.place) (sym s.is) s.stand)
 
-pub addresses_in : (version : ℕ) (bytes : List ℕ) (ps : List PointPlace) → addresses (points_in version bytes ps) ≡ map (λ p. p.addr) ps
+pub addresses_in : (version : ℕ) (bytes : List ℕ) (ps : List PointPlace) → addresses (points_in_bytes version bytes ps) ≡ map (λ p. p.addr) ps
 addresses_in version bytes [] = refl
 addresses_in version bytes (p ∷ ps) = ap (λ (l : List ℕ). p.addr ∷ l) (addresses_in version bytes ps)
 
 -- one point more, whose state is at its place, too
-pub point_more : (version : ℕ) (bytes : List ℕ) (ps : List PointPlace) (item : PointPlace) (c q r : Place) (s : State) → state_in version bytes item.place ≡ s
+pub point_more : (version : ℕ) (bytes : List ℕ) (ps : List PointPlace) (item : PointPlace) (c q r : Place) (s : State) → state_in_bytes version bytes item.place ≡ s
     → address_after (last_number_read (map (λ p. p.addr) ps)) c ≡ Ok (item.addr, q) → state_at version q ≡ Ok (s, r)
-    → point_after version (points_in version bytes ps) c ≡ Ok (point_in version bytes item, r)
+    → point_after version (points_in_bytes version bytes ps) c ≡ Ok (point_in_bytes version bytes item, r)
 point_more version bytes ps item c q r s there a e =
-    point_reads version (points_in version bytes ps) c q r item.addr s (ap (λ (l : List ℕ). address_after (last_number_read l) c) (addresses_in version bytes ps) ∙ a) e
+    point_reads version (points_in_bytes version bytes ps) c q r item.addr s (ap (λ (l : List ℕ). address_after (last_number_read l) c) (addresses_in version bytes ps) ∙ a) e
     ∙ ap (λ (t : State). let x : Result (Point × Place) FormErr = Ok (record { addr = item.addr; state = t }, r) in x) (sym there)
 
-pub points_push : (version : ℕ) (bytes : List ℕ) (ps : List PointPlace) (p : PointPlace) → points_in version bytes (ps ++ p ∷ []) ≡ points_in version bytes ps ++ point_in version bytes p ∷ []
-points_push version bytes ps p = map-append (point_in version bytes) ps (p ∷ [])
+pub points_push : (version : ℕ) (bytes : List ℕ) (ps : List PointPlace) (p : PointPlace) → points_in_bytes version bytes (ps ++ p ∷ []) ≡ points_in_bytes version bytes ps ++ point_in_bytes version bytes p ∷ []
+points_push version bytes ps p = map-append (point_in_bytes version bytes) ps (p ∷ [])
 
 pub took : {A : Type 0} (r : Option A) (P : Type 0) (n len : ℕ) → (IsSome r ↔ (0 + n ≤ len)) → OnSome r P → n ≤ len → P
 took (Some x) P n len there moved h = moved

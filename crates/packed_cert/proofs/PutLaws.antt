@@ -7,7 +7,7 @@ use Rattle.value_domain.specs.Values.{any_val, IsBelow}
 use Rattle.vd_transfer.specs.declared.change.Base.{Base}
 use Rattle.vd_transfer.specs.declared.change.Base.TheVariants.{Same}
 use Rattle.vd_transfer.specs.declared.change.Change.{Change}
-use Rattle.vd_transfer.specs.Changes.{base_of, state_after}
+use Rattle.vd_transfer.specs.Changes.{base_values, state_after}
 use Rattle.vd_transfer.proofs.ChangeLaws.{value-base}
 
 -- ---- places
@@ -35,7 +35,7 @@ at_other : (s : State) (c : Change) (r : ℕ) → length s.regs ≡ 27 → r < 2
 at_other s c r len lt base third second first =
     let own : get_or (state_after s c).regs r any_val ≡ get_or s.regs r any_val =
     value-base s c r len lt (is_place-false c.third.at r third) (is_place-false c.second.at r second) (is_place-false c.first.at r first)
-    ∙ ap (λ (b : Base). get_or (base_of b s.regs) r any_val) base in
+    ∙ ap (λ (b : Base). get_or (base_values b s.regs) r any_val) base in
     subst (λ (v : Val). IsBelow v (get_or s.regs r any_val)) (sym own) (λ x m. m)
 
 -- each place, where what is put there is below

@@ -8,9 +8,9 @@ use Rattle.value_domain.specs.declared.values.Val.{Val}
 use Rattle.value_domain.specs.declared.states.State.{State}
 use Rattle.value_domain.specs.Values.{any_val}
 use Rattle.packed_cert.specs.declared.places.PointPlace.{PointPlace}
-use Rattle.packed_cert.specs.ValuesInBytes.{AreValuesBetween, place_after_value, place_in_bytes, place_after_values, value_in, values_in, HaveValuesInBytes, read_from_bytes_or}
+use Rattle.packed_cert.specs.ValuesInBytes.{AreValuesBetween, place_after_value, place_in_bytes, place_after_values, value_in_bytes, values_in_bytes, HaveValuesInBytes, read_from_bytes_or}
 use Rattle.packed_cert.specs.ChangedRows.{RowBeginsAtPlace, IsWholeRow, ChangesOnlyRow}
-use Rattle.packed_cert.specs.PointsInBytes.{state_in, HasState}
+use Rattle.packed_cert.specs.PointsInBytes.{state_in_bytes, HasStateInBytes}
 use Rattle.value_domain.specs.State.{no_state}
 use Rattle.packed_cert.specs.Moves.{DiffersOnlyInRow, IsStateBefore, AllDifferOnlyInRows}
 use Rattle.packed_cert.proofs.SameBytes.{Small, value_stands}
@@ -31,38 +31,38 @@ place_after-more bytes x i =
 -- values that stand one after another, from one of them on
 pub record StandsRow (version : ℕ) (bytes : List ℕ) (y : ℕ) (vs : List Val) (i n : ℕ) : Type 0 where
   pub have : HaveValuesInBytes version bytes y (n - i)
-  pub stand : drop i vs ≡ values_in version bytes y (n - i)
+  pub stand : drop i vs ≡ values_in_bytes version bytes y (n - i)
 
-pub all_stand : (version : ℕ) (bytes : List ℕ) (x e : ℕ) (vs : List Val) → Small bytes → x ≤ length bytes → AreValuesBetween version bytes x vs e → HaveValuesInBytes version bytes x (length vs) × (vs ≡ values_in version bytes x (length vs))
+pub all_stand : (version : ℕ) (bytes : List ℕ) (x e : ℕ) (vs : List Val) → Small bytes → x ≤ length bytes → AreValuesBetween version bytes x vs e → HaveValuesInBytes version bytes x (length vs) × (vs ≡ values_in_bytes version bytes x (length vs))
 all_stand version bytes x e [] small h s = (tt, refl)
 all_stand version bytes x e (v ∷ vs) small h s =
     let one = value_stands version bytes x v _ small h s.0 in
     let rest = all_stand version bytes (place_after_value bytes x) e vs small one.within s.1 in
-    let here : v ≡ value_in version bytes x = sym (ap (read_from_bytes_or any_val) s.0) in
-    ((((v, place_in_bytes bytes (place_after_value bytes x)), s.0, h), rest.0), ap (λ (u : Val). u ∷ vs) here ∙ ap (λ (us : List Val). value_in version bytes x ∷ us) rest.1)
+    let here : v ≡ value_in_bytes version bytes x = sym (ap (read_from_bytes_or any_val) s.0) in
+    ((((v, place_in_bytes bytes (place_after_value bytes x)), s.0, h), rest.0), ap (λ (u : Val). u ∷ vs) here ∙ ap (λ (us : List Val). value_in_bytes version bytes x ∷ us) rest.1)
 
 pub row_stands : (version : ℕ) (bytes : List ℕ) (x e i n : ℕ) (vs : List Val) → Small bytes → x ≤ length bytes → AreValuesBetween version bytes x vs e → length vs ≡ n → i ≤ n → StandsRow version bytes (place_after_values bytes x i) vs i n
 row_stands version bytes x e zero n vs small h s len few =
     let all = all_stand version bytes x e vs small h s in
     let same : length vs ≡ n - 0 = omega arith in
-    record { have = subst (HaveValuesInBytes version bytes x) same all.0; stand = all.1 ∙ ap (values_in version bytes x) same }
+    record { have = subst (HaveValuesInBytes version bytes x) same all.0; stand = all.1 ∙ ap (values_in_bytes version bytes x) same }
 row_stands version bytes x e (suc i) n [] small h s len few = absurd (omega arith)
 row_stands version bytes x e (suc i) n (v ∷ vs) small h s len few =
     let one = value_stands version bytes x v _ small h s.0 in
     let len2 : length vs ≡ n - 1 = omega arith in
     let rest = row_stands version bytes (place_after_value bytes x) e i (n - 1) vs small one.within s.1 len2 (omega arith) in
     let left : n - 1 - i ≡ n - suc i = omega arith in
-    record { have = subst (HaveValuesInBytes version bytes (place_after_values bytes (place_after_value bytes x) i)) left rest.have; stand = rest.stand ∙ ap (values_in version bytes (place_after_values bytes (place_after_value bytes x) i)) left }
+    record { have = subst (HaveValuesInBytes version bytes (place_after_values bytes (place_after_value bytes x) i)) left rest.have; stand = rest.stand ∙ ap (values_in_bytes version bytes (place_after_values bytes (place_after_value bytes x) i)) left }
 
 -- ---- one point more
 -- a state that stands at a place has 27 values
-pub state_length : (version : ℕ) (bytes : List ℕ) (x : ℕ) → Small bytes → HasState version bytes x → length (state_in version bytes x).regs ≡ 27
+pub state_length : (version : ℕ) (bytes : List ℕ) (x : ℕ) → Small bytes → HasStateInBytes version bytes x → length (state_in_bytes version bytes x).regs ≡ 27
 state_length version bytes x small h =
     let v = state_values version bytes x h.0.0 h.0.1 small h.1 in
     ap (λ (s : State). length s.regs) (ap (read_from_bytes_or no_state) h.1) ∙ ap (λ (l : List Val). length l) v.regs ∙ length-values_in version bytes (x + 4 + get_or bytes (x + 3) 0) 27
 
 -- what is read behind a state keeps what it says of it
-pub moved_by : (version : ℕ) (bytes : List ℕ) (before after : State) (p : PointPlace) (x e : ℕ) → Small bytes → state_in version bytes p.place ≡ after → length after.regs ≡ 27 → length before.regs ≡ 27
+pub moved_by : (version : ℕ) (bytes : List ℕ) (before after : State) (p : PointPlace) (x e : ℕ) → Small bytes → state_in_bytes version bytes p.place ≡ after → length after.regs ≡ 27 → length before.regs ≡ 27
     → x ≤ length bytes → AreValuesBetween version bytes x after.regs e → ChangesOnlyRow before.regs after.regs p.row → RowBeginsAtPlace bytes x p.row → (IsTrue p.same → after ≡ before) → DiffersOnlyInRow version bytes before p
 moved_by version bytes before after p x e small is count len h s row from same =
     let few : (p.row).behind ≤ 27 = omega (arith, row.within) in
@@ -75,7 +75,7 @@ moved_by version bytes before after p x e small is count len h s row from same =
       stand = λ some.
           ap (λ (t : State). drop (p.row).first t.regs) is
           ∙ stands.stand
-          ∙ ap (λ (y : ℕ). values_in version bytes y (27 - (p.row).first)) (sym (from some));
+          ∙ ap (λ (y : ℕ). values_in_bytes version bytes y (27 - (p.row).first)) (sym (from some));
       same = λ t. is ∙ same t;
     }
 
@@ -87,7 +87,7 @@ moves_push version bytes ps p moves one k d s lt before =
           let here : get_or (ps ++ p ∷ []) k d ≡ get_or ps k d = get_or_append_left ps (p ∷ []) d k low in
           let front : IsStateBefore version bytes ps k s = record {
             count = before.count;
-            last = λ j e next. before.last j e next ∙ ap (λ (q : PointPlace). state_in version bytes q.place) (get_or_append_left ps (p ∷ []) e j (omega arith));
+            last = λ j e next. before.last j e next ∙ ap (λ (q : PointPlace). state_in_bytes version bytes q.place) (get_or_append_left ps (p ∷ []) e j (omega arith));
           } in
           subst (λ (q : PointPlace). DiffersOnlyInRow version bytes s q) (sym here) (moves k d s low front)
       | inr from ↦
@@ -95,16 +95,16 @@ moves_push version bytes ps p moves one k d s lt before =
           let here : get_or (ps ++ p ∷ []) k d ≡ p = ap (λ (n : ℕ). get_or (ps ++ p ∷ []) n d) there ∙ get_or-append_seam ps p [] d in
           let front : IsStateBefore version bytes ps (length ps) s = record {
             count = before.count;
-            last = λ j e next. before.last j e (next ∙ sym there) ∙ ap (λ (q : PointPlace). state_in version bytes q.place) (get_or_append_left ps (p ∷ []) e j (omega arith));
+            last = λ j e next. before.last j e (next ∙ sym there) ∙ ap (λ (q : PointPlace). state_in_bytes version bytes q.place) (get_or_append_left ps (p ∷ []) e j (omega arith));
           } in
           subst (λ (q : PointPlace). DiffersOnlyInRow version bytes s q) (sym here) (one s front)
     ]
 
 -- what is read behind the points keeps what it says of any state that stands before it; a first
 -- point says of all values that they were read
-pub moved_next : (version : ℕ) (bytes : List ℕ) (ps : List PointPlace) (t before after : State) (p : PointPlace) (x e i : ℕ) → Small bytes → state_in version bytes p.place ≡ after → HasState version bytes p.place
+pub moved_next : (version : ℕ) (bytes : List ℕ) (ps : List PointPlace) (t before after : State) (p : PointPlace) (x e i : ℕ) → Small bytes → state_in_bytes version bytes p.place ≡ after → HasStateInBytes version bytes p.place
     → x ≤ length bytes → AreValuesBetween version bytes x after.regs e → RowBeginsAtPlace bytes x p.row → (i ≡ 0 → IsWholeRow 27 p.row × (p.same ≡ false)) → (1 ≤ i → ChangesOnlyRow before.regs after.regs p.row) → (1 ≤ i → IsTrue p.same → after ≡ before)
-    → length ps ≡ i → ((j : ℕ) (d : PointPlace) → j + 1 ≡ i → before ≡ state_in version bytes (get_or ps j d).place) → IsStateBefore version bytes ps (length ps) t → DiffersOnlyInRow version bytes t p
+    → length ps ≡ i → ((j : ℕ) (d : PointPlace) → j + 1 ≡ i → before ≡ state_in_bytes version bytes (get_or ps j d).place) → IsStateBefore version bytes ps (length ps) t → DiffersOnlyInRow version bytes t p
 moved_next version bytes ps t before after p x e zero small is there h s from whole row same size last b =
     let w = whole refl in
     let count : length after.regs ≡ 27 = ap (λ (u : State). length u.regs) (sym is) ∙ state_length version bytes p.place small there in

@@ -11,14 +11,14 @@ use Rattle.tcd_base.specs.FieldReaders.{◌>>=◌, many_fields_at}
 use Rattle.tcd_base.proofs.FieldReads.{bind_ok}
 use Rattle.value_domain.specs.declared.values.Val.{Val}
 use Rattle.value_domain.specs.declared.values.Val.TheVariants.{Set, Span}
-use Rattle.value_domain.specs.Values.{any_val, is_any_span}
+use Rattle.value_domain.specs.Values.{any_val, is_span_of_all_words}
 use Rattle.depth_cert.specs.Points.{IsWellFormedCertValue}
 use Rattle.depth_cert.specs.Grammar.{value_at}
 use Rattle.depth_cert.specs.Spelling.{bytes_of_value}
 use Rattle.tcd_base.proofs.PassedLaws.{AreBytes, bytes_from, Passed, ok_pair}
 use Rattle.depth_cert.proofs.GrammarLaws.{value_passed}
 use Rattle.depth_cert.proofs.WrittenLaws.{IsRead, value_cases}
-use Rattle.packed_cert.specs.RepeatedBytes.{SameBytesAtPlaces, SkipsRepeatedBytes}
+use Rattle.packed_cert.specs.RepeatedBytes.{AreBytesRepeated, SkipsRepeatedBytes}
 use Rattle.packed_cert.specs.ValuesInBytes.{AreValuesBetween, value_length_by_tag, place_after_value, place_in_bytes}
 
 -- all bytes are below 256
@@ -99,7 +99,7 @@ value_length version (Set ws) h =
     let few : leb (length ws) 128 ≡ true = le-leb _ _ h.0.few in
     let e = length_words ws in
     rw (not_zero, few) (omega arith)
-value_length version (Span lo last step) h = by_any (is_any_span lo last step) step
+value_length version (Span lo last step) h = by_any (is_span_of_all_words lo last step) step
   where
     by_any : (b : _) (step : ℕ) → length (cond b (0 ∷ []) ((240 + step) ∷ bytes_of_word lo ++ bytes_of_word last)) ≡ value_length_by_tag (get_or (cond b (0 ∷ []) ((240 + step) ∷ bytes_of_word lo ++ bytes_of_word last)) 0 0)
     by_any true step = refl
@@ -180,13 +180,13 @@ stand_order version bytes x e [] s = let same : x ≡ e = s in omega arith
 stand_order version bytes x e (v ∷ vs) s = let more : place_after_value bytes x ≤ e = stand_order version bytes (place_after_value bytes x) e vs s.1 in omega arith
 
 -- ---- fewer of the bytes that stand alike, and those behind them
-pub alike_fewer : (bytes : List ℕ) (x y n k : ℕ) → n ≤ k → SameBytesAtPlaces bytes x y k → SameBytesAtPlaces bytes x y n
+pub alike_fewer : (bytes : List ℕ) (x y n k : ℕ) → n ≤ k → AreBytesRepeated bytes x y k → AreBytesRepeated bytes x y n
 alike_fewer bytes x y n k h e = sym (take-take n k (drop x bytes) h) ∙ ap (take n) e ∙ take-take n k (drop y bytes) h
 
-pub alike_behind : (bytes : List ℕ) (x y n k : ℕ) → n ≤ k → SameBytesAtPlaces bytes x y k → SameBytesAtPlaces bytes (x + n) (y + n) (k - n)
+pub alike_behind : (bytes : List ℕ) (x y n k : ℕ) → n ≤ k → AreBytesRepeated bytes x y k → AreBytesRepeated bytes (x + n) (y + n) (k - n)
 alike_behind bytes x y n k h e =
     let all : k ≡ n + (k - n) = omega arith in
-    let whole : SameBytesAtPlaces bytes x y (n + (k - n)) = subst (λ (m : ℕ). SameBytesAtPlaces bytes x y m) all e in
+    let whole : AreBytesRepeated bytes x y (n + (k - n)) = subst (λ (m : ℕ). AreBytesRepeated bytes x y m) all e in
     ap (take (k - n)) (sym (drop-drop n x bytes))
     ∙ sym (drop-take n (k - n) (drop x bytes))
     ∙ ap (drop n) whole
@@ -195,7 +195,7 @@ alike_behind bytes x y n k h e =
 
 -- a value whose bytes are among those that stand alike is read there, too
 pub alike_read : (version : ℕ) (bytes : List ℕ) (x y n k : ℕ) (v : Val) (q : Place) → Small bytes → x ≤ length bytes → value_at version (place_in_bytes bytes x) ≡ Ok (v, q) → n ≡ value_length_by_tag (get_or bytes x 0)
-    → n ≤ k → y + k ≤ length bytes → SameBytesAtPlaces bytes x y k → value_at version (place_in_bytes bytes y) ≡ Ok (v, place_in_bytes bytes (y + n))
+    → n ≤ k → y + k ≤ length bytes → AreBytesRepeated bytes x y k → value_at version (place_in_bytes bytes y) ≡ Ok (v, place_in_bytes bytes (y + n))
 alike_read version bytes x y n k v q small h e len few room same =
     let s = value_stands version bytes x v q small h e in
     let part = alike_fewer bytes x y n k few same in
@@ -203,7 +203,7 @@ alike_read version bytes x y n k v q small h e len few room same =
     rw len (s.same y (rw (← len) within) (rw (← len) part))
 
 -- where all bytes of values stand alike, all of them are read there
-pub rest_read : (version : ℕ) (bytes : List ℕ) (x y e : ℕ) (before vs : List Val) → Small bytes → x ≤ length bytes → AreValuesBetween version bytes x vs e → y + (e - x) ≤ length bytes → SameBytesAtPlaces bytes x y (e - x)
+pub rest_read : (version : ℕ) (bytes : List ℕ) (x y e : ℕ) (before vs : List Val) → Small bytes → x ≤ length bytes → AreValuesBetween version bytes x vs e → y + (e - x) ≤ length bytes → AreBytesRepeated bytes x y (e - x)
     → many_fields_at (λ before. value_at version) (length vs) before (place_in_bytes bytes y) ≡ Ok (before ++ vs, place_in_bytes bytes (y + (e - x)))
 unfolding many_fields_at
 rest_read version bytes x y e before [] small h s room same =
@@ -217,7 +217,7 @@ rest_read version bytes x y e before (v ∷ vs) small h s room same =
     let few : n ≤ e - x = omega arith in
     let read = alike_read version bytes x y n (e - x) v _ small h s.0 refl few room same in
     let left : e - x - n ≡ e - (x + n) = omega arith in
-    let rest : SameBytesAtPlaces bytes (x + n) (y + n) (e - (x + n)) = subst (λ (k : ℕ). SameBytesAtPlaces bytes (x + n) (y + n) k) left (alike_behind bytes x y n (e - x) few same) in
+    let rest : AreBytesRepeated bytes (x + n) (y + n) (e - (x + n)) = subst (λ (k : ℕ). AreBytesRepeated bytes (x + n) (y + n) k) left (alike_behind bytes x y n (e - x) few same) in
     let more = rest_read version bytes (x + n) (y + n) e (before ++ v ∷ []) vs small one.within s.1 (omega arith) rest in
     let end : y + n + (e - (x + n)) ≡ y + (e - x) = omega arith in
     ap (λ (r : Result (Val × Place) FormErr). r >>= λ x. many_fields_at (λ before. value_at version) (length vs) (before ++ x.0 ∷ []) x.1) read
@@ -227,7 +227,7 @@ rest_read version bytes x y e before (v ∷ vs) small h s room same =
 
 -- so where all bytes behind the first values stand alike, all values are read
 pub all_read : (version n i x y stop e : ℕ) (bytes : List ℕ) (out : List Val) (c : Place) → Small bytes → stop ≡ e → x ≤ stop → stop ≤ length bytes → length out ≡ n → AreValuesBetween version bytes x (drop i out) e
-    → y + (stop - x) ≤ length bytes → SameBytesAtPlaces bytes x y (stop - x) → many_fields_at (λ before. value_at version) n [] c ≡ many_fields_at (λ before. value_at version) (n - i) (take i out) (place_in_bytes bytes y)
+    → y + (stop - x) ≤ length bytes → AreBytesRepeated bytes x y (stop - x) → many_fields_at (λ before. value_at version) n [] c ≡ many_fields_at (λ before. value_at version) (n - i) (take i out) (place_in_bytes bytes y)
     → many_fields_at (λ before. value_at version) n [] c ≡ Ok (out, place_in_bytes bytes (y + (stop - x)))
 all_read version n i x y stop e bytes out c small is order within count stand room same read =
     let there : AreValuesBetween version bytes x (drop i out) stop = subst (λ (k : ℕ). AreValuesBetween version bytes x (drop i out) k) (sym is) stand in

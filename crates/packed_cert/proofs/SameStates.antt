@@ -9,7 +9,7 @@ use Rattle.depth_cert.proofs.BackLaws.{state_read}
 use Rattle.packed_cert.specs.declared.places.StatePlaces.{StatePlaces}
 use Rattle.packed_cert.specs.ValuesInBytes.{place_in_bytes}
 use Rattle.packed_cert.specs.RepeatedBytes.{SkipsRepeatedBytes}
-use Rattle.packed_cert.specs.PointsInBytes.{IsStateAtPlaces}
+use Rattle.packed_cert.specs.PointsInBytes.{AreStatePlaces}
 use Rattle.packed_cert.proofs.SameBytes.{Small, split, small_rest, StandsFrom, stands_from, read_again, read_there}
 
 pub state_stands : (version : ℕ) (bytes : List ℕ) (x e : ℕ) (s : State) → Small bytes → x ≤ length bytes → state_at version (place_in_bytes bytes x) ≡ Ok (s, place_in_bytes bytes e) → StandsFrom (state_at version) bytes x e s
@@ -18,7 +18,7 @@ state_stands version bytes x e s small h read =
     stands_from (state_at version) (bytes_of_state s) s bytes x e h (state_read version s p.1) p.0
 
 -- where the same bytes come again, the same state is read
-pub state_again : (version n : ℕ) (bytes : List ℕ) (s : State) (p : StatePlaces) (c d : Place) → Small bytes → IsStateAtPlaces version bytes s p → c.bytes ≡ bytes → p.start + n ≡ p.end → SkipsRepeatedBytes bytes p.start n c d → state_at version c ≡ Ok (s, d)
+pub state_again : (version n : ℕ) (bytes : List ℕ) (s : State) (p : StatePlaces) (c d : Place) → Small bytes → AreStatePlaces version bytes s p → c.bytes ≡ bytes → p.start + n ≡ p.end → SkipsRepeatedBytes bytes p.start n c d → state_at version c ≡ Ok (s, d)
 state_again version n bytes s p c d small h b len m =
     read_again (state_at version) s n bytes p.start p.end c d (state_stands version bytes p.start p.end s small (omega (arith, h.order, h.within)) h.read) b len m
 

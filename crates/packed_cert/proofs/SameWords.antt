@@ -2,7 +2,7 @@
 use Rattle.std.proofs.Common.{◌≡◌, ℕ, ◌+◌, ◌*◌, ◌<◌, ◌≤◌, ◌^◌, List, length, get_or, take, drop, refl, sym, ap, ◌∙◌, subst, arith, length-append}
 use Rattle.std.proofs.lemmas.List.{take_more_same, take-append-drop, length-take, get_or-drop}
 use Rattle.tcd_base.specs.Bytes.{word_in_bytes}
-use Rattle.packed_cert.specs.RepeatedBytes.{SameBytesAtPlaces, eight_bytes_at_place}
+use Rattle.packed_cert.specs.RepeatedBytes.{AreBytesRepeated, double_word_in_bytes}
 use Rattle.packed_cert.proofs.SameBytes.{Small}
 
 drop_length : (bytes : List ℕ) (x i : ℕ) → x + i < length bytes → i < length (drop x bytes)
@@ -50,15 +50,15 @@ same_halves a b c d h k e =
     (low, omega arith)
 
 -- eight bytes more
-pub eight_more : (bytes : List ℕ) (x y i : ℕ) → Small bytes → x + i + 8 ≤ length bytes → y + i + 8 ≤ length bytes → SameBytesAtPlaces bytes x y i → eight_bytes_at_place bytes (x + i) ≡ eight_bytes_at_place bytes (y + i)
-    → SameBytesAtPlaces bytes x y (i + 8)
+pub eight_more : (bytes : List ℕ) (x y i : ℕ) → Small bytes → x + i + 8 ≤ length bytes → y + i + 8 ≤ length bytes → AreBytesRepeated bytes x y i → double_word_in_bytes bytes (x + i) ≡ double_word_in_bytes bytes (y + i)
+    → AreBytesRepeated bytes x y (i + 8)
 eight_more bytes x y i small h k same e =
     let p = x + i in
     let q = y + i in
     let parts = same_halves (word_in_bytes bytes p) (word_in_bytes bytes (p + 4)) (word_in_bytes bytes q) (word_in_bytes bytes (q + 4)) (word_below bytes p small) (word_below bytes q small) e in
-    let one : SameBytesAtPlaces bytes x y (i + 4) = word_more bytes x y i small (omega arith) (omega arith) same parts.0 in
+    let one : AreBytesRepeated bytes x y (i + 4) = word_more bytes x y i small (omega arith) (omega arith) same parts.0 in
     let first : x + (i + 4) ≡ p + 4 = omega arith in
     let second : q + 4 ≡ y + (i + 4) = omega arith in
     let next = ap (λ (n : ℕ). word_in_bytes bytes n) first ∙ parts.1 ∙ ap (λ (n : ℕ). word_in_bytes bytes n) second in
     let all : i + 4 + 4 ≡ i + 8 = omega arith in
-    subst (λ (n : ℕ). SameBytesAtPlaces bytes x y n) all (word_more bytes x y (i + 4) small (omega arith) (omega arith) one next)
+    subst (λ (n : ℕ). AreBytesRepeated bytes x y n) all (word_more bytes x y (i + 4) small (omega arith) (omega arith) one next)

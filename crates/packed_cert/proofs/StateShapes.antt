@@ -13,8 +13,8 @@ use Rattle.depth_cert.specs.declared.points.Exit.{Exit}
 use Rattle.depth_cert.specs.Grammar.{valid_field_or_fault, flag_at, values_at, value_at, locals_at, state_at, exit_at}
 use Rattle.tcd_base.proofs.PassedLaws.{ok_pair}
 use Rattle.depth_cert.proofs.GrammarLaws.{checked_passed, most_le}
-use Rattle.packed_cert.specs.ValuesInBytes.{AreValuesBetween, place_after_value, place_in_bytes, value_in, values_in, HaveValuesInBytes, read_from_bytes_or}
-use Rattle.packed_cert.specs.PointsInBytes.{flags_in}
+use Rattle.packed_cert.specs.ValuesInBytes.{AreValuesBetween, place_after_value, place_in_bytes, value_in_bytes, values_in_bytes, HaveValuesInBytes, read_from_bytes_or}
+use Rattle.packed_cert.specs.PointsInBytes.{flags_in_bytes}
 use Rattle.packed_cert.proofs.SameBytes.{Small, value_stands, values_stand}
 
 -- a flag takes one byte
@@ -46,7 +46,7 @@ record FlagsTook (n : ℕ) (before : List Bool) (p : Place) (ls : List Bool) (q 
   bytes : q.bytes ≡ p.bytes
   place : q.place ≡ p.place + n
   within : q.place ≤ length p.bytes
-  is : ls ≡ before ++ flags_in p.bytes p.place n
+  is : ls ≡ before ++ flags_in_bytes p.bytes p.place n
 
 flags_took : (n : ℕ) (before ls : List Bool) (p q : Place) → p.place ≤ length p.bytes → many_fields_at (λ before. flag_at) n before p ≡ Ok (ls, q) → FlagsTook n before p ls q
 unfolding many_fields_at
@@ -59,26 +59,26 @@ flags_took (suc n) before ls p q h e =
     let k = flag_took p b.0.1 b.0.0 b.1 in
     let same : length b.0.1.bytes ≡ length p.bytes = ap length k.bytes in
     let r = flags_took n (before ++ b.0.0 ∷ []) ls b.0.1 q (omega (arith, k.place, k.within)) b.2 in
-    let rest : flags_in b.0.1.bytes b.0.1.place n ≡ flags_in p.bytes (p.place + 1) n = ap (λ (l : List ℕ). flags_in l b.0.1.place n) k.bytes ∙ ap (λ (x : ℕ). flags_in p.bytes x n) k.place in
+    let rest : flags_in_bytes b.0.1.bytes b.0.1.place n ≡ flags_in_bytes p.bytes (p.place + 1) n = ap (λ (l : List ℕ). flags_in_bytes l b.0.1.place n) k.bytes ∙ ap (λ (x : ℕ). flags_in_bytes p.bytes x n) k.place in
     record {
       bytes = r.bytes ∙ k.bytes;
       place = omega (arith, r.place, k.place);
       within = omega (arith, r.within);
       is =
           r.is
-          ∙ append_assoc before (b.0.0 ∷ []) (flags_in b.0.1.bytes b.0.1.place n)
+          ∙ append_assoc before (b.0.0 ∷ []) (flags_in_bytes b.0.1.bytes b.0.1.place n)
           ∙ ap (λ (l : List Bool). before ++ (b.0.0 ∷ l)) rest
-          ∙ ap (λ (x : Bool). before ++ (x ∷ flags_in p.bytes (p.place + 1) n)) k.is;
+          ∙ ap (λ (x : Bool). before ++ (x ∷ flags_in_bytes p.bytes (p.place + 1) n)) k.is;
     }
 
 -- values that stand are those that are computed
-stand_in : (version : ℕ) (bytes : List ℕ) (vs : List Val) (x e : ℕ) → Small bytes → x ≤ length bytes → AreValuesBetween version bytes x vs e → (vs ≡ values_in version bytes x (length vs)) × HaveValuesInBytes version bytes x (length vs)
+stand_in : (version : ℕ) (bytes : List ℕ) (vs : List Val) (x e : ℕ) → Small bytes → x ≤ length bytes → AreValuesBetween version bytes x vs e → (vs ≡ values_in_bytes version bytes x (length vs)) × HaveValuesInBytes version bytes x (length vs)
 stand_in version bytes [] x e small h s = (refl, tt)
 stand_in version bytes (v ∷ vs) x e small h s =
     let one = value_stands version bytes x v _ small h s.0 in
     let rest = stand_in version bytes vs (place_after_value bytes x) e small one.within s.1 in
-    let first : value_in version bytes x ≡ v = ap (read_from_bytes_or any_val) s.0 in
-    (ap (λ (u : Val). u ∷ vs) (sym first) ∙ ap (λ (l : List Val). value_in version bytes x ∷ l) rest.0, (((v, place_in_bytes bytes (place_after_value bytes x)), s.0, h), rest.1))
+    let first : value_in_bytes version bytes x ≡ v = ap (read_from_bytes_or any_val) s.0 in
+    (ap (λ (u : Val). u ∷ vs) (sym first) ∙ ap (λ (l : List Val). value_in_bytes version bytes x ∷ l) rest.0, (((v, place_in_bytes bytes (place_after_value bytes x)), s.0, h), rest.1))
 
 -- how the context of a state stands at a place
 pub record HasContext (version : ℕ) (bytes : List ℕ) (x : ℕ) (s : State) : Type 0 where
@@ -88,7 +88,7 @@ pub record HasContext (version : ℕ) (bytes : List ℕ) (x : ℕ) (s : State) :
   pub ie : s.ie ≡ eqb (get_or bytes x 0) 1
   pub ccpn : s.ccpn ≡ get_or bytes (x + 1) 0
   pub lower : s.lower ≡ eqb (get_or bytes (x + 2) 0) 1
-  pub locals : s.locals.items ≡ flags_in bytes (x + 4) (get_or bytes (x + 3) 0)
+  pub locals : s.locals.items ≡ flags_in_bytes bytes (x + 4) (get_or bytes (x + 3) 0)
   pub end : Place
   pub end_bytes : end.bytes ≡ bytes
   pub end_place : end.place ≡ x + 4 + get_or bytes (x + 3) 0
@@ -97,7 +97,7 @@ pub record HasContext (version : ℕ) (bytes : List ℕ) (x : ℕ) (s : State) :
 
 -- where its values stand
 pub record HasValues (version : ℕ) (bytes : List ℕ) (x : ℕ) (s : State) : Type 0 where
-  pub regs : s.regs ≡ values_in version bytes (x + 4 + get_or bytes (x + 3) 0) 27
+  pub regs : s.regs ≡ values_in_bytes version bytes (x + 4 + get_or bytes (x + 3) 0) 27
   pub have : HaveValuesInBytes version bytes (x + 4 + get_or bytes (x + 3) 0) 27
 
 end_inside : (p e m n : ℕ) → p ≡ e → p ≤ m → m ≡ n → e ≤ n
@@ -129,13 +129,13 @@ two_inside x p m n e h f = omega arith
 
 -- values that were read are those that are computed
 values_here : (version n : ℕ) (bytes : List ℕ) (c : Place) (x : ℕ) (vs : List Val) (q : Place) → Small bytes → c.bytes ≡ bytes → c.place ≡ x → x ≤ length bytes → values_at version n c ≡ Ok (vs, q)
-    → (vs ≡ values_in version bytes x n) × HaveValuesInBytes version bytes x n
+    → (vs ≡ values_in_bytes version bytes x n) × HaveValuesInBytes version bytes x n
 unfolding values_at
 values_here version n bytes c x vs q small b p h e =
     let there : place_in_bytes bytes x ≡ c = ap (λ (k : ℕ). place_in_bytes bytes k) (sym p) ∙ ap (λ (l : List ℕ). place_in_bytes l c.place) (sym b) in
     let v = values_stand version bytes n x [] vs q small h (ap (many_fields_at (λ before. value_at version) n []) there ∙ e) in
     let i = stand_in version bytes v.values x _ small h v.stand in
-    (v.is ∙ i.0 ∙ ap (values_in version bytes x) v.count, subst (HaveValuesInBytes version bytes x) v.count i.1)
+    (v.is ∙ i.0 ∙ ap (values_in_bytes version bytes x) v.count, subst (HaveValuesInBytes version bytes x) v.count i.1)
 
 -- the byte that was taken, by where it stands
 byte_here : (bytes l : List ℕ) (x p : ℕ) → l ≡ bytes → p ≡ x → get_or l p 0 ≡ get_or bytes x 0
@@ -146,7 +146,7 @@ record LocalsTook (bytes : List ℕ) (x : ℕ) (ls : List Bool) (q : Place) : Ty
   bytes_same : q.bytes ≡ bytes
   place : q.place ≡ x + 4 + get_or bytes (x + 3) 0
   few : get_or bytes (x + 3) 0 ≤ 8
-  flags : ls ≡ flags_in bytes (x + 4) (get_or bytes (x + 3) 0)
+  flags : ls ≡ flags_in_bytes bytes (x + 4) (get_or bytes (x + 3) 0)
   inside : x + 4 ≤ length bytes
   within : x + 4 + get_or bytes (x + 3) 0 ≤ length bytes
 
@@ -168,9 +168,9 @@ locals_took version bytes x p ls q b3 p3 e =
       few = few_flags n.0.0 (get_or bytes (x + 3) 0) (most_locals_of version) count (leb-true _ _ c.0) (most_le version);
       flags =
           k5.is
-          ∙ ap (λ (l : List ℕ). flags_in l n.0.1.place n.0.0) b4
-          ∙ ap (λ (k : ℕ). flags_in bytes k n.0.0) (four_on x p.place n.0.1.place p3 k4.0.place)
-          ∙ ap (flags_in bytes (x + 4)) count;
+          ∙ ap (λ (l : List ℕ). flags_in_bytes l n.0.1.place n.0.0) b4
+          ∙ ap (λ (k : ℕ). flags_in_bytes bytes k n.0.0) (four_on x p.place n.0.1.place p3 k4.0.place)
+          ∙ ap (flags_in_bytes bytes (x + 4)) count;
       inside = four_inside x p.place (length p.bytes) (length bytes) p3 k4.0.within (ap length b3);
       within = end_inside q.place (x + 4 + get_or bytes (x + 3) 0) (length n.0.1.bytes) (length bytes) place k5.within (ap length b4);
     }
@@ -222,7 +222,7 @@ pub record HasExitContext (version : ℕ) (bytes : List ℕ) (x : ℕ) (e : Exit
 
 -- where its values stand
 pub record HasExitValues (version : ℕ) (bytes : List ℕ) (x : ℕ) (e : Exit) : Type 0 where
-  pub lower : e.lower ≡ values_in version bytes (x + 2) 14
+  pub lower : e.lower ≡ values_in_bytes version bytes (x + 2) 14
   pub have : HaveValuesInBytes version bytes (x + 2) 14
 
 pub exit_context : (version : ℕ) (bytes : List ℕ) (x : ℕ) (e : Exit) (q : Place) → exit_at version (place_in_bytes bytes x) ≡ Ok (e, q) → HasExitContext version bytes x e

@@ -9,7 +9,7 @@ use Rattle.tcd_base.specs.FieldReaders.{u8_at, u32_at, many_fields_at}
 use Rattle.tcd_base.proofs.FieldReads.{bind_ok, u8_at_ok, u32_at_ok}
 use Rattle.value_domain.specs.declared.values.Val.{Val}
 use Rattle.value_domain.specs.declared.values.Val.TheVariants.{Set, Span}
-use Rattle.value_domain.specs.Sets.{IsAscending, AreWords, IsExtent}
+use Rattle.value_domain.specs.Sets.{IsAscending, AreSetWords, IsExtent}
 use Rattle.value_domain.specs.Values.{any_val, members, IsWellFormed, IsBelow}
 use Rattle.value_domain.proofs.RangeLaws.{below_span}
 use Rattle.value_domain.specs.VersionLimits.{most_words_of}
@@ -17,7 +17,7 @@ use Rattle.depth_cert.specs.Points.{IsWellFormedCertValue}
 use Rattle.depth_cert.specs.Grammar.{valid_field_or_fault, set_word_after, set_at, span_at, value_at, is_above_last_read, last_number_read, is_cert_span}
 use Rattle.tcd_base.proofs.PassedLaws.{ok_pair, passed_test}
 use Rattle.depth_cert.proofs.GrammarLaws.{checked_passed, width_le}
-use Rattle.packed_cert.specs.ValuesInBytes.{value_length_by_tag, place_after_value, place_in_bytes, read_from_bytes_or, words_at, value_in, HasValueInBytes, values_in, HaveValuesInBytes}
+use Rattle.packed_cert.specs.ValuesInBytes.{value_length_by_tag, place_after_value, place_in_bytes, read_from_bytes_or, words_in_bytes, value_in_bytes, HasValueInBytes, values_in_bytes, HaveValuesInBytes}
 use Rattle.packed_cert.proofs.SameBytes.{Small, value_stands}
 
 -- which of four comes
@@ -29,8 +29,8 @@ chosen false false true x y z w r e = inr (inr (inl (refl, e)))
 chosen false false false x y z w r e = inr (inr (inr e))
 
 -- the words that were read are those that stand there
-words_read : (n : ℕ) (before ws : List ℕ) (p q : Place) → many_fields_at set_word_after n before p ≡ Ok (ws, q) → ws ≡ before ++ words_at p.bytes p.place n
-unfolding many_fields_at set_word_after words_at
+words_read : (n : ℕ) (before ws : List ℕ) (p q : Place) → many_fields_at set_word_after n before p ≡ Ok (ws, q) → ws ≡ before ++ words_in_bytes p.bytes p.place n
+unfolding many_fields_at set_word_after words_in_bytes
 words_read zero before ws p q e = sym (ok_pair before ws p q e).0 ∙ sym (append-nil before)
 words_read (suc n) before ws p q e =
     let b = bind_ok (set_word_after before p) (λ x. many_fields_at set_word_after n (before ++ x.0 ∷ []) x.1) (ws, q) e in
@@ -42,12 +42,12 @@ words_read (suc n) before ws p q e =
     let bytes : b.0.1.bytes ≡ p.bytes = ap (λ (x : Place). x.bytes) after ∙ k.0.bytes in
     let place : b.0.1.place ≡ p.place + 4 = ap (λ (x : Place). x.place) after ∙ k.0.place in
     words_read n (before ++ b.0.0 ∷ []) ws b.0.1 q b.2
-    ∙ ap (λ (l : List ℕ). (before ++ b.0.0 ∷ []) ++ words_at l b.0.1.place n) bytes
-    ∙ ap (λ (k : ℕ). (before ++ b.0.0 ∷ []) ++ words_at p.bytes k n) place
-    ∙ ap (λ (x : ℕ). (before ++ x ∷ []) ++ words_at p.bytes (p.place + 4) n) word
-    ∙ append_assoc before (word_in_bytes p.bytes p.place ∷ []) (words_at p.bytes (p.place + 4) n)
+    ∙ ap (λ (l : List ℕ). (before ++ b.0.0 ∷ []) ++ words_in_bytes l b.0.1.place n) bytes
+    ∙ ap (λ (k : ℕ). (before ++ b.0.0 ∷ []) ++ words_in_bytes p.bytes k n) place
+    ∙ ap (λ (x : ℕ). (before ++ x ∷ []) ++ words_in_bytes p.bytes (p.place + 4) n) word
+    ∙ append_assoc before (word_in_bytes p.bytes p.place ∷ []) (words_in_bytes p.bytes (p.place + 4) n)
 
-set_read : (n : ℕ) (v : Val) (p q : Place) → set_at n p ≡ Ok (v, q) → v ≡ Set (words_at p.bytes p.place n)
+set_read : (n : ℕ) (v : Val) (p q : Place) → set_at n p ≡ Ok (v, q) → v ≡ Set (words_in_bytes p.bytes p.place n)
 unfolding set_at
 set_read n v p q e =
     let b = bind_ok (many_fields_at set_word_after n [] p) (λ ws. Ok (Set ws.0, ws.1)) (v, q) e in
@@ -69,7 +69,7 @@ span_read version step start v p q e =
 -- the value by its first byte
 pub record IsShaped (version : ℕ) (bytes : List ℕ) (x : ℕ) (v : Val) : Type 0 where
   pub any : get_or bytes x 0 ≡ 0 → v ≡ any_val
-  pub set : 1 ≤ get_or bytes x 0 → get_or bytes x 0 ≤ 128 → v ≡ Set (words_at bytes (x + 1) (get_or bytes x 0))
+  pub set : 1 ≤ get_or bytes x 0 → get_or bytes x 0 ≤ 128 → v ≡ Set (words_in_bytes bytes (x + 1) (get_or bytes x 0))
   pub span : 128 < get_or bytes x 0 → (240 ≤ get_or bytes x 0) × (v ≡ Span (word_in_bytes bytes (x + 1)) (word_in_bytes bytes (x + 5)) (get_or bytes x 0 - 240))
 
 never : {A : Type 0} (e : FormErr) (x : A) → ◌≡◌ {A = Result A FormErr} (Err e) (Ok x) → ⊥
@@ -91,7 +91,7 @@ shaped version bytes x v q e =
           record { any = λ h. sym f.0; set = λ h l. absurd (omega arith); span = λ h. absurd (omega arith) }
       | inr (inl c) ↦
           let within : n ≤ most_words_of version = leb-true _ _ c.1 in
-          let is : v ≡ Set (words_at bytes (x + 1) (get_or bytes x 0)) = set_read n v (place_in_bytes bytes (x + 1)) q (ap (set_at n) (sym next) ∙ c.2) ∙ ap (λ (m : ℕ). Set (words_at bytes (x + 1) m)) tag in
+          let is : v ≡ Set (words_in_bytes bytes (x + 1) (get_or bytes x 0)) = set_read n v (place_in_bytes bytes (x + 1)) q (ap (set_at n) (sym next) ∙ c.2) ∙ ap (λ (m : ℕ). Set (words_in_bytes bytes (x + 1) m)) tag in
           record { any = λ h. absurd (some_count n c.0 (tag ∙ h)); set = λ h l. is; span = λ h. absurd (omega (arith, (width_le version).1)) }
       | inr (inr (inl c)) ↦
           let steps = and_parts (leb 240 n) (leb n 242) c.0 in
@@ -111,23 +111,23 @@ shaped version bytes x v q e =
 
 -- all that is known of a value that stands at a place
 pub record StandsAt (version : ℕ) (bytes : List ℕ) (x : ℕ) : Type 0 where
-  pub shape : IsShaped version bytes x (value_in version bytes x)
-  pub well : IsWellFormedCertValue version (value_in version bytes x)
+  pub shape : IsShaped version bytes x (value_in_bytes version bytes x)
+  pub well : IsWellFormedCertValue version (value_in_bytes version bytes x)
   pub inside : x < length bytes
   pub within : place_after_value bytes x ≤ length bytes
-  pub end : value_at version (place_in_bytes bytes x) ≡ Ok (value_in version bytes x, place_in_bytes bytes (place_after_value bytes x))
+  pub end : value_at version (place_in_bytes bytes x) ≡ Ok (value_in_bytes version bytes x, place_in_bytes bytes (place_after_value bytes x))
 
 pub stands_at : (version : ℕ) (bytes : List ℕ) (x : ℕ) → Small bytes → HasValueInBytes version bytes x → StandsAt version bytes x
 stands_at version bytes x small h =
     let v = h.0.0 in
     let s = value_stands version bytes x v h.0.1 small h.2 h.1 in
-    let same : value_in version bytes x ≡ v = ap (read_from_bytes_or any_val) h.1 in
+    let same : value_in_bytes version bytes x ≡ v = ap (read_from_bytes_or any_val) h.1 in
     record {
       shape = subst (IsShaped version bytes x) (sym same) (shaped version bytes x v h.0.1 h.1);
       well = subst (IsWellFormedCertValue version) (sym same) s.well;
       inside = s.inside;
       within = s.within;
-      end = h.1 ∙ ap (λ (u : Val). let r : Result (Val × Place) FormErr = Ok (u, h.0.1) in r) (sym same) ∙ ap (λ (p : Place). let r : Result (Val × Place) FormErr = Ok (value_in version bytes x, p) in r) s.end;
+      end = h.1 ∙ ap (λ (u : Val). let r : Result (Val × Place) FormErr = Ok (u, h.0.1) in r) (sym same) ∙ ap (λ (p : Place). let r : Result (Val × Place) FormErr = Ok (value_in_bytes version bytes x, p) in r) s.end;
     }
 
 pub well_of : (version : ℕ) (v : Val) → IsWellFormedCertValue version v → IsWellFormed v
@@ -149,7 +149,7 @@ long_span n many =
 pub set_rising : (version : ℕ) (ws : List ℕ) → IsWellFormedCertValue version (Set ws) → IsAscending ws
 set_rising version ws h = h.0.rising
 
-pub set_good : (version : ℕ) (ws : List ℕ) → IsWellFormedCertValue version (Set ws) → AreWords ws
+pub set_good : (version : ℕ) (ws : List ℕ) → IsWellFormedCertValue version (Set ws) → AreSetWords ws
 set_good version ws h = h.0
 
 pub well_as : (version : ℕ) (v w : Val) → v ≡ w → IsWellFormedCertValue version v → IsWellFormed w
@@ -163,28 +163,28 @@ span_exact version v w lo last s same well ok e =
     rw same both
 
 -- ---- values in a row
-pub length-values_in : (version : ℕ) (bytes : List ℕ) (place n : ℕ) → length (values_in version bytes place n) ≡ n
+pub length-values_in : (version : ℕ) (bytes : List ℕ) (place n : ℕ) → length (values_in_bytes version bytes place n) ≡ n
 length-values_in version bytes place zero = refl
 length-values_in version bytes place (suc n) = ap suc (length-values_in version bytes (place_after_value bytes place) n)
 
 -- the first of those that are left
-pub left_first : (version : ℕ) (bytes : List ℕ) (at n i : ℕ) (vs : List Val) → i < n → length vs ≡ n → HaveValuesInBytes version bytes at (n - i) → drop i vs ≡ values_in version bytes at (n - i)
-    → HasValueInBytes version bytes at × HaveValuesInBytes version bytes (place_after_value bytes at) (n - (i + 1)) × (get_or vs i any_val ≡ value_in version bytes at) × (drop (i + 1) vs ≡ values_in version bytes (place_after_value bytes at) (n - (i + 1)))
+pub left_first : (version : ℕ) (bytes : List ℕ) (at n i : ℕ) (vs : List Val) → i < n → length vs ≡ n → HaveValuesInBytes version bytes at (n - i) → drop i vs ≡ values_in_bytes version bytes at (n - i)
+    → HasValueInBytes version bytes at × HaveValuesInBytes version bytes (place_after_value bytes at) (n - (i + 1)) × (get_or vs i any_val ≡ value_in_bytes version bytes at) × (drop (i + 1) vs ≡ values_in_bytes version bytes (place_after_value bytes at) (n - (i + 1)))
 left_first version bytes at n i vs h len have same =
     let left : n - i ≡ suc (n - (i + 1)) = omega arith in
     let now : HaveValuesInBytes version bytes at (suc (n - (i + 1))) = subst (HaveValuesInBytes version bytes at) left have in
-    let all : get_or vs i any_val ∷ drop (i + 1) vs ≡ values_in version bytes at (suc (n - (i + 1))) = sym (drop_more vs i any_val (omega arith)) ∙ same ∙ ap (values_in version bytes at) left in
+    let all : get_or vs i any_val ∷ drop (i + 1) vs ≡ values_in_bytes version bytes at (suc (n - (i + 1))) = sym (drop_more vs i any_val (omega arith)) ∙ same ∙ ap (values_in_bytes version bytes at) left in
     (now.0, now.1, ap (λ (l : List Val). get_or l 0 any_val) all, ap (drop 1) all)
 
 -- ---- a single word
-one_word : (bytes : List ℕ) (x : ℕ) → words_at bytes x 1 ≡ word_in_bytes bytes x ∷ []
-unfolding words_at
+one_word : (bytes : List ℕ) (x : ℕ) → words_in_bytes bytes x 1 ≡ word_in_bytes bytes x ∷ []
+unfolding words_in_bytes
 one_word bytes x = refl
 
-pub one_value : (version : ℕ) (bytes : List ℕ) (x : ℕ) → get_or bytes x 0 ≡ 1 → StandsAt version bytes x → value_in version bytes x ≡ Set (word_in_bytes bytes (x + 1) ∷ [])
+pub one_value : (version : ℕ) (bytes : List ℕ) (x : ℕ) → get_or bytes x 0 ≡ 1 → StandsAt version bytes x → value_in_bytes version bytes x ≡ Set (word_in_bytes bytes (x + 1) ∷ [])
 one_value version bytes x e s =
     s.shape.set (omega (arith, e)) (omega (arith, e))
-    ∙ ap (λ (n : ℕ). Set (words_at bytes (x + 1) n)) e
+    ∙ ap (λ (n : ℕ). Set (words_in_bytes bytes (x + 1) n)) e
     ∙ ap (λ (ws : List ℕ). Set ws) (one_word bytes (x + 1))
 
 pub one_inside : (bytes : List ℕ) (x : ℕ) → get_or bytes x 0 ≡ 1 → place_after_value bytes x ≤ length bytes → x + 1 + 4 ≤ length bytes

@@ -10,30 +10,30 @@ use Rattle.depth_cert.specs.declared.points.Point.{Point}
 use Rattle.packed_cert.specs.declared.places.PointPlace.{PointPlace}
 use Rattle.packed_cert.specs.declared.places.ValueRow.{ValueRow}
 use Rattle.packed_cert.specs.ChangedRows.{ChangesOnlyRow}
-use Rattle.packed_cert.specs.PointsInBytes.{state_in, points_in}
+use Rattle.packed_cert.specs.PointsInBytes.{state_in_bytes, points_in_bytes}
 use Rattle.packed_cert.specs.Walks.{KeepsOtherValues}
 
 -- the first of the points that are left
-pub first_left : (version : ℕ) (bytes : List ℕ) (ps : List PointPlace) (i : ℕ) (d : PointPlace) (s : State) → i < length ps → s ≡ state_in version bytes (get_or ps i d).place
-    → points_in version bytes (drop i ps) ≡ record { addr = (get_or ps i d).addr; state = s } ∷ points_in version bytes (drop (i + 1) ps)
+pub first_left : (version : ℕ) (bytes : List ℕ) (ps : List PointPlace) (i : ℕ) (d : PointPlace) (s : State) → i < length ps → s ≡ state_in_bytes version bytes (get_or ps i d).place
+    → points_in_bytes version bytes (drop i ps) ≡ record { addr = (get_or ps i d).addr; state = s } ∷ points_in_bytes version bytes (drop (i + 1) ps)
 first_left version bytes ps i d s h e =
-    ap (points_in version bytes) (drop_more ps i d h)
-    ∙ ap (λ (t : State). let p : Point = record { addr = (get_or ps i d).addr; state = t } in p ∷ points_in version bytes (drop (i + 1) ps)) (sym e)
+    ap (points_in_bytes version bytes) (drop_more ps i d h)
+    ∙ ap (λ (t : State). let p : Point = record { addr = (get_or ps i d).addr; state = t } in p ∷ points_in_bytes version bytes (drop (i + 1) ps)) (sym e)
 
 -- where that state is at hand
-pub next_repeats : (version : ℕ) (bytes : List ℕ) (ps : List PointPlace) (i : ℕ) (d : PointPlace) (s : State) → i < length ps → s ≡ state_in version bytes (get_or ps i d).place
-    → points_in version bytes (drop i ps) ≡ record { addr = (get_or ps i d).addr; state = s } ∷ drop 1 (points_in version bytes (drop i ps))
+pub next_repeats : (version : ℕ) (bytes : List ℕ) (ps : List PointPlace) (i : ℕ) (d : PointPlace) (s : State) → i < length ps → s ≡ state_in_bytes version bytes (get_or ps i d).place
+    → points_in_bytes version bytes (drop i ps) ≡ record { addr = (get_or ps i d).addr; state = s } ∷ drop 1 (points_in_bytes version bytes (drop i ps))
 next_repeats version bytes ps i d s h e =
     let first = first_left version bytes ps i d s h e in
     let p : Point = record { addr = (get_or ps i d).addr; state = s } in
     first ∙ ap (λ (l : List Point). p ∷ l) (sym (ap (drop 1) first))
 
 -- where it covers one
-pub covers_at : (version : ℕ) (bytes : List ℕ) (ps : List PointPlace) (i : ℕ) (d : PointPlace) (addr : ℕ) (u : State) → i < length ps → (get_or ps i d).addr ≡ addr → Covers (state_in version bytes (get_or ps i d).place) u
-    → (t : State) × (points_in version bytes (drop i ps) ≡ record { addr = addr; state = t } ∷ drop 1 (points_in version bytes (drop i ps))) × Covers t u
+pub covers_at : (version : ℕ) (bytes : List ℕ) (ps : List PointPlace) (i : ℕ) (d : PointPlace) (addr : ℕ) (u : State) → i < length ps → (get_or ps i d).addr ≡ addr → Covers (state_in_bytes version bytes (get_or ps i d).place) u
+    → (t : State) × (points_in_bytes version bytes (drop i ps) ≡ record { addr = addr; state = t } ∷ drop 1 (points_in_bytes version bytes (drop i ps))) × Covers t u
 covers_at version bytes ps i d addr u h e covers =
-    let s : State = state_in version bytes (get_or ps i d).place in
-    let rest : List Point = drop 1 (points_in version bytes (drop i ps)) in
+    let s : State = state_in_bytes version bytes (get_or ps i d).place in
+    let rest : List Point = drop 1 (points_in_bytes version bytes (drop i ps)) in
     (s, next_repeats version bytes ps i d s h refl ∙ ap (λ (a : ℕ). let p : Point = record { addr = a; state = s } in p ∷ rest) e, covers)
 
 -- ---- values that were read row

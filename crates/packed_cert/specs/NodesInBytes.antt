@@ -15,54 +15,54 @@ use Rattle.packed_cert.specs.declared.places.ExitPlaces.{ExitPlaces}
 use Rattle.packed_cert.specs.declared.places.NodePlaces.{NodePlaces}
 use Rattle.packed_cert.specs.declared.places.PointPlace.{PointPlace}
 use Rattle.packed_cert.specs.ValuesInBytes.{place_in_bytes, read_from_bytes_or}
-use Rattle.packed_cert.specs.PointsInBytes.{points_in, HasState}
+use Rattle.packed_cert.specs.PointsInBytes.{points_in_bytes, HasStateInBytes}
 use Rattle.packed_cert.specs.Moves.{AllDifferOnlyInRows}
 use Rattle.depth_cert.specs.Exits.{no_exit}
 
 -- the exit at a place of a certificate's bytes
-abbrev pub exit_in : ℕ → List ℕ → ℕ → Exit
-exit_in version bytes place = read_from_bytes_or no_exit (exit_at version (place_in_bytes bytes place))
+abbrev pub exit_in_bytes : ℕ → List ℕ → ℕ → Exit
+exit_in_bytes version bytes place = read_from_bytes_or no_exit (exit_at version (place_in_bytes bytes place))
 
 -- there is an exit at a place of a certificate's bytes
-abbrev pub HasExit : ℕ → List ℕ → ℕ → Type 0
-HasExit version bytes place = (x : Exit × Place) × (exit_at version (place_in_bytes bytes place) ≡ Ok x)
+abbrev pub HasExitInBytes : ℕ → List ℕ → ℕ → Type 0
+HasExitInBytes version bytes place = (x : Exit × Place) × (exit_at version (place_in_bytes bytes place) ≡ Ok x)
 
 -- a node's exit is read from one place in the bytes to another
-abbrev pub ReadsExit : ℕ → Place → Place → Type 0
-ReadsExit version c d = (x : Exit) × (exit_at version c ≡ Ok (x, d))
+abbrev pub IsExitBetween : ℕ → Place → Place → Type 0
+IsExitBetween version c d = (x : Exit) × (exit_at version c ≡ Ok (x, d))
 
 -- there is an exit in a certificate's bytes, from its start to its end
-pub record IsExitAtPlaces (version : ℕ) (bytes : List ℕ) (p : ExitPlaces) : Type 0 where
+pub record AreExitPlaces (version : ℕ) (bytes : List ℕ) (p : ExitPlaces) : Type 0 where
   pub order : p.start ≤ p.end
   pub within : p.end ≤ length bytes
-  pub read : ReadsExit version (place_in_bytes bytes p.start) (place_in_bytes bytes p.end)
+  pub read : IsExitBetween version (place_in_bytes bytes p.start) (place_in_bytes bytes p.end)
 
 -- what always holds of an exit in the bytes: it is there, and its values are inside
 pub record IsExitAt (version : ℕ) (bytes : List ℕ) (place : ℕ) : Type 0 where
   pub short : length bytes ≤ 2 ^ 30
-  pub exit : HasExit version bytes place
+  pub exit : HasExitInBytes version bytes place
   pub room : place + 2 ≤ length bytes
 
 -- a node of a certificate on its bytes, as plain data
-abbrev pub node_in : ℕ → List ℕ → Key → ℕ → Option ℕ → List PointPlace → NodeData
-node_in version bytes key need exit points = record { key = key; need = need; exit = option_map (exit_in version bytes) exit; points = points_in version bytes points }
+abbrev pub node_of_fields : ℕ → List ℕ → Key → ℕ → Option ℕ → List PointPlace → NodeData
+node_of_fields version bytes key need exit points = record { key = key; need = need; exit = option_map (exit_in_bytes version bytes) exit; points = points_in_bytes version bytes points }
 
 -- what always holds of a node in the bytes: its points ascend, and states and an exit are at their
 -- places
 pub record IsNodeAt (version : ℕ) (bytes : List ℕ) (exit_place : Option ℕ) (points : List PointPlace) : Type 0 where
   pub short : length bytes ≤ 2 ^ 30
   pub rising : IsStrictlyIncreasing (map (λ p. p.addr) points)
-  pub states : All (λ p. HasState version bytes p.place) points
-  pub exit : IfSome exit_place (HasExit version bytes)
+  pub states : All (λ p. HasStateInBytes version bytes p.place) points
+  pub exit : IfSome exit_place (HasExitInBytes version bytes)
   pub moves : AllDifferOnlyInRows version bytes points
 
 -- the node of a certificate that has these places in the bytes
-abbrev pub node_of : ℕ → List ℕ → NodePlaces → NodeData
-node_of version bytes n = node_in version bytes n.key n.need n.exit n.points.items
+abbrev pub node_in_bytes : ℕ → List ℕ → NodePlaces → NodeData
+node_in_bytes version bytes n = node_of_fields version bytes n.key n.need n.exit n.points.items
 
 -- the nodes of a certificate that have these places in the bytes
-abbrev pub nodes_of : ℕ → List ℕ → List NodePlaces → List NodeData
-nodes_of version bytes ns = map (node_of version bytes) ns
+abbrev pub nodes_in_bytes : ℕ → List ℕ → List NodePlaces → List NodeData
+nodes_in_bytes version bytes ns = map (node_in_bytes version bytes) ns
 
 -- these are the places of a node in a certificate's bytes: the number is that of its key, and
 -- states and an exit are there
@@ -71,14 +71,14 @@ pub record AreNodePlaces (version : ℕ) (bytes : List ℕ) (n : NodePlaces) : T
   pub node : IsNodeAt version bytes n.exit n.points.items
 
 -- a certificate on its bytes, as plain data
-abbrev pub cert_of : ℕ → List ℕ → List NodePlaces → CertData
-cert_of version bytes ns = record { version = version; nodes = nodes_of version bytes ns }
+abbrev pub cert_in_bytes : ℕ → List ℕ → List NodePlaces → CertData
+cert_in_bytes version bytes ns = record { version = version; nodes = nodes_in_bytes version bytes ns }
 
 -- what always holds of a certificate on its bytes: they spell it, it keeps the limits, and its
 -- nodes are at their places
 pub record IsCertAt (version : ℕ) (bytes : List ℕ) (ns : List NodePlaces) : Type 0 where
   pub short : length bytes ≤ 2 ^ 30
-  pub spells : certificate_of bytes ≡ Ok (cert_of version bytes ns)
-  pub one : bytes_of_cert (cert_of version bytes ns) ≡ bytes
-  pub limits : IsCert (cert_of version bytes ns)
+  pub spells : certificate_of bytes ≡ Ok (cert_in_bytes version bytes ns)
+  pub one : bytes_of_cert (cert_in_bytes version bytes ns) ≡ bytes
+  pub limits : IsCert (cert_in_bytes version bytes ns)
   pub nodes : All (AreNodePlaces version bytes) ns

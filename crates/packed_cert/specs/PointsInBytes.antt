@@ -10,23 +10,23 @@ use Rattle.packed_cert.specs.ValuesInBytes.{AreValuesInBytes, place_in_bytes, re
 use Rattle.value_domain.specs.State.{no_state}
 
 -- the state at a place of a certificate's bytes
-abbrev pub state_in : ℕ → List ℕ → ℕ → State
-state_in version bytes place = read_from_bytes_or no_state (state_at version (place_in_bytes bytes place))
+abbrev pub state_in_bytes : ℕ → List ℕ → ℕ → State
+state_in_bytes version bytes place = read_from_bytes_or no_state (state_at version (place_in_bytes bytes place))
 
 -- there is a state at a place of a certificate's bytes
-abbrev pub HasState : ℕ → List ℕ → ℕ → Type 0
-HasState version bytes place = (x : State × Place) × (state_at version (place_in_bytes bytes place) ≡ Ok x)
+abbrev pub HasStateInBytes : ℕ → List ℕ → ℕ → Type 0
+HasStateInBytes version bytes place = (x : State × Place) × (state_at version (place_in_bytes bytes place) ≡ Ok x)
 
 -- a point, with the state at its place
-abbrev pub point_in : ℕ → List ℕ → PointPlace → Point
-point_in version bytes p = record { addr = p.addr; state = state_in version bytes p.place }
+abbrev pub point_in_bytes : ℕ → List ℕ → PointPlace → Point
+point_in_bytes version bytes p = record { addr = p.addr; state = state_in_bytes version bytes p.place }
 
 -- the points of a list, each with the state at its place
-abbrev pub points_in : ℕ → List ℕ → List PointPlace → List Point
-points_in version bytes ps = map (point_in version bytes) ps
+abbrev pub points_in_bytes : ℕ → List ℕ → List PointPlace → List Point
+points_in_bytes version bytes ps = map (point_in_bytes version bytes) ps
 
 -- this state is in a certificate's bytes, at these places of its start, its values and its end
-pub record IsStateAtPlaces (version : ℕ) (bytes : List ℕ) (s : State) (p : StatePlaces) : Type 0 where
+pub record AreStatePlaces (version : ℕ) (bytes : List ℕ) (s : State) (p : StatePlaces) : Type 0 where
   pub order : p.start ≤ p.end
   pub within : p.end ≤ length bytes
   pub read : state_at version (place_in_bytes bytes p.start) ≡ Ok (s, place_in_bytes bytes p.end)
@@ -34,11 +34,11 @@ pub record IsStateAtPlaces (version : ℕ) (bytes : List ℕ) (s : State) (p : S
 
 -- what always holds of a state in the bytes: it is there, and its values are inside
 pub record IsStateAt (version : ℕ) (bytes : List ℕ) (place : ℕ) : Type 0 where
-  pub state : HasState version bytes place
+  pub state : HasStateInBytes version bytes place
   pub room : place + 4 + slice_index bytes (place + 3) ≤ length bytes
 
 -- n truth values that the bytes have from a place on, a byte each, as a point's state has its
 -- locals
-abbrev pub flags_in : List ℕ → ℕ → ℕ → List Bool
-flags_in bytes place zero = []
-flags_in bytes place (suc n) = (slice_index bytes place == 1) ∷ flags_in bytes (place + 1) n
+abbrev pub flags_in_bytes : List ℕ → ℕ → ℕ → List Bool
+flags_in_bytes bytes place zero = []
+flags_in_bytes bytes place (suc n) = (slice_index bytes place == 1) ∷ flags_in_bytes bytes (place + 1) n

@@ -7,14 +7,14 @@ use Rattle.packed_cert.specs.ValuesInBytes.{AreValuesInBytes}
 use Rattle.tcd_base.specs.Bytes.{word_in_bytes}
 
 -- bytes of a packed certificate come again: the same n bytes are at two places
-abbrev pub SameBytesAtPlaces : List ℕ → ℕ → ℕ → ℕ → Type 0
-SameBytesAtPlaces bytes x y n = take n (drop x bytes) ≡ take n (drop y bytes)
+abbrev pub AreBytesRepeated : List ℕ → ℕ → ℕ → ℕ → Type 0
+AreBytesRepeated bytes x y n = take n (drop x bytes) ≡ take n (drop y bytes)
 
 -- so many bytes of a certificate's state, from its start on, come again at a place
-pub record IsRepeated (bytes : List ℕ) (place : ℕ) (p : RepeatedState) : Type 0 where
+pub record IsStartRepeatedAt (bytes : List ℕ) (place : ℕ) (p : RepeatedState) : Type 0 where
   pub first : (p.at).start + p.same ≤ length bytes
   pub second : place + p.same ≤ length bytes
-  pub alike : SameBytesAtPlaces bytes (p.at).start place p.same
+  pub alike : AreBytesRepeated bytes (p.at).start place p.same
 
 -- a cursor moved over n bytes of a packed certificate that come again: they equal the n bytes from
 -- x on
@@ -24,10 +24,10 @@ SkipsRepeatedBytes bytes x n before after =
 
 -- a state in the bytes has these values, and its first bytes, as many as p counts, come again at
 -- this place
-pub record StateRepeatsAt (version : ℕ) (bytes : List ℕ) (vs : List Val) (place : ℕ) (p : RepeatedState) : Type 0 where
+pub record IsRepeatedStateAt (version : ℕ) (bytes : List ℕ) (vs : List Val) (place : ℕ) (p : RepeatedState) : Type 0 where
   pub values : AreValuesInBytes version bytes vs (p.at).values (p.at).end
-  pub repeated : IsRepeated bytes place p
+  pub repeated : IsStartRepeatedAt bytes place p
 
 -- the number in the eight bytes from a place on, to test whether bytes come again
-abbrev pub eight_bytes_at_place : List ℕ → ℕ → ℕ
-eight_bytes_at_place bytes place = word_in_bytes bytes place + word_in_bytes bytes (place + 4) * 4294967296
+abbrev pub double_word_in_bytes : List ℕ → ℕ → ℕ
+double_word_in_bytes bytes place = word_in_bytes bytes place + word_in_bytes bytes (place + 4) * 4294967296

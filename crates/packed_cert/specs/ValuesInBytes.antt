@@ -8,9 +8,9 @@ use Rattle.depth_cert.specs.Grammar.{value_at}
 use Rattle.tcd_base.specs.declared.errors.FormErr.{FormErr}
 
 -- n words from a place of a certificate's bytes on
-unfoldable pub words_at : List ℕ → ℕ → ℕ → List ℕ
-words_at bytes place zero = []
-words_at bytes place (suc n) = word_in_bytes bytes place ∷ words_at bytes (place + 4) n
+unfoldable pub words_in_bytes : List ℕ → ℕ → ℕ → List ℕ
+words_in_bytes bytes place zero = []
+words_in_bytes bytes place (suc n) = word_in_bytes bytes place ∷ words_in_bytes bytes (place + 4) n
 
 -- what was read from a certificate's bytes, or d if nothing was
 abbrev pub read_from_bytes_or : {A : Type 0} → A → Result (A × Place) FormErr → A
@@ -22,8 +22,8 @@ abbrev pub place_in_bytes : List ℕ → ℕ → Place
 place_in_bytes bytes place = record { bytes = bytes; place = place }
 
 -- the abstract value at a place of a certificate's bytes
-abbrev pub value_in : ℕ → List ℕ → ℕ → Val
-value_in version bytes place = read_from_bytes_or any_val (value_at version (place_in_bytes bytes place))
+abbrev pub value_in_bytes : ℕ → List ℕ → ℕ → Val
+value_in_bytes version bytes place = read_from_bytes_or any_val (value_at version (place_in_bytes bytes place))
 
 -- there is an abstract value at a place of a certificate's bytes
 abbrev pub HasValueInBytes : ℕ → List ℕ → ℕ → Type 0
@@ -38,9 +38,9 @@ abbrev pub place_after_value : List ℕ → ℕ → ℕ
 place_after_value bytes place = place + value_length_by_tag (slice_index bytes place)
 
 -- the n abstract values that a certificate's bytes have from a place on
-abbrev pub values_in : ℕ → List ℕ → ℕ → ℕ → List Val
-values_in version bytes place zero = []
-values_in version bytes place (suc n) = value_in version bytes place ∷ values_in version bytes (place_after_value bytes place) n
+abbrev pub values_in_bytes : ℕ → List ℕ → ℕ → ℕ → List Val
+values_in_bytes version bytes place zero = []
+values_in_bytes version bytes place (suc n) = value_in_bytes version bytes place ∷ values_in_bytes version bytes (place_after_value bytes place) n
 
 -- a certificate's bytes have n abstract values from a place on
 abbrev pub HaveValuesInBytes : ℕ → List ℕ → ℕ → ℕ → Type 0

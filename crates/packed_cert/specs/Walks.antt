@@ -10,7 +10,7 @@ use Rattle.depth_cert.specs.declared.points.Point.{Point}
 use Rattle.depth_cert.specs.Points.{find_point}
 use Rattle.packed_cert.specs.declared.places.PointPlace.{PointPlace}
 use Rattle.packed_cert.specs.declared.places.ValueRow.{ValueRow}
-use Rattle.packed_cert.specs.PointsInBytes.{HasState}
+use Rattle.packed_cert.specs.PointsInBytes.{HasStateInBytes}
 use Rattle.packed_cert.specs.Moves.{IsStateBefore, AllDifferOnlyInRows}
 
 -- a walk over a node's points: all of them, the state at hand, its values that the last step may
@@ -29,9 +29,9 @@ KeepsOtherValues before after =
 
 -- a step of a walk returns the address of the first point that is left, whose state is then at
 -- hand; or none is left
-abbrev pub StepsTo : WalkData → Option ℕ → WalkData → Type 0
-StepsTo before None after = (before.left ≡ []) × (after ≡ before)
-StepsTo before (Some addr) after =
+abbrev pub AdvancesTo : WalkData → Option ℕ → WalkData → Type 0
+AdvancesTo before None after = (before.left ≡ []) × (after ≡ before)
+AdvancesTo before (Some addr) after =
     (before.left ≡ record { addr = addr; state = after.current } ∷ after.left) × KeepsOtherValues before.current after × (after.points ≡ before.points)
 
 -- the next point of a walk has this address and the state at hand
@@ -39,17 +39,17 @@ abbrev pub IsNextWithSameState : WalkData → ℕ → Type 0
 IsNextWithSameState w addr = w.left ≡ record { addr = addr; state = w.current } ∷ drop 1 w.left
 
 -- the next point of a walk has this address, and its state covers this one
-abbrev pub CoversNext : WalkData → ℕ → State → Type 0
-CoversNext w addr s = (t : State) × (w.left ≡ record { addr = addr; state = t } ∷ drop 1 w.left) × Covers t s
+abbrev pub IsCoveredByNext : WalkData → ℕ → State → Type 0
+IsCoveredByNext w addr s = (t : State) × (w.left ≡ record { addr = addr; state = t } ∷ drop 1 w.left) × Covers t s
 
 -- of a walk over points: one of them has this address, and its state covers the one at hand
-abbrev pub CoversAt : WalkData → ℕ → Type 0
-CoversAt w addr = IsSomeAnd (find_point addr w.points) (λ p. Covers p.state w.current)
+abbrev pub IsCoveredAt : WalkData → ℕ → Type 0
+IsCoveredAt w addr = IsSomeAnd (find_point addr w.points) (λ p. Covers p.state w.current)
 
 -- what always holds of a walk: states are at their places, each point shares what it says with the
 -- state before it, and the state at hand is the one before the next point
 pub record IsWalk (version : ℕ) (bytes : List ℕ) (points : List PointPlace) (next : ℕ) (read : ValueRow) (state : State) : Type 0 where
-  pub states : All (λ p. HasState version bytes p.place) points
+  pub states : All (λ p. HasStateInBytes version bytes p.place) points
   pub rising : IsStrictlyIncreasing (map (λ p. p.addr) points)
   pub moves : AllDifferOnlyInRows version bytes points
   pub within : next ≤ length points

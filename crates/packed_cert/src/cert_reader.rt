@@ -4,7 +4,7 @@ ghost use Rattle.std.specs.List.{All};
 ghost use Rattle.depth_cert.specs.Answers.{IsFaultOf};
 ghost use Rattle.tcd_base.specs.FieldReaders.{many_fields_at};
 ghost use Rattle.depth_cert.specs.Grammar.{node_after, certificate_of};
-ghost use Rattle.packed_cert.specs.NodesInBytes.{nodes_of, cert_of, AreNodePlaces};
+ghost use Rattle.packed_cert.specs.NodesInBytes.{nodes_in_bytes, cert_in_bytes, AreNodePlaces};
 
 use crate::node_reader::read_node;
 use crate::places::NodePlaces;
@@ -19,7 +19,7 @@ use tcd_base::{FileCursor, TRAILING, form_err_at};
 pub(crate) fn read_cert_parts(alloc: Global, bytes: &[u8]) -> Result<(u8, Vec<NodePlaces>), CertErr>
     requires { length bytes.now ≤ 2 ^ 30 }
     ensures ok { IfOk result
-        (λ r. certificate_of bytes.now ≡ Ok (cert_of r.0 bytes.now r.1.items)) }
+        (λ r. certificate_of bytes.now ≡ Ok (cert_in_bytes r.0 bytes.now r.1.items)) }
     ensures err { IfErr result (IsFaultOf (certificate_of bytes.now)) }
     ensures places { IfOk result (λ r. All (AreNodePlaces r.0 bytes.now) r.1.items) }
 {
@@ -46,7 +46,7 @@ fn read_nodes(
     requires same { c.old.bytes ≡ bytes.now }
     ensures ok { IfOk result (λ ns.
         many_fields_at (node_after version) count [] c.old
-        ≡ Ok (nodes_of version bytes.now ns.items, c.new)) }
+        ≡ Ok (nodes_in_bytes version bytes.now ns.items, c.new)) }
     ensures err { IfErr result (IsFaultOf (many_fields_at (node_after version) count [] c.old)) }
     ensures places { IfOk result (λ ns. All (AreNodePlaces version bytes.now) ns.items) }
     ensures bytes { c.new.bytes ≡ c.old.bytes }

@@ -26,9 +26,9 @@ impl Model for Cert {
 
     ghost Value = { CertData };
 
-    ghost use Rattle.packed_cert.specs.NodesInBytes.{cert_of, IsCertAt};
+    ghost use Rattle.packed_cert.specs.NodesInBytes.{cert_in_bytes, IsCertAt};
 
-    ghost view = { λ c. cert_of c.version c.bytes.items c.nodes.items };
+    ghost view = { λ c. cert_in_bytes c.version c.bytes.items c.nodes.items };
 
     ghost invariant = { λ c. IsCertAt c.version c.bytes.items c.nodes.items };
 }

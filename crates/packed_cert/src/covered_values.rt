@@ -3,7 +3,7 @@ ghost use Rattle.std.specs.Prelude.{◌≡◌, ◌≤◌, ◌<◌, ◌↔◌, Is
 ghost use Rattle.value_domain.specs.Values.{any_val, IsBelow, IsWellFormed};
 ghost use Rattle.value_domain.specs.State.{AreBelow, AreWellFormed};
 ghost use Rattle.packed_cert.specs.ToCover.{values_to_cover};
-ghost use Rattle.packed_cert.specs.ValuesInBytes.{values_in, HaveValuesInBytes, value_in, HasValueInBytes, words_at};
+ghost use Rattle.packed_cert.specs.ValuesInBytes.{values_in_bytes, HaveValuesInBytes, value_in_bytes, HasValueInBytes, words_in_bytes};
 ghost use Rattle.tcd_base.specs.Bytes.{word_in_bytes};
 ghost use Rattle.value_domain.specs.declared.values.Val.{Val};
 ghost use Rattle.value_domain.specs.Sets.{IsAscending, Within};
@@ -41,7 +41,7 @@ pub(crate) fn are_values_covered_at(
     requires well { AreWellFormed (values_to_cover values.now) }
     requires stand { HaveValuesInBytes version bytes.now place n }
     ensures { IsTrue result
-        ↔ AreBelow (values_to_cover values.now) (values_in version bytes.now place n) }
+        ↔ AreBelow (values_to_cover values.now) (values_in_bytes version bytes.now place n) }
 {
     let any = Val::any();
     let mut at = place;
@@ -63,8 +63,8 @@ pub(crate) fn is_below_at_places(low: ValuesAt<'_>, high: ValuesAt<'_>) -> bool
     requires low { HasValueInBytes low.version low.bytes.now low.place }
     requires high { HasValueInBytes high.version high.bytes.now high.place }
     ensures { IsTrue result
-        ↔ IsBelow (value_in low.entry.version low.entry.bytes.now low.entry.place)
-        (value_in high.entry.version high.entry.bytes.now high.entry.place) }
+        ↔ IsBelow (value_in_bytes low.entry.version low.entry.bytes.now low.entry.place)
+        (value_in_bytes high.entry.version high.entry.bytes.now high.entry.place) }
 {
     cert_bytes_below_256(low.bytes);
     let v = value_at_place(low.bytes, low.version, low.place);
@@ -76,7 +76,7 @@ pub(crate) fn is_below_span_at(v: &Val, bytes: &[u8], version: u8, place: usize)
     requires well { IsWellFormed v.now }
     requires stands { HasValueInBytes version bytes.now place }
     requires span { 128 < slice_index bytes.now place }
-    ensures { IsTrue result ↔ IsBelow v.now (value_in version bytes.now place) }
+    ensures { IsTrue result ↔ IsBelow v.now (value_in_bytes version bytes.now place) }
 {
     let lo = word_at_place(bytes, place + 1);
     let last = word_at_place(bytes, place + 5);
@@ -93,8 +93,8 @@ pub(crate) fn is_below_span_at(v: &Val, bytes: &[u8], version: u8, place: usize)
 pub(crate) fn are_words_in_set_at(own: &[u32], bytes: &[u8], place: usize, n: usize) -> bool
     requires within { place + 4 * n ≤ length bytes.now }
     requires own { IsAscending own.now }
-    requires words { IsAscending (words_at bytes.now place n) }
-    ensures { IsTrue result ↔ Within own.now (words_at bytes.now place n) }
+    requires words { IsAscending (words_in_bytes bytes.now place n) }
+    ensures { IsTrue result ↔ Within own.now (words_in_bytes bytes.now place n) }
 {
     let mut k = 0;
     for x in own {
@@ -113,7 +113,7 @@ pub(crate) fn are_words_in_set_at(own: &[u32], bytes: &[u8], place: usize, n: us
 pub(crate) fn is_below_decoded_value(v: &Val, bytes: &[u8], version: u8, place: usize) -> bool
     requires well { IsWellFormed v.now }
     requires stands { HasValueInBytes version bytes.now place }
-    ensures { IsTrue result ↔ IsBelow v.now (value_in version bytes.now place) }
+    ensures { IsTrue result ↔ IsBelow v.now (value_in_bytes version bytes.now place) }
 {
     leq(v, &value_at_place(bytes, version, place))
 }

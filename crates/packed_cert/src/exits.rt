@@ -1,6 +1,6 @@
 // The type `ExitAt`: an exit that stays in the bytes of its certificate.
 ghost use Rattle.std.specs.Prelude.{◌≡◌, ◌≤◌, ◌^◌, ◌↔◌, IsTrue, length, Ok, Err, OnOk, IfOk, IfErr, IfSome};
-ghost use Rattle.packed_cert.specs.NodesInBytes.{exit_in, HasExit, IsExitAtPlaces};
+ghost use Rattle.packed_cert.specs.NodesInBytes.{exit_in_bytes, HasExitInBytes, AreExitPlaces};
 ghost use Rattle.std.specs.Option.{option_map};
 ghost use Rattle.depth_cert.specs.Grammar.{optional_exit_at, exit_at};
 
@@ -26,25 +26,25 @@ pub struct ExitAt<'a> {
 
 impl<'a> Model for ExitAt<'a> {
     ghost use Rattle.depth_cert.specs.declared.points.Exit.{Exit};
-    ghost use Rattle.packed_cert.specs.NodesInBytes.{exit_in, IsExitAt};
+    ghost use Rattle.packed_cert.specs.NodesInBytes.{exit_in_bytes, IsExitAt};
 
     ghost Value = { Exit };
 
-    ghost view = { λ e. exit_in e.version e.bytes.now e.place };
+    ghost view = { λ e. exit_in_bytes e.version e.bytes.now e.place };
 
     ghost invariant = { λ e. IsExitAt e.version e.bytes.now e.place };
 }
 
 impl<'a> ExitAt<'a> {
-    ghost use Rattle.value_domain.specs.State.{AreValues, AreWellFormed};
-    ghost use Rattle.depth_cert.specs.Exits.{exit_of, ExitCovers};
-    ghost use Rattle.packed_cert.specs.ValuesInBytes.{values_in, HaveValuesInBytes};
+    ghost use Rattle.value_domain.specs.State.{AreInLattice, AreWellFormed};
+    ghost use Rattle.depth_cert.specs.Exits.{exit_of_state, ExitCovers};
+    ghost use Rattle.packed_cert.specs.ValuesInBytes.{values_in_bytes, HaveValuesInBytes};
 
     /// Returns the exit of a certificate's node at a place of the bytes.
     pub(crate) fn new(bytes: &'a [u8], version: u8, place: usize) -> ExitAt<'a>
         requires short { length bytes.now ≤ 2 ^ 30 }
-        requires exit { HasExit version bytes.now place }
-        ensures { result ≡ exit_in version bytes.now place }
+        requires exit { HasExitInBytes version bytes.now place }
+        ensures { result ≡ exit_in_bytes version bytes.now place }
     {
         ExitAt {
             bytes,
@@ -71,7 +71,7 @@ impl<'a> ExitAt<'a> {
     pub(crate) fn lower(&self) -> ValuesAt<'a>
         ensures have { HaveValuesInBytes result.version result.bytes.now result.place 14 }
         ensures values { self.now.lower
-            ≡ values_in result.version result.bytes.now result.place 14 }
+            ≡ values_in_bytes result.version result.bytes.now result.place 14 }
     {
         cert_bytes_below_256(self.bytes);
         ValuesAt {
@@ -83,7 +83,7 @@ impl<'a> ExitAt<'a> {
 
     /// Returns true if the values of this exit are in the lattice of the plan and the format.
     pub fn has_lattice_values(&self, b: &Bounds) -> bool
-        ensures { IsTrue result ↔ AreValues b.now self.now.lower }
+        ensures { IsTrue result ↔ AreInLattice b.now self.now.lower }
     {
         let lower = self.lower();
         are_values_at(b, lower.bytes, lower.version, lower.place, LOWER_VALUES)
@@ -93,7 +93,7 @@ impl<'a> ExitAt<'a> {
     /// values are compared in the certificate's bytes.
     pub fn covers(&self, s: &State) -> bool
         requires { AreWellFormed s.now.regs }
-        ensures { IsTrue result ↔ ExitCovers self.now (exit_of s.now) }
+        ensures { IsTrue result ↔ ExitCovers self.now (exit_of_state s.now) }
     {
         let _regs = &s.regs[..];
         if s.ie && !self.ie() {
@@ -135,13 +135,13 @@ pub(crate) fn read_optional_exit(
     room: &mut ExitRoom,
 ) -> Result<Option<u32>, FormErr>
     requires same { c.old.bytes ≡ bytes.now }
-    requires last { IfSome room.old.last (IsExitAtPlaces version bytes.now) }
+    requires last { IfSome room.old.last (AreExitPlaces version bytes.now) }
     ensures ok { IfOk result (λ e.
         optional_exit_at version kind c.old
-        ≡ Ok (option_map (exit_in version bytes.now) e, c.new)) }
+        ≡ Ok (option_map (exit_in_bytes version bytes.now) e, c.new)) }
     ensures err { IfErr result (λ e. optional_exit_at version kind c.old ≡ Err e) }
-    ensures exit { IfOk result (λ e. IfSome e (HasExit version bytes.now)) }
-    ensures last { OnOk result (IfSome room.new.last (IsExitAtPlaces version bytes.now)) }
+    ensures exit { IfOk result (λ e. IfSome e (HasExitInBytes version bytes.now)) }
+    ensures last { OnOk result (IfSome room.new.last (AreExitPlaces version bytes.now)) }
     ensures bytes { c.new.bytes ≡ c.old.bytes }
 {
     if !read_has_exit(c, kind)? {
@@ -159,12 +159,12 @@ pub(crate) fn read_or_skip_exit(
     room: &mut ExitRoom,
 ) -> Result<u32, FormErr>
     requires same { c.old.bytes ≡ bytes.now }
-    requires last { IfSome room.old.last (IsExitAtPlaces version bytes.now) }
+    requires last { IfSome room.old.last (AreExitPlaces version bytes.now) }
     ensures ok { IfOk result (λ p.
-        exit_at version c.old ≡ Ok (exit_in version bytes.now p, c.new)) }
+        exit_at version c.old ≡ Ok (exit_in_bytes version bytes.now p, c.new)) }
     ensures err { IfErr result (λ e. exit_at version c.old ≡ Err e) }
-    ensures exit { IfOk result (HasExit version bytes.now) }
-    ensures last { OnOk result (IfSome room.new.last (IsExitAtPlaces version bytes.now)) }
+    ensures exit { IfOk result (HasExitInBytes version bytes.now) }
+    ensures last { OnOk result (IfSome room.new.last (AreExitPlaces version bytes.now)) }
     ensures bytes { c.new.bytes ≡ c.old.bytes }
 {
     let start = c.place();

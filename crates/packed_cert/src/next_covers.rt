@@ -6,9 +6,9 @@ ghost use Rattle.value_domain.specs.Values.{IsBelow, any_val};
 ghost use Rattle.value_domain.specs.State.{AreWellFormed, Covers};
 ghost use Rattle.vd_transfer.specs.Changes.{state_after};
 ghost use Rattle.vd_transfer.specs.declared.change.Base.TheVariants.{Same};
-ghost use Rattle.packed_cert.specs.PointsInBytes.{state_in, HasState};
+ghost use Rattle.packed_cert.specs.PointsInBytes.{state_in_bytes, HasStateInBytes};
 ghost use Rattle.packed_cert.specs.Moves.{DiffersOnlyInRow};
-ghost use Rattle.packed_cert.specs.ToCover.{IsCoveredByOwn};
+ghost use Rattle.packed_cert.specs.ToCover.{IsChangedValueBelow};
 ghost use Rattle.packed_cert.specs.ChangedRows.{IsOutsideRow};
 
 use crate::places::{PointPlace, VALUES, ValueRow};
@@ -25,7 +25,7 @@ pub(crate) fn are_changed_values_below(s: &State, c: &Change, row: ValueRow) -> 
     requires base { c.now.base ≡ Same }
     requires hand { AreWellFormed s.now.regs }
     requires well { AreWellFormed (state_after s.now c.now).regs }
-    ensures { IsTrue result → (i : ℕ) → i < 27 → IsOutsideRow row i → IsCoveredByOwn s.now c.now i }
+    ensures { IsTrue result → (i : ℕ) → i < 27 → IsOutsideRow row i → IsChangedValueBelow s.now c.now i }
 {
     let _regs = &s.regs[..];
     if !is_changed_value_below(s, c, row, c.first.at) {
@@ -50,7 +50,7 @@ pub(crate) fn is_changed_row_below(
     requires moved { DiffersOnlyInRow version bytes.now s.now point }
     ensures { IsTrue result → (i : ℕ) → point.row.first ≤ i → i < point.row.behind
         → IsBelow (slice_index_or (state_after s.now c.now).regs i any_val)
-        (slice_index_or (state_in version bytes.now point.place).regs i any_val) }
+        (slice_index_or (state_in_bytes version bytes.now point.place).regs i any_val) }
 {
     let _regs = &s.regs[..];
     let any = Val::any();
@@ -78,10 +78,10 @@ pub(crate) fn is_covered_by_next_point(
     requires base { c.now.base ≡ Same }
     requires hand { AreWellFormed s.now.regs }
     requires well { AreWellFormed (state_after s.now c.now).regs }
-    requires state { HasState version bytes.now point.place }
+    requires state { HasStateInBytes version bytes.now point.place }
     requires moved { DiffersOnlyInRow version bytes.now s.now point }
     ensures { IsTrue result
-        → Covers (state_in version bytes.now point.place) (state_after s.now c.now) }
+        → Covers (state_in_bytes version bytes.now point.place) (state_after s.now c.now) }
 {
     let _regs = &s.regs[..];
     let upper = StateAt::new(bytes, version, point.place as usize);
@@ -100,7 +100,7 @@ fn is_changed_value_below(s: &State, c: &Change, row: ValueRow, place: Option<us
     requires hand { AreWellFormed s.now.regs }
     requires well { AreWellFormed (state_after s.now c.now).regs }
     ensures { IsTrue result → (i : ℕ) → place ≡ Some i → i < 27 → IsOutsideRow row i
-        → IsCoveredByOwn s.now c.now i }
+        → IsChangedValueBelow s.now c.now i }
 {
     let Some(i) = place else {
         return true;

@@ -4,8 +4,8 @@ ghost use Rattle.std.specs.List.{All};
 ghost use Rattle.depth_cert.specs.Answers.{IsFaultOf};
 ghost use Rattle.depth_cert.specs.Grammar.{node_after, last_number_read};
 ghost use Rattle.depth_cert.specs.Nodes.{count_points};
-ghost use Rattle.packed_cert.specs.NodesInBytes.{node_of, nodes_of, AreNodePlaces, IsExitAtPlaces};
-ghost use Rattle.packed_cert.specs.PointsInBytes.{IsStateAtPlaces};
+ghost use Rattle.packed_cert.specs.NodesInBytes.{node_in_bytes, nodes_in_bytes, AreNodePlaces, AreExitPlaces};
+ghost use Rattle.packed_cert.specs.PointsInBytes.{AreStatePlaces};
 
 use crate::exits::read_optional_exit;
 use crate::places::NodePlaces;
@@ -27,21 +27,21 @@ pub(crate) fn read_node(
 ) -> Result<NodePlaces, CertErr>
     requires same { c.old.bytes ≡ bytes.now }
     requires places { All (AreNodePlaces version bytes.now) before.now }
-    requires used { room.old.used ≡ count_points (nodes_of version bytes.now before.now) }
+    requires used { room.old.used ≡ count_points (nodes_in_bytes version bytes.now before.now) }
     requires few { room.old.used ≤ 2 ^ 16 }
-    requires exit { IfSome room.old.exit.last (IsExitAtPlaces version bytes.now) }
-    requires state { IfSome room.old.last (IsStateAtPlaces version bytes.now room.old.state) }
+    requires exit { IfSome room.old.exit.last (AreExitPlaces version bytes.now) }
+    requires state { IfSome room.old.last (AreStatePlaces version bytes.now room.old.state) }
     ensures ok { IfOk result (λ n.
-        node_after version (nodes_of version bytes.now before.now) c.old
-        ≡ Ok (node_of version bytes.now n, c.new)) }
+        node_after version (nodes_in_bytes version bytes.now before.now) c.old
+        ≡ Ok (node_in_bytes version bytes.now n, c.new)) }
     ensures err { IfErr result (IsFaultOf
-        (node_after version (nodes_of version bytes.now before.now) c.old)) }
+        (node_after version (nodes_in_bytes version bytes.now before.now) c.old)) }
     ensures places { IfOk result (AreNodePlaces version bytes.now) }
     ensures used { IfOk result (λ n. room.new.used ≡ room.old.used + length n.points.items) }
     ensures few { OnOk result (room.new.used ≤ 2 ^ 16) }
-    ensures exit { OnOk result (IfSome room.new.exit.last (IsExitAtPlaces version bytes.now)) }
+    ensures exit { OnOk result (IfSome room.new.exit.last (AreExitPlaces version bytes.now)) }
     ensures state { OnOk result
-        (IfSome room.new.last (IsStateAtPlaces version bytes.now room.new.state)) }
+        (IfSome room.new.last (AreStatePlaces version bytes.now room.new.state)) }
     ensures bytes { c.new.bytes ≡ c.old.bytes }
 {
     let _place = c.place(); // so that the prover knows that the bytes are few

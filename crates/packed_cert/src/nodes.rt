@@ -2,7 +2,7 @@
 ghost use Rattle.std.specs.Prelude.{◌≡◌, ◌<◌, nat_lt, ◌==◌, true, false, map, length};
 ghost use Rattle.std.specs.Option.{option_map};
 ghost use Rattle.std.specs.List.Sorted.{IsStrictlyIncreasing, IsPartitionPoint};
-ghost use Rattle.packed_cert.specs.NodesInBytes.{node_of, AreNodePlaces};
+ghost use Rattle.packed_cert.specs.NodesInBytes.{node_in_bytes, AreNodePlaces};
 
 use crate::exits::ExitAt;
 use crate::places::{NodePlaces, PointPlace};
@@ -26,22 +26,22 @@ pub struct Node<'a> {
 
 impl<'a> Model for Node<'a> {
     ghost use Rattle.depth_cert.specs.Nodes.{NodeData};
-    ghost use Rattle.packed_cert.specs.NodesInBytes.{node_in, IsNodeAt};
+    ghost use Rattle.packed_cert.specs.NodesInBytes.{node_of_fields, IsNodeAt};
 
     ghost Value = { NodeData };
 
-    ghost view = { λ n. node_in n.version n.bytes.now n.key n.need n.exit n.points.now };
+    ghost view = { λ n. node_of_fields n.version n.bytes.now n.key n.need n.exit n.points.now };
 
     ghost invariant = { λ n. IsNodeAt n.version n.bytes.now n.exit n.points.now };
 }
 
 impl<'a> Node<'a> {
-    ghost use Rattle.depth_cert.specs.Points.{ArePoints, find_point};
+    ghost use Rattle.depth_cert.specs.Points.{AreAscendingPoints, find_point};
 
     /// Returns the node of a packed certificate that has these places.
     pub(crate) fn new(bytes: &'a [u8], version: u8, places: &'a NodePlaces) -> Node<'a>
         requires { AreNodePlaces version bytes.now places.now }
-        ensures { result ≡ node_of version bytes.now places.now }
+        ensures { result ≡ node_in_bytes version bytes.now places.now }
     {
         Node {
             bytes,
@@ -90,7 +90,7 @@ impl<'a> Node<'a> {
     pub fn start_walk(&self, walk: &mut PointWalk<'a>)
         ensures all { walk.new.left ≡ self.now.points }
         ensures points { walk.new.points ≡ self.now.points }
-        ensures rising { ArePoints self.now.points }
+        ensures rising { AreAscendingPoints self.now.points }
     {
         walk.restart(self.bytes, self.version, self.points);
     }

@@ -10,8 +10,8 @@ ghost use Rattle.depth_cert.specs.Answers.{IsFaultOf};
 ghost use Rattle.std.specs.List.Sorted.{IsStrictlyIncreasing};
 ghost use Rattle.packed_cert.specs.ValuesInBytes.{AreValuesInBytes};
 ghost use Rattle.packed_cert.specs.ChangedRows.{ChangesOnlyRow, RowBeginsAtPlace, IsWholeRow};
-ghost use Rattle.packed_cert.specs.PointsInBytes.{HasState, IsStateAtPlaces, points_in};
-ghost use Rattle.packed_cert.specs.RepeatedBytes.{StateRepeatsAt};
+ghost use Rattle.packed_cert.specs.PointsInBytes.{HasStateInBytes, AreStatePlaces, points_in_bytes};
+ghost use Rattle.packed_cert.specs.RepeatedBytes.{IsRepeatedStateAt};
 ghost use Rattle.packed_cert.specs.Moves.{AllDifferOnlyInRows};
 
 use crate::places::{
@@ -68,18 +68,18 @@ pub(crate) fn read_points(
 ) -> Result<Vec<PointPlace>, CertErr>
     requires same { c.old.bytes ≡ bytes.now }
     requires used { room.old.used ≤ 2 ^ 16 }
-    requires state { IfSome room.old.last (IsStateAtPlaces version bytes.now room.old.state) }
+    requires state { IfSome room.old.last (AreStatePlaces version bytes.now room.old.state) }
     ensures ok { IfOk result (λ ps.
-        points_at version room.old.used c.old ≡ Ok (points_in version bytes.now ps.items, c.new)) }
+        points_at version room.old.used c.old ≡ Ok (points_in_bytes version bytes.now ps.items, c.new)) }
     ensures err { IfErr result (IsFaultOf (points_at version room.old.used c.old)) }
-    ensures states { IfOk result (λ ps. All (λ p. HasState version bytes.now p.place) ps.items) }
+    ensures states { IfOk result (λ ps. All (λ p. HasStateInBytes version bytes.now p.place) ps.items) }
     ensures rising { IfOk result (λ ps. IsStrictlyIncreasing (map (λ p. p.addr) ps.items)) }
     ensures moves { IfOk result (λ ps. AllDifferOnlyInRows version bytes.now ps.items) }
     ensures used { IfOk result (λ ps. room.new.used ≡ room.old.used + vec_len ps) }
     ensures few { OnOk result (room.new.used ≤ 2 ^ 16) }
     ensures exit { room.new.exit ≡ room.old.exit }
     ensures state { OnOk result
-        (IfSome room.new.last (IsStateAtPlaces version bytes.now room.new.state)) }
+        (IfSome room.new.last (AreStatePlaces version bytes.now room.new.state)) }
     ensures bytes { c.new.bytes ≡ c.old.bytes }
 {
     let _place = c.place(); // so that the prover knows that the bytes are few
@@ -114,10 +114,10 @@ pub(crate) fn read_or_skip_state(
     out: &mut State,
 ) -> Result<ReadState, FormErr>
     requires same { c.old.bytes ≡ bytes.now }
-    requires before { IfSome before (IsStateAtPlaces version bytes.now out.old) }
+    requires before { IfSome before (AreStatePlaces version bytes.now out.old) }
     ensures ok { OnOk result (state_at version c.old ≡ Ok (out.new, c.new)) }
     ensures err { IfErr result (λ e. state_at version c.old ≡ Err e) }
-    ensures held { IfOk result (λ r. IsStateAtPlaces version bytes.now out.new r.at) }
+    ensures held { IfOk result (λ r. AreStatePlaces version bytes.now out.new r.at) }
     ensures row { IfOk result (λ r. ChangesOnlyRow out.old.regs out.new.regs r.row) }
     ensures from { IfOk result (λ r. RowBeginsAtPlace bytes.now r.at.values r.row) }
     ensures again { IfOk result (λ r. IsTrue r.same → out.new ≡ out.old) }
@@ -151,7 +151,7 @@ pub(crate) fn read_state_fields(
     out: &mut State,
 ) -> Result<(usize, ValueRow), FormErr>
     requires same { c.old.bytes ≡ bytes.now }
-    requires held { IfSome before (StateRepeatsAt version bytes.now out.old.regs c.old.place) }
+    requires held { IfSome before (IsRepeatedStateAt version bytes.now out.old.regs c.old.place) }
     ensures ok { OnOk result (state_at version c.old ≡ Ok (out.new, c.new)) }
     ensures err { IfErr result (λ e. state_at version c.old ≡ Err e) }
     ensures held { IfOk result
@@ -181,10 +181,10 @@ pub(crate) fn read_changed_state(
     out: &mut State,
 ) -> Result<ReadState, FormErr>
     requires same { c.old.bytes ≡ bytes.now }
-    requires held { IfSome before (StateRepeatsAt version bytes.now out.old.regs c.old.place) }
+    requires held { IfSome before (IsRepeatedStateAt version bytes.now out.old.regs c.old.place) }
     ensures ok { OnOk result (state_at version c.old ≡ Ok (out.new, c.new)) }
     ensures err { IfErr result (λ e. state_at version c.old ≡ Err e) }
-    ensures held { IfOk result (λ r. IsStateAtPlaces version bytes.now out.new r.at) }
+    ensures held { IfOk result (λ r. AreStatePlaces version bytes.now out.new r.at) }
     ensures row { IfOk result (λ r. ChangesOnlyRow out.old.regs out.new.regs r.row) }
     ensures from { IfOk result (λ r. RowBeginsAtPlace bytes.now r.at.values r.row) }
     ensures other { IfOk result (λ r. r.same ≡ false) }

@@ -2,7 +2,7 @@
 // From 1,024 bytes on they are compared as slices first. Where those differ, and below, they are
 // compared eight at a time: 64 in a turn, then 16. A turn of 64 takes some 28 instructions.
 ghost use Rattle.std.specs.Prelude.{◌≡◌, ◌≤◌, ◌<◌, ◌+◌, IsTrue, length, take, ◌-◌, IsFalse};
-ghost use Rattle.packed_cert.specs.RepeatedBytes.{SameBytesAtPlaces, IsRepeated, SkipsRepeatedBytes, eight_bytes_at_place};
+ghost use Rattle.packed_cert.specs.RepeatedBytes.{AreBytesRepeated, IsStartRepeatedAt, SkipsRepeatedBytes, double_word_in_bytes};
 
 use crate::places::RepeatedState;
 use crate::value_reader::FEW_BYTES;
@@ -14,7 +14,7 @@ pub(crate) fn count_repeated_before(bytes: &[u8], x: usize, y: usize, end: usize
     requires second { y ≤ length bytes.now }
     ensures first { x + result ≤ length bytes.now }
     ensures second { y + result ≤ length bytes.now }
-    ensures same { SameBytesAtPlaces bytes.now x y result }
+    ensures same { AreBytesRepeated bytes.now x y result }
 {
     let n = end.min(bytes.len()).saturating_sub(x).min(bytes.len() - y);
     count_repeated_bytes(bytes, x, y, n)
@@ -26,7 +26,7 @@ pub(crate) fn count_repeated_bytes(bytes: &[u8], x: usize, y: usize, n: usize) -
     requires first { x + n ≤ length bytes.now }
     requires second { y + n ≤ length bytes.now }
     ensures within { result ≤ n }
-    ensures same { SameBytesAtPlaces bytes.now x y result }
+    ensures same { AreBytesRepeated bytes.now x y result }
 {
     if n >= MANY_BYTES && are_bytes_repeated(bytes, x, y, n) {
         return n;
@@ -47,7 +47,7 @@ const MANY_BYTES: usize = 1024;
 fn are_bytes_repeated(bytes: &[u8], x: usize, y: usize, n: usize) -> bool
     requires first { x + n ≤ length bytes.now }
     requires second { y + n ≤ length bytes.now }
-    ensures { IsTrue result → SameBytesAtPlaces bytes.now x y n }
+    ensures { IsTrue result → AreBytesRepeated bytes.now x y n }
 {
     let first = &bytes[x..x + n];
     let second = &bytes[y..y + n];
@@ -63,7 +63,7 @@ fn count_repeated_blocks(bytes: &[u8], x: usize, y: usize, n: usize) -> usize
     requires first { x + n ≤ length bytes.now }
     requires second { y + n ≤ length bytes.now }
     ensures within { result ≤ n }
-    ensures same { SameBytesAtPlaces bytes.now x y result }
+    ensures same { AreBytesRepeated bytes.now x y result }
 {
     let mut i = 0;
     while i + BLOCK <= n {
@@ -82,9 +82,9 @@ fn count_repeated_eights(bytes: &[u8], x: usize, y: usize, from: usize, n: usize
     requires first { x + n ≤ length bytes.now }
     requires second { y + n ≤ length bytes.now }
     requires from { from ≤ n }
-    requires same { SameBytesAtPlaces bytes.now x y from }
+    requires same { AreBytesRepeated bytes.now x y from }
     ensures within { result ≤ n }
-    ensures same { SameBytesAtPlaces bytes.now x y result }
+    ensures same { AreBytesRepeated bytes.now x y result }
 {
     let mut i = from;
     while i + 16 <= n {
@@ -108,8 +108,8 @@ fn count_repeated_eights(bytes: &[u8], x: usize, y: usize, from: usize, n: usize
 fn are_last_eight_repeated(bytes: &[u8], x: usize, y: usize, from: usize, n: usize) -> bool
     requires first { x + n ≤ length bytes.now }
     requires second { y + n ≤ length bytes.now }
-    requires same { SameBytesAtPlaces bytes.now x y from }
-    ensures { IsTrue result → SameBytesAtPlaces bytes.now x y n }
+    requires same { AreBytesRepeated bytes.now x y from }
+    ensures { IsTrue result → AreBytesRepeated bytes.now x y n }
 {
     if n < 8 || n - 8 > from {
         return false;
@@ -123,9 +123,9 @@ fn count_repeated_one_by_one(bytes: &[u8], x: usize, y: usize, from: usize, n: u
     requires first { x + n ≤ length bytes.now }
     requires second { y + n ≤ length bytes.now }
     requires from { from ≤ n }
-    requires same { SameBytesAtPlaces bytes.now x y from }
+    requires same { AreBytesRepeated bytes.now x y from }
     ensures within { result ≤ n }
-    ensures same { SameBytesAtPlaces bytes.now x y result }
+    ensures same { AreBytesRepeated bytes.now x y result }
 {
     let mut i = from;
     while i < n {
@@ -164,11 +164,11 @@ pub(crate) fn skip_if_repeated(c: &mut FileCursor<'_>, bytes: &[u8], x: usize, n
 pub(crate) fn end_of_repeated(bytes: &[u8], state: RepeatedState, start: usize, at: usize) -> usize
     requires inside { at ≤ length bytes.now }
     requires values { state.at.values ≤ length bytes.now }
-    requires again { IsRepeated bytes.now start state }
+    requires again { IsStartRepeatedAt bytes.now start state }
     ensures from { state.at.values ≤ result }
     ensures first { result ≤ length bytes.now }
     ensures second { at + (result - state.at.values) ≤ length bytes.now }
-    ensures same { SameBytesAtPlaces bytes.now state.at.values at (result - state.at.values) }
+    ensures same { AreBytesRepeated bytes.now state.at.values at (result - state.at.values) }
 {
     let front = at.saturating_sub(start);
     if start + front == at && state.at.start + front == state.at.values && front < state.same {
@@ -182,8 +182,8 @@ pub(crate) fn end_of_repeated(bytes: &[u8], state: RepeatedState, start: usize, 
 fn is_block_repeated(bytes: &[u8], x: usize, y: usize, i: usize) -> bool
     requires first { x + i + 64 ≤ length bytes.now }
     requires second { y + i + 64 ≤ length bytes.now }
-    requires same { SameBytesAtPlaces bytes.now x y i }
-    ensures { IsTrue result → SameBytesAtPlaces bytes.now x y (i + 64) }
+    requires same { AreBytesRepeated bytes.now x y i }
+    ensures { IsTrue result → AreBytesRepeated bytes.now x y (i + 64) }
 {
     if !is_half_block_repeated(bytes, x, y, i) {
         return false;
@@ -197,8 +197,8 @@ fn is_block_repeated(bytes: &[u8], x: usize, y: usize, i: usize) -> bool
 fn is_half_block_repeated(bytes: &[u8], x: usize, y: usize, i: usize) -> bool
     requires first { x + i + 32 ≤ length bytes.now }
     requires second { y + i + 32 ≤ length bytes.now }
-    requires same { SameBytesAtPlaces bytes.now x y i }
-    ensures { IsTrue result → SameBytesAtPlaces bytes.now x y (i + 32) }
+    requires same { AreBytesRepeated bytes.now x y i }
+    ensures { IsTrue result → AreBytesRepeated bytes.now x y (i + 32) }
 {
     if !are_eight_bytes_repeated(bytes, x + i, y + i) {
         return false;
@@ -216,7 +216,7 @@ fn is_half_block_repeated(bytes: &[u8], x: usize, y: usize, i: usize) -> bool
 fn are_eight_bytes_repeated(bytes: &[u8], x: usize, y: usize) -> bool
     requires first { x + 8 ≤ length bytes.now }
     requires second { y + 8 ≤ length bytes.now }
-    ensures { IsTrue result → eight_bytes_at_place bytes.now x ≡ eight_bytes_at_place bytes.now y }
+    ensures { IsTrue result → double_word_in_bytes bytes.now x ≡ double_word_in_bytes bytes.now y }
 {
     read_double_word(bytes, x) == read_double_word(bytes, y)
 }
@@ -225,7 +225,7 @@ fn are_eight_bytes_repeated(bytes: &[u8], x: usize, y: usize) -> bool
 #[inline(always)]
 fn read_double_word(bytes: &[u8], place: usize) -> u64
     requires { place + 8 ≤ length bytes.now }
-    ensures { result ≡ eight_bytes_at_place bytes.now place }
+    ensures { result ≡ double_word_in_bytes bytes.now place }
 {
     u64::from_le_bytes([
         bytes[place],

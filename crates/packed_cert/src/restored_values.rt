@@ -4,8 +4,8 @@ ghost use Rattle.std.specs.Prelude.{◌≡◌, ◌<◌, ◌↔◌, if◌then◌e
 ghost use Rattle.value_domain.specs.Values.{any_val, IsBelow};
 ghost use Rattle.value_domain.specs.State.{AreWellFormed, AreBelow};
 ghost use Rattle.value_domain.specs.State as states;
-ghost use Rattle.depth_cert.specs.Exits.{values_with_lower_from};
-ghost use Rattle.packed_cert.specs.ValuesInBytes.{place_after_value, value_in, HasValueInBytes, values_in, HaveValuesInBytes};
+ghost use Rattle.depth_cert.specs.Exits.{values_after_return_from};
+ghost use Rattle.packed_cert.specs.ValuesInBytes.{place_after_value, value_in_bytes, HasValueInBytes, values_in_bytes, HaveValuesInBytes};
 
 use crate::certs::cert_bytes_below_256;
 use crate::covered_values::is_below_at_places;
@@ -31,9 +31,9 @@ pub(crate) fn are_restored_below(regs: &[Val; 27], lower: ValuesAt<'_>, high: Va
     requires high { HaveValuesInBytes high.version high.bytes.now high.place 27 }
     ensures { IsTrue result
         ↔ AreBelow
-        (values_with_lower_from 0
-        (values_in lower.entry.version lower.entry.bytes.now lower.entry.place 14) regs.now)
-        (values_in high.entry.version high.entry.bytes.now high.entry.place 27) }
+        (values_after_return_from 0
+        (values_in_bytes lower.entry.version lower.entry.bytes.now lower.entry.place 14) regs.now)
+        (values_in_bytes high.entry.version high.entry.bytes.now high.entry.place 27) }
 {
     cert_bytes_below_256(high.bytes);
     let mut from = lower.place;
@@ -69,9 +69,9 @@ fn is_restored_below(regs: &[Val; 27], i: usize, low: ValuesAt<'_>, high: Values
     ensures { IsTrue result
         ↔ IsBelow
         (if states.is_lower_slot i
-        then value_in low.entry.version low.entry.bytes.now low.entry.place
+        then value_in_bytes low.entry.version low.entry.bytes.now low.entry.place
         else slice_index_or regs.now i any_val)
-        (value_in high.entry.version high.entry.bytes.now high.entry.place) }
+        (value_in_bytes high.entry.version high.entry.bytes.now high.entry.place) }
 {
     cert_bytes_below_256(low.bytes);
     cert_bytes_below_256(high.bytes);

@@ -2,8 +2,8 @@
 ghost use Rattle.std.specs.Prelude.{◌≡◌, ◌≤◌, ◌+◌, ◌↔◌, ◌==◌, if◌then◌else◌, IsTrue, length, ◌<◌, ◌-◌, false};
 ghost use Rattle.value_domain.specs.State.{AreWellFormed, Covers};
 ghost use Rattle.vd_transfer.specs.Changes.{state_after};
-ghost use Rattle.packed_cert.specs.ValuesInBytes.{values_in, HaveValuesInBytes};
-ghost use Rattle.packed_cert.specs.PointsInBytes.{flags_in, state_in, HasState, IsStateAt};
+ghost use Rattle.packed_cert.specs.ValuesInBytes.{values_in_bytes, HaveValuesInBytes};
+ghost use Rattle.packed_cert.specs.PointsInBytes.{flags_in_bytes, state_in_bytes, HasStateInBytes, IsStateAt};
 
 use crate::covered_values::{ToCover, are_values_covered_at};
 use crate::exits::ExitAt;
@@ -25,11 +25,11 @@ pub struct StateAt<'a> {
 
 impl<'a> Model for StateAt<'a> {
     ghost use Rattle.value_domain.specs.declared.states.State.{State};
-    ghost use Rattle.packed_cert.specs.PointsInBytes.{state_in, IsStateAt};
+    ghost use Rattle.packed_cert.specs.PointsInBytes.{state_in_bytes, IsStateAt};
 
     ghost Value = { State };
 
-    ghost view = { λ s. state_in s.version s.bytes.now s.place };
+    ghost view = { λ s. state_in_bytes s.version s.bytes.now s.place };
 
     ghost invariant = { λ s. IsStateAt s.version s.bytes.now s.place };
 }
@@ -37,8 +37,8 @@ impl<'a> Model for StateAt<'a> {
 impl<'a> StateAt<'a> {
     /// Returns the state of a certificate's point at a place of the bytes.
     pub(crate) fn new(bytes: &'a [u8], version: u8, place: usize) -> StateAt<'a>
-        requires { HasState version bytes.now place }
-        ensures { result ≡ state_in version bytes.now place }
+        requires { HasStateInBytes version bytes.now place }
+        ensures { result ≡ state_in_bytes version bytes.now place }
     {
         StateAt {
             bytes,
@@ -81,7 +81,7 @@ impl<'a> StateAt<'a> {
 
 impl<'a> StateAt<'a> {
     ghost use Rattle.value_domain.specs.State.{AreWellFormed, Covers};
-    ghost use Rattle.depth_cert.specs.Exits.{state_after_exit};
+    ghost use Rattle.depth_cert.specs.Exits.{state_after_return};
     ghost use Rattle.vd_transfer.specs.Changes.{state_after};
 
     /// Returns true if the context of this state (IE, least CCPN, `lower`) covers another.
@@ -137,7 +137,7 @@ impl<'a> StateAt<'a> {
     /// returned by the exit. Neither state nor exit is decoded as a whole.
     pub fn covers_after_return(&self, s: &State, exit: &ExitAt<'_>, kind: u8) -> bool
         requires { AreWellFormed s.now.regs }
-        ensures { IsTrue result ↔ Covers self.now (state_after_exit s.now exit.now kind) }
+        ensures { IsTrue result ↔ Covers self.now (state_after_return s.now exit.now kind) }
     {
         let (ie, ccpn) = ie_and_ccpn_after_return(s, exit, kind);
         if !self.covers_context(ie, ccpn, false) {
@@ -171,7 +171,7 @@ fn ie_and_ccpn_after_return(s: &State, exit: &ExitAt<'_>, kind: u8) -> (bool, u8
 fn state_locals_at(bytes: &[u8], place: usize, count: u8) -> ArrayVec<bool, 8>
     requires within { place + count ≤ length bytes.now }
     requires few { count ≤ 8 }
-    ensures { result.items ≡ flags_in bytes.now place count }
+    ensures { result.items ≡ flags_in_bytes bytes.now place count }
 {
     let mut flags = ArrayVec::new();
     for i in 0..count {
@@ -184,8 +184,8 @@ fn state_locals_at(bytes: &[u8], place: usize, count: u8) -> ArrayVec<bool, 8>
 fn place_of_values(bytes: &[u8], version: u8, place: usize) -> usize
     requires { IsStateAt version bytes.now place }
     ensures have { HaveValuesInBytes version bytes.now result 27 }
-    ensures values { (state_in version bytes.now place).regs
-        ≡ values_in version bytes.now result 27 }
+    ensures values { (state_in_bytes version bytes.now place).regs
+        ≡ values_in_bytes version bytes.now result 27 }
 {
     place + 4 + bytes[place + 3] as usize
 }

@@ -1,7 +1,7 @@
 // Reads values over those of the state before.
 // Fast path: a value whose bytes come again isn't read. Bytes are compared for many values at once.
 ghost use Rattle.std.specs.Prelude.{◌≡◌, ◌≤◌, ◌<◌, ◌+◌, ◌-◌, ℕ, List, length, Ok, Err, OnOk, IfOk, IfErr, IfSome};
-ghost use Rattle.packed_cert.specs.RepeatedBytes.{SameBytesAtPlaces, StateRepeatsAt};
+ghost use Rattle.packed_cert.specs.RepeatedBytes.{AreBytesRepeated, IsRepeatedStateAt};
 ghost use Rattle.packed_cert.specs.ValuesInBytes.{AreValuesInBytes, place_after_values};
 ghost use Rattle.packed_cert.specs.ChangedRows.{ChangesOnlyRow, RowBeginsAtPlace, IsRowWithReadValue};
 ghost use Rattle.packed_cert.specs.ValuesInBytes as standing;
@@ -37,7 +37,7 @@ pub(crate) fn read_changed_values(
     requires start { before.values ≤ stop }
     requires first { stop ≤ length bytes.now }
     requires second { c.old.place + (stop - before.values) ≤ length bytes.now }
-    requires again { SameBytesAtPlaces bytes.now before.values c.old.place (stop - before.values) }
+    requires again { AreBytesRepeated bytes.now before.values c.old.place (stop - before.values) }
     ensures ok { OnOk result (values_at version (length out.old) c.old ≡ Ok (out.new, c.new)) }
     ensures err { IfErr result (λ e. values_at version (length out.old) c.old ≡ Err e) }
     ensures row { IfOk result (ChangesOnlyRow out.old out.new) }
@@ -105,7 +105,7 @@ pub(crate) fn read_or_skip_values(
 ) -> Result<ValueRow, FormErr>
     requires same { c.old.bytes ≡ bytes.now }
     requires few { length out.old ≤ 27 }
-    requires held { IfSome before (StateRepeatsAt version bytes.now out.old start) }
+    requires held { IfSome before (IsRepeatedStateAt version bytes.now out.old start) }
     ensures ok { OnOk result (values_at version (length out.old) c.old ≡ Ok (out.new, c.new)) }
     ensures err { IfErr result (λ e. values_at version (length out.old) c.old ≡ Err e) }
     ensures row { IfOk result (ChangesOnlyRow out.old out.new) }

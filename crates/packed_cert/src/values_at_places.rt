@@ -2,10 +2,10 @@
 ghost use Rattle.std.specs.Prelude.{◌≡◌, ◌≤◌, ◌<◌, ◌+◌, ◌*◌, ◌↔◌, IsTrue, length, ◌-◌};
 ghost use Rattle.value_domain.specs.declared.values.Val.{Val};
 ghost use Rattle.value_domain.specs.declared.values.Val.TheVariants.{Set};
-ghost use Rattle.value_domain.specs.Sets.{AreWords};
-ghost use Rattle.value_domain.specs.Values.{IsWellFormed, IsBelow, IsValue};
-ghost use Rattle.packed_cert.specs.ValuesInBytes.{words_at, value_in, HasValueInBytes, values_in, HaveValuesInBytes};
-ghost use Rattle.value_domain.specs.State.{AreValues};
+ghost use Rattle.value_domain.specs.Sets.{AreSetWords};
+ghost use Rattle.value_domain.specs.Values.{IsWellFormed, IsBelow, IsInLattice};
+ghost use Rattle.packed_cert.specs.ValuesInBytes.{words_in_bytes, value_in_bytes, HasValueInBytes, values_in_bytes, HaveValuesInBytes};
+ghost use Rattle.value_domain.specs.State.{AreInLattice};
 ghost use Rattle.tcd_base.specs.Bytes.{word_in_bytes};
 
 use crate::covered_values::{are_words_in_set_at, is_below_span_at, is_below_decoded_value};
@@ -17,7 +17,7 @@ use value_domain::{Bounds, Val, is_value, set_span, set_words, write_any};
 pub(crate) fn is_below_value_at(v: &Val, bytes: &[u8], version: u8, place: usize) -> bool
     requires well { IsWellFormed v.now }
     requires stands { HasValueInBytes version bytes.now place }
-    ensures { IsTrue result ↔ IsBelow v.now (value_in version bytes.now place) }
+    ensures { IsTrue result ↔ IsBelow v.now (value_in_bytes version bytes.now place) }
 {
     let tag = bytes[place];
     if tag == 0 {
@@ -39,7 +39,7 @@ pub(crate) fn is_below_value_at(v: &Val, bytes: &[u8], version: u8, place: usize
 /// the plan and the format.
 pub(crate) fn are_values_at(b: &Bounds, bytes: &[u8], version: u8, place: usize, n: usize) -> bool
     requires { HaveValuesInBytes version bytes.now place n }
-    ensures { IsTrue result ↔ AreValues b.now (values_in version bytes.now place n) }
+    ensures { IsTrue result ↔ AreInLattice b.now (values_in_bytes version bytes.now place n) }
 {
     let _most_words = b.most_words();
     let mut at = place;
@@ -58,7 +58,7 @@ pub(crate) fn are_values_at(b: &Bounds, bytes: &[u8], version: u8, place: usize,
 #[inline(never)]
 pub(crate) fn value_at_place(bytes: &[u8], version: u8, place: usize) -> Val
     requires { HasValueInBytes version bytes.now place }
-    ensures { result ≡ value_in version bytes.now place }
+    ensures { result ≡ value_in_bytes version bytes.now place }
 {
     let mut out = Val::any();
     read_value_at_place(bytes, version, place, &mut out);
@@ -69,7 +69,7 @@ pub(crate) fn value_at_place(bytes: &[u8], version: u8, place: usize) -> Val
 /// Nothing is written if `out` is that Set of two or more words already.
 pub(crate) fn read_value_at_place(bytes: &[u8], version: u8, place: usize, out: &mut Val)
     requires { HasValueInBytes version bytes.now place }
-    ensures { out.new ≡ value_in version bytes.now place }
+    ensures { out.new ≡ value_in_bytes version bytes.now place }
 {
     let tag = bytes[place];
     if tag == 0 {
@@ -102,8 +102,8 @@ fn read_set_at_place<const N: usize>(out: &mut Val, bytes: &[u8], place: usize, 
     requires within { place + 4 * n ≤ length bytes.now }
     requires few { n ≤ N }
     requires small { N ≤ 128 }
-    requires words { AreWords (words_at bytes.now place n) }
-    ensures { out.new ≡ Set (words_at bytes.now place n) }
+    requires words { AreSetWords (words_in_bytes bytes.now place n) }
+    ensures { out.new ≡ Set (words_in_bytes bytes.now place n) }
 {
     let mut words = [0u32; N];
     for i in 0..n {
@@ -116,7 +116,7 @@ fn read_set_at_place<const N: usize>(out: &mut Val, bytes: &[u8], place: usize, 
 /// bytes.
 fn is_set_of_words_at(v: &Val, bytes: &[u8], place: usize, n: usize) -> bool
     requires within { place + 4 * n ≤ length bytes.now }
-    ensures { IsTrue result → v.now ≡ Set (words_at bytes.now place n) }
+    ensures { IsTrue result → v.now ≡ Set (words_in_bytes bytes.now place n) }
 {
     let Val::Set(words) = v else {
         return false;
@@ -138,7 +138,7 @@ fn is_set_of_words_at(v: &Val, bytes: &[u8], place: usize, n: usize) -> bool
 #[inline(never)]
 fn is_value_at(b: &Bounds, bytes: &[u8], version: u8, place: usize) -> bool
     requires { HasValueInBytes version bytes.now place }
-    ensures { IsTrue result ↔ IsValue b.now (value_in version bytes.now place) }
+    ensures { IsTrue result ↔ IsInLattice b.now (value_in_bytes version bytes.now place) }
 {
     is_value(b, &value_at_place(bytes, version, place))
 }

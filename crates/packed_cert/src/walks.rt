@@ -1,9 +1,9 @@
 // The type `PointWalk`: the points of a node one after another, with room for one state.
 ghost use Rattle.std.specs.Prelude.{◌≡◌, ◌≤◌, ◌<◌, ◌-◌, ◌↔◌, [], drop, map, IfSome, IsTrue};
 ghost use Rattle.std.specs.List.Sorted.{IsStrictlyIncreasing};
-ghost use Rattle.packed_cert.specs.PointsInBytes.{state_in, HasState};
+ghost use Rattle.packed_cert.specs.PointsInBytes.{state_in_bytes, HasStateInBytes};
 ghost use Rattle.packed_cert.specs.ChangedRows.{ChangesOnlyRow};
-ghost use Rattle.packed_cert.specs.ValuesInBytes.{values_in, HaveValuesInBytes};
+ghost use Rattle.packed_cert.specs.ValuesInBytes.{values_in_bytes, HaveValuesInBytes};
 ghost use Rattle.packed_cert.specs.Moves.{DiffersOnlyInRow};
 
 use crate::next_covers::is_covered_by_next_point;
@@ -31,16 +31,16 @@ pub struct PointWalk<'a> {
 
 impl<'a> Model for PointWalk<'a> {
     ghost use Rattle.std.specs.Prelude.{◌-◌, take, drop};
-    ghost use Rattle.packed_cert.specs.PointsInBytes.{points_in};
+    ghost use Rattle.packed_cert.specs.PointsInBytes.{points_in_bytes};
     ghost use Rattle.packed_cert.specs.Walks.{WalkData, IsWalk};
 
     ghost Value = { WalkData };
 
     ghost view = { λ w. record {
-      points = points_in w.version w.bytes.now w.points.now;
+      points = points_in_bytes w.version w.bytes.now w.points.now;
       current = w.state;
       anew = take (w.row.behind - w.row.first) (drop w.row.first (w.state).regs);
-      left = points_in w.version w.bytes.now (drop w.next w.points.now);
+      left = points_in_bytes w.version w.bytes.now (drop w.next w.points.now);
     } };
 
     ghost invariant = { λ w.
@@ -49,11 +49,11 @@ impl<'a> Model for PointWalk<'a> {
 
 impl<'a> PointWalk<'a> {
     ghost use Rattle.std.specs.List.{All};
-    ghost use Rattle.packed_cert.specs.PointsInBytes.{points_in, HasState};
+    ghost use Rattle.packed_cert.specs.PointsInBytes.{points_in_bytes, HasStateInBytes};
     ghost use Rattle.value_domain.specs.State.{AreWellFormed};
     ghost use Rattle.vd_transfer.specs.Changes.{state_after};
     ghost use Rattle.packed_cert.specs.Moves.{AllDifferOnlyInRows};
-    ghost use Rattle.packed_cert.specs.Walks.{StepsTo, IsNextWithSameState, CoversNext, CoversAt};
+    ghost use Rattle.packed_cert.specs.Walks.{AdvancesTo, IsNextWithSameState, IsCoveredByNext, IsCoveredAt};
 
     /// Returns a walk over no points, as room for a walk over the points of a certificate's node.
     pub fn empty() -> PointWalk<'a>
@@ -72,11 +72,11 @@ impl<'a> PointWalk<'a> {
     /// Starts this walk again, before the first of these points of a certificate's node. The state
     /// at hand stays, as room for theirs.
     pub(crate) fn restart(&mut self, bytes: &'a [u8], version: u8, points: &'a [PointPlace])
-        requires states { All (λ p. HasState version bytes.now p.place) points.now }
+        requires states { All (λ p. HasStateInBytes version bytes.now p.place) points.now }
         requires rising { IsStrictlyIncreasing (map (λ p. p.addr) points.now) }
         requires moves { AllDifferOnlyInRows version bytes.now points.now }
-        ensures left { self.new.left ≡ points_in version bytes.now points.now }
-        ensures points { self.new.points ≡ points_in version bytes.now points.now }
+        ensures left { self.new.left ≡ points_in_bytes version bytes.now points.now }
+        ensures points { self.new.points ≡ points_in_bytes version bytes.now points.now }
     {
         self.bytes = bytes;
         self.version = version;
@@ -89,7 +89,7 @@ impl<'a> PointWalk<'a> {
     /// the last. The walk then has the point's state.
     #[inline(always)]
     pub fn advance(&mut self) -> Option<u32>
-        ensures { StepsTo self.old result self.new }
+        ensures { AdvancesTo self.old result self.new }
     {
         if self.next >= self.points.len() {
             return None;
@@ -117,7 +117,7 @@ impl<'a> PointWalk<'a> {
     pub fn is_covered_by_next(&self, addr: u32, c: &Change) -> bool
         requires hand { AreWellFormed self.now.current.regs }
         requires changed { AreWellFormed (state_after self.now.current c.now).regs }
-        ensures { IsTrue result → CoversNext self.now addr (state_after self.now.current c.now) }
+        ensures { IsTrue result → IsCoveredByNext self.now addr (state_after self.now.current c.now) }
     {
         if self.next >= self.points.len() {
             return false;
@@ -136,7 +136,7 @@ impl<'a> PointWalk<'a> {
     /// Values aren't compared if both are at the same place of the file.
     pub fn is_covered_at(&self, addr: u32) -> bool
         requires { AreWellFormed self.now.current.regs }
-        ensures { IsTrue result ↔ CoversAt self.now addr }
+        ensures { IsTrue result ↔ IsCoveredAt self.now addr }
     {
         let points = self.points;
         let at = count_points_below(points, addr, self.next);
@@ -170,9 +170,9 @@ impl<'a> PointWalk<'a> {
 /// Overwrites the state before a point of a certificate with that of the point. Only the values of
 /// its row are read. Returns the row.
 fn read_state_of_point(bytes: &[u8], version: u8, point: PointPlace, room: &mut State) -> ValueRow
-    requires state { HasState version bytes.now point.place }
+    requires state { HasStateInBytes version bytes.now point.place }
     requires moved { DiffersOnlyInRow version bytes.now room.old point }
-    ensures state { room.new ≡ state_in version bytes.now point.place }
+    ensures state { room.new ≡ state_in_bytes version bytes.now point.place }
     ensures row { ChangesOnlyRow room.old.regs room.new.regs result }
     ensures few { result.behind ≤ 27 }
 {
@@ -191,14 +191,14 @@ fn read_state_of_point(bytes: &[u8], version: u8, point: PointPlace, room: &mut 
 /// Reads the row of the walk's next point, those of its values that may differ, over the values of
 /// the state before.
 fn read_row_values(bytes: &[u8], version: u8, point: PointPlace, out: &mut [Val; 27])
-    requires row { ChangesOnlyRow out.old (state_in version bytes.now point.place).regs point.row }
+    requires row { ChangesOnlyRow out.old (state_in_bytes version bytes.now point.place).regs point.row }
     requires few { point.row.behind ≤ 27 }
     requires have { 0 < point.row.behind
         → HaveValuesInBytes version bytes.now point.row.from (27 - point.row.first) }
     requires stand { 0 < point.row.behind
-        → drop point.row.first (state_in version bytes.now point.place).regs
-        ≡ values_in version bytes.now point.row.from (27 - point.row.first) }
-    ensures { out.new ≡ (state_in version bytes.now point.place).regs }
+        → drop point.row.first (state_in_bytes version bytes.now point.place).regs
+        ≡ values_in_bytes version bytes.now point.row.from (27 - point.row.first) }
+    ensures { out.new ≡ (state_in_bytes version bytes.now point.place).regs }
 {
     let _regs = &out[..];
     let mut at = point.row.from as usize;

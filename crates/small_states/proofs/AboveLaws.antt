@@ -6,8 +6,8 @@ use Rattle.std.specs.Option.{option_map}
 use Rattle.value_domain.specs.declared.values.Val.{Val}
 use Rattle.value_domain.specs.declared.states.State.{State}
 use Rattle.value_domain.specs.Limits.{Limits}
-use Rattle.value_domain.specs.Values.{IsBelow, IsValue, IsWellFormed, members, join_of}
-use Rattle.value_domain.specs.State.{AreBelow, AreValues, AreWellFormed, Covers, FlagsImpliedBy, joined_locals, joined_regs, joined_states}
+use Rattle.value_domain.specs.Values.{IsBelow, IsInLattice, IsWellFormed, members, join_of}
+use Rattle.value_domain.specs.State.{AreBelow, AreInLattice, AreWellFormed, Covers, FlagsImply, joined_locals, joined_regs, state_join_if_any}
 use Rattle.value_domain.proofs.CoverLaws.{among_member, cover-same, has_step, member_among}
 use Rattle.value_domain.proofs.ExtentLaws.{among_append, append_right}
 use Rattle.value_domain.proofs.RegLaws.{implied_length}
@@ -18,14 +18,14 @@ use Rattle.depth_cert.specs.WellFormed.{IsWellFormedState, IsWellFormedExit, IsW
 use Rattle.small_states.proofs.IncomingLemmas.{values_well}
 
 -- ---- values
-pub join_above : (b : Limits) (v w : Val) → IsWellFormed v → IsValue b w → IsBelow v w → join_of b v w ≡ w
+pub join_above : (b : Limits) (v w : Val) → IsWellFormed v → IsInLattice b w → IsBelow v w → join_of b v w ≡ w
 join_above b v w well value below =
     cover-same b (members v ++ members w) (members w)
     (λ z i. elim (among_append z (members v) (members w) i) [ inl j ↦ among_member w z (has_step w value.well) (below z (member_among v z (has_step v well) j)) | inr j ↦ j ])
     (λ z i. append_right z (members v) (members w) i)
     ∙ value.own
 
-pub regs_above : (b : Limits) (vs ws : List Val) → length vs ≡ length ws → AreWellFormed vs → AreValues b ws → AreBelow vs ws → joined_regs b vs ws ≡ ws
+pub regs_above : (b : Limits) (vs ws : List Val) → length vs ≡ length ws → AreWellFormed vs → AreInLattice b ws → AreBelow vs ws → joined_regs b vs ws ≡ ws
 unfolding joined_regs
 regs_above b [] [] same well values below = refl
 regs_above b [] (w ∷ ws) same well values below = absurd (omega arith)
@@ -46,14 +46,14 @@ or_above false y h = refl
 or_above true true h = refl
 or_above true false h = absurd (let e : false ≡ true = h refl in cc)
 
-locals_above : (xs ys : List Bool) → FlagsImpliedBy ys xs → joined_locals xs ys ≡ ys
+locals_above : (xs ys : List Bool) → FlagsImply ys xs → joined_locals xs ys ≡ ys
 locals_above [] [] h = refl
 locals_above [] (y ∷ ys) h = absurd h
 locals_above (x ∷ xs) [] h = refl
 locals_above (x ∷ xs) (y ∷ ys) h = ap (λ (z : Bool). z ∷ joined_locals xs ys) (and_above x y h.0) ∙ ap (λ (l : List Bool). y ∷ l) (locals_above xs ys h.1)
 
 -- ---- states, exits
-state_above : (b : Limits) (s t : State) → IsWellFormedState b s → IsWellFormedState b t → Covers t s → joined_states b s t ≡ Some t
+state_above : (b : Limits) (s t : State) → IsWellFormedState b s → IsWellFormedState b t → Covers t s → state_join_if_any b s t ≡ Some t
 state_above b s t ps pt covers =
     let least : min s.ccpn t.ccpn ≡ t.ccpn = (let h = covers.context.1 in omega (arith, h)) in
     rw (

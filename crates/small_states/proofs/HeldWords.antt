@@ -6,7 +6,7 @@ use Rattle.value_domain.specs.declared.values.Val.{Val}
 use Rattle.value_domain.specs.declared.values.Val.TheVariants.{Set, Span}
 use Rattle.value_domain.specs.Limits.{Limits}
 use Rattle.value_domain.specs.Sets.{Among, IsAscending, Within}
-use Rattle.value_domain.specs.Values.{IsMember, IsValue, cover, members, words_of, join_of}
+use Rattle.value_domain.specs.Values.{IsMember, IsInLattice, cover, members, words_of, join_of}
 use Rattle.value_domain.proofs.CoverLaws.{cover-same}
 use Rattle.value_domain.proofs.ExtentLaws.{among_append, append_left, append_right}
 use Rattle.value_domain.proofs.Loops.{among_get}
@@ -95,7 +95,7 @@ held_all held words n end have missing = (
 )
 
 -- a set joined with some of its own words
-pub join_words : (b : Limits) (v w : Val) (held words : List ℕ) → v ≡ Set held → w ≡ Set words → Within words held → IsValue b v → v ≡ join_of b v w
+pub join_words : (b : Limits) (v w : Val) (held words : List ℕ) → v ≡ Set held → w ≡ Set words → Within words held → IsInLattice b v → v ≡ join_of b v w
 join_words b v w held words ve we within value =
     sym
     (join_below b v w value

@@ -6,9 +6,9 @@ use Rattle.std.proofs.lemmas.Bool.{eq-eqb, eqb-true, le-leb, le-ltb, lt-leb, lt-
 use Rattle.std.proofs.lemmas.List.{length-append, length-take-le, length-drop, take_all}
 use Rattle.value_domain.specs.declared.values.Val.{Val}
 use Rattle.value_domain.specs.Limits.{Limits}
-use Rattle.value_domain.specs.State.{AreWellFormed, AreValues}
+use Rattle.value_domain.specs.State.{AreWellFormed, AreInLattice}
 use Rattle.value_domain.specs.Values.{any_val}
-use Rattle.depth_cert.specs.Exits.{lower_values, values_with_lower_from}
+use Rattle.depth_cert.specs.Exits.{lower_values, values_after_return_from}
 use Rattle.small_states.specs.Incoming.{incoming_exit_with, incoming_known, is_incoming_exit, incoming_known_with, incoming_state_with, incoming_values}
 use Rattle.depth_cert.proofs.ExitValues.{after-at, lower_high, lower_low, with_lower_length}
 use Rattle.depth_cert.specs.Known.{Known, state, leaving}
@@ -32,7 +32,7 @@ module _ (regs : List Val) (len : length regs ≡ 27) where
   lower_count = omega (arith, length-append (take 8 regs) (take 6 (drop 16 regs)), front_length, back_length)
 
 -- ---- values
-pub values_well : (b : Limits) (vs : List Val) → AreValues b vs → AreWellFormed vs
+pub values_well : (b : Limits) (vs : List Val) → AreInLattice b vs → AreWellFormed vs
 values_well b vs values r lt = (values r lt).well
 
 -- ---- the incoming facts
@@ -59,25 +59,25 @@ other_place at i e is =
 
 -- ---- values after a frame returned
 module _ (lower regs : List Val) (i : ℕ) (lt : i < length regs) where
-  pub after_low : i < 8 → get_or (values_with_lower_from 0 lower regs) i any_val ≡ get_or lower i any_val
+  pub after_low : i < 8 → get_or (values_after_return_from 0 lower regs) i any_val ≡ get_or lower i any_val
   after_low h = after-at lower regs i lt ∙ (let e = lt-ltb i 8 h in rw e refl)
 
-  pub after_high : 16 ≤ i → i < 22 → get_or (values_with_lower_from 0 lower regs) i any_val ≡ get_or lower (i - 8) any_val
+  pub after_high : 16 ≤ i → i < 22 → get_or (values_after_return_from 0 lower regs) i any_val ≡ get_or lower (i - 8) any_val
   after_high h k =
       after-at lower regs i lt ∙ (let e = le-ltb i 8 (omega arith) in let f = le-leb 16 i h in let g = lt-ltb i 22 k in rw (e, f, g) refl)
 
-  pub after_middle : 8 ≤ i → i < 16 → get_or (values_with_lower_from 0 lower regs) i any_val ≡ get_or regs i any_val
+  pub after_middle : 8 ≤ i → i < 16 → get_or (values_after_return_from 0 lower regs) i any_val ≡ get_or regs i any_val
   after_middle h k = after-at lower regs i lt ∙ (let e = le-ltb i 8 h in let f = lt-leb 16 i k in rw (e, f) refl)
 
-  pub after_last : 22 ≤ i → get_or (values_with_lower_from 0 lower regs) i any_val ≡ get_or regs i any_val
+  pub after_last : 22 ≤ i → get_or (values_after_return_from 0 lower regs) i any_val ≡ get_or regs i any_val
   after_last h =
       after-at lower regs i lt ∙ (let e = le-ltb i 8 (omega arith) in let f = le-leb 16 i (omega arith) in let g = le-ltb i 22 h in rw (e, f, g) refl)
 
 -- ---- by parts
 pub after_parts : (lower regs : List Val) → length regs ≡ 27
-    → ((values_from lower 0 8 ++ values_from regs 8 8) ++ values_from lower 8 6) ++ values_from regs 22 5 ≡ values_with_lower_from 0 lower regs
+    → ((values_from lower 0 8 ++ values_from regs 8 8) ++ values_from lower 8 6) ++ values_from regs 22 5 ≡ values_after_return_from 0 lower regs
 after_parts lower regs long =
-    let ws = values_with_lower_from 0 lower regs in
+    let ws = values_after_return_from 0 lower regs in
     let len : length ws ≡ 27 = with_lower_length lower regs ∙ long in
     ap (λ (l : List Val). ((l ++ values_from regs 8 8) ++ values_from lower 8 6) ++ values_from regs 22 5)
     (part_joins ws lower 0 0 8 (omega arith) (λ r h. after_low lower regs (0 + r) (omega arith) (omega arith)))

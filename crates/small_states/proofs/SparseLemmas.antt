@@ -6,42 +6,42 @@ use Rattle.std.proofs.lemmas.List.Concat.{flat_map-append}
 use Rattle.std.proofs.lemmas.List.{append-nil, append_assoc, drop-set, drop_more, get_or-append-add, get_or-append_right, get_or-replicate, get_or_append_left, get_or_at, get_or_past, get_or_default, length-append, length-replicate, length-take-le, length_push, replicate-append-replicate, replicate_more, set-get_or, set_at, set_past, set_split, take-append-drop, take-set, take_all, take_more}
 use Rattle.value_domain.specs.declared.values.Val.{Val}
 use Rattle.value_domain.specs.Limits.{Limits}
-use Rattle.value_domain.specs.State.{AreBelow, AreValues, AreWellFormed, joined_regs}
-use Rattle.value_domain.specs.Values.{join_of, IsBelow, IsValue, IsWellFormed, any_val}
+use Rattle.value_domain.specs.State.{AreBelow, AreInLattice, AreWellFormed, joined_regs}
+use Rattle.value_domain.specs.Values.{join_of, IsBelow, IsInLattice, IsWellFormed, any_val}
 use Rattle.value_domain.proofs.RangeLaws.{below_any}
 use Rattle.value_domain.proofs.RegLaws.{get_or-joined, length-joined}
 use Rattle.depth_cert.specs.Spelling.{bytes_of_value}
 use Rattle.small_states.specs.declared.values.SpacedValue.{SpacedValue}
-use Rattle.small_states.specs.CompactForms.{compact_front, spaced_values, values_from}
+use Rattle.small_states.specs.CompactForms.{values_to_last_known, spaced_values, values_from}
 use Rattle.small_states.proofs.SameValues.{join_all}
 
 -- all values
 abbrev pub all : List SpacedValue → ℕ → List Val
-all known rest = compact_front known ++ replicate rest any_val
+all known rest = values_to_last_known known ++ replicate rest any_val
 
-pub all_few : (known : List SpacedValue) (rest : ℕ) → length (compact_front known) + rest ≡ length (all known rest)
-all_few known rest = omega (arith, length-append (compact_front known) (replicate rest any_val), length-replicate rest any_val)
+pub all_few : (known : List SpacedValue) (rest : ℕ) → length (values_to_last_known known) + rest ≡ length (all known rest)
+all_few known rest = omega (arith, length-append (values_to_last_known known) (replicate rest any_val), length-replicate rest any_val)
 
 pub more_anys : (known : List SpacedValue) (rest count : ℕ) → all known (rest + count) ≡ all known rest ++ replicate count any_val
 more_anys known rest count =
-    ap (λ (l : List Val). compact_front known ++ l) (sym (replicate-append-replicate rest count any_val))
-    ∙ sym (append_assoc (compact_front known) (replicate rest any_val) (replicate count any_val))
+    ap (λ (l : List Val). values_to_last_known known ++ l) (sym (replicate-append-replicate rest count any_val))
+    ∙ sym (append_assoc (values_to_last_known known) (replicate rest any_val) (replicate count any_val))
 
 -- one more known value after some
-pub all_parts : (xs ys : List SpacedValue) (s : SpacedValue) (rest : ℕ) → all (xs ++ s ∷ ys) rest ≡ compact_front xs ++ (replicate s.anys any_val ++ s.value ∷ (compact_front ys ++ replicate rest any_val))
+pub all_parts : (xs ys : List SpacedValue) (s : SpacedValue) (rest : ℕ) → all (xs ++ s ∷ ys) rest ≡ values_to_last_known xs ++ (replicate s.anys any_val ++ s.value ∷ (values_to_last_known ys ++ replicate rest any_val))
 all_parts xs ys s rest =
     ap (λ (l : List Val). l ++ replicate rest any_val) (flat_map-append spaced_values xs (s ∷ ys))
-    ∙ append_assoc (compact_front xs) (spaced_values s ++ compact_front ys) (replicate rest any_val)
-    ∙ ap (λ (l : List Val). compact_front xs ++ l)
-    (append_assoc (spaced_values s) (compact_front ys) (replicate rest any_val) ∙ append_assoc (replicate s.anys any_val) (s.value ∷ []) (compact_front ys ++ replicate rest any_val))
+    ∙ append_assoc (values_to_last_known xs) (spaced_values s ++ values_to_last_known ys) (replicate rest any_val)
+    ∙ ap (λ (l : List Val). values_to_last_known xs ++ l)
+    (append_assoc (spaced_values s) (values_to_last_known ys) (replicate rest any_val) ∙ append_assoc (replicate s.anys any_val) (s.value ∷ []) (values_to_last_known ys ++ replicate rest any_val))
 
 -- ---- a value that is known
 module _ (known : List SpacedValue) (rest n : ℕ) (here : SpacedValue) (lt : n < length known) (is : here ≡ get_or known n here) where
   abbrev before : List Val
-  before = compact_front (take n known)
+  before = values_to_last_known (take n known)
 
   abbrev after : List Val
-  after = compact_front (drop (n + 1) known) ++ replicate rest any_val
+  after = values_to_last_known (drop (n + 1) known) ++ replicate rest any_val
 
   abbrev anys : List Val
   anys = replicate here.anys any_val
@@ -54,17 +54,17 @@ module _ (known : List SpacedValue) (rest n : ℕ) (here : SpacedValue) (lt : n 
   all-split : all known rest ≡ before ++ (anys ++ here.value ∷ after)
   all-split = ap (λ (l : List SpacedValue). all l rest) split ∙ all_parts (take n known) (drop (n + 1) known) here rest
 
-  pub front_more : compact_front (take (n + 1) known) ≡ before ++ (anys ++ here.value ∷ [])
+  pub front_more : values_to_last_known (take (n + 1) known) ≡ before ++ (anys ++ here.value ∷ [])
   front_more =
-      ap (λ (l : List SpacedValue). compact_front l) (take_more known n here lt ∙ ap (λ (s : SpacedValue). take n known ++ s ∷ []) (sym is))
+      ap (λ (l : List SpacedValue). values_to_last_known l) (take_more known n here lt ∙ ap (λ (s : SpacedValue). take n known ++ s ∷ []) (sym is))
       ∙ flat_map-append spaced_values (take n known) (here ∷ [])
       ∙ ap (λ (l : List Val). before ++ l) (append-nil (spaced_values here))
 
-  pub length-front : length (compact_front (take (n + 1) known)) ≡ length (compact_front (take n known)) + here.anys + 1
+  pub length-front : length (values_to_last_known (take (n + 1) known)) ≡ length (values_to_last_known (take n known)) + here.anys + 1
   length-front =
       ap (λ (l : List Val). length l) front_more ∙ omega (arith, length-append before (anys ++ here.value ∷ []), length_push anys here.value, length-replicate here.anys any_val)
 
-  pub is_within : length (compact_front (take n known)) + here.anys < length (all known rest)
+  pub is_within : length (values_to_last_known (take n known)) + here.anys < length (all known rest)
   is_within =
       omega (
         arith,
@@ -74,13 +74,13 @@ module _ (known : List SpacedValue) (rest n : ℕ) (here : SpacedValue) (lt : n 
         length-replicate here.anys any_val,
       )
 
-  pub value_there : get_or (all known rest) (length (compact_front (take n known)) + here.anys) any_val ≡ here.value
+  pub value_there : get_or (all known rest) (length (values_to_last_known (take n known)) + here.anys) any_val ≡ here.value
   value_there =
       ap (λ (l : List Val). get_or l (length before + here.anys) any_val) all-split
       ∙ get_or-append-add before (anys ++ here.value ∷ after) here.anys any_val
       ∙ get_or_at anys here.value after any_val here.anys (length-replicate here.anys any_val)
 
-  pub any_there : (r : ℕ) → length (compact_front (take n known)) ≤ r → r < length (compact_front (take n known)) + here.anys → get_or (all known rest) r any_val ≡ any_val
+  pub any_there : (r : ℕ) → length (values_to_last_known (take n known)) ≤ r → r < length (values_to_last_known (take n known)) + here.anys → get_or (all known rest) r any_val ≡ any_val
   any_there r ge lt2 =
       ap (λ (l : List Val). get_or l r any_val) all-split
       ∙ get_or-append_right before (anys ++ here.value ∷ after) (length before) r any_val refl ge
@@ -95,12 +95,12 @@ replicate_any rest i =
       | inr past ↦ get_or_past (replicate rest any_val) i any_val (omega (arith, length-replicate rest any_val))
     ]
 
-pub any_behind : (known : List SpacedValue) (rest r : ℕ) → length (compact_front known) ≤ r → get_or (all known rest) r any_val ≡ any_val
+pub any_behind : (known : List SpacedValue) (rest r : ℕ) → length (values_to_last_known known) ≤ r → get_or (all known rest) r any_val ≡ any_val
 any_behind known rest r ge =
-    get_or-append_right (compact_front known) (replicate rest any_val) (length (compact_front known)) r any_val refl ge ∙ replicate_any rest (r - length (compact_front known))
+    get_or-append_right (values_to_last_known known) (replicate rest any_val) (length (values_to_last_known known)) r any_val refl ge ∙ replicate_any rest (r - length (values_to_last_known known))
 
 -- a known value, if the numbers of values and of places before it are at hand
-pub known_place : (known : List SpacedValue) (rest n : ℕ) (here : SpacedValue) → n < length known → here ≡ get_or known n here → (at : ℕ) → at ≡ length (compact_front (take n known)) → get_or (all known rest) (at + here.anys) any_val ≡ here.value
+pub known_place : (known : List SpacedValue) (rest n : ℕ) (here : SpacedValue) → n < length known → here ≡ get_or known n here → (at : ℕ) → at ≡ length (values_to_last_known (take n known)) → get_or (all known rest) (at + here.anys) any_val ≡ here.value
 known_place known rest n here lt is at up_to = ap (λ (m : ℕ). get_or (all known rest) (m + here.anys) any_val) up_to ∙ value_there known rest n here lt is
 
 -- ---- parts
@@ -151,11 +151,11 @@ anys_from vs from done end h k none =
     let e : (done - from) + (end - done) ≡ end - from = omega arith in
     sym (values_anys vs from (done - from) (end - done) (λ r ge lt. none r (omega arith) (omega arith))) ∙ ap (λ (m : ℕ). values_from vs from m) e
 
-pub part_rest : (known : List SpacedValue) (rest from done end : ℕ) → length (compact_front known) ≤ done → from ≤ done → done ≤ end
+pub part_rest : (known : List SpacedValue) (rest from done end : ℕ) → length (values_to_last_known known) ≤ done → from ≤ done → done ≤ end
     → values_from (all known rest) from (done - from) ++ replicate (end - done) any_val ≡ values_from (all known rest) from (end - from)
 part_rest known rest from done end past h k = anys_from (all known rest) from done end h k (λ r ge lt. any_behind known rest r (omega arith))
 
-module _ (known : List SpacedValue) (rest n : ℕ) (here : SpacedValue) (lt : n < length known) (is : here ≡ get_or known n here) (at : ℕ) (up_to : at ≡ length (compact_front (take n known))) (from done : ℕ) (past : at ≤ done) (begun : from ≤ done) where
+module _ (known : List SpacedValue) (rest n : ℕ) (here : SpacedValue) (lt : n < length known) (is : here ≡ get_or known n here) (at : ℕ) (up_to : at ≡ length (values_to_last_known (take n known))) (from done : ℕ) (past : at ≤ done) (begun : from ≤ done) where
   -- up to before the known value
   pub part_gap : (end : ℕ) → done ≤ end → end ≤ at + here.anys → values_from (all known rest) from (done - from) ++ replicate (end - done) any_val ≡ values_from (all known rest) from (end - from)
   part_gap end h k = anys_from (all known rest) from done end begun h (λ r ge lt2. any_there known rest n here lt is r (omega (arith, up_to)) (omega (arith, up_to)))
@@ -196,14 +196,14 @@ part_joins ws vs k from (suc count) h same =
 -- ---- comparing
 module _ (known : List SpacedValue) (rest : ℕ) (ws : List Val) (long : length (all known rest) ≡ length ws) (well : AreWellFormed ws) where
   -- below up to the last known value, so everywhere
-  pub covered_all : ((r : ℕ) → r < length (compact_front known) → IsBelow (get_or ws r any_val) (get_or (all known rest) r any_val)) → AreBelow ws (all known rest)
+  pub covered_all : ((r : ℕ) → r < length (values_to_last_known known) → IsBelow (get_or ws r any_val) (get_or (all known rest) r any_val)) → AreBelow ws (all known rest)
   covered_all so_far r lt =
-      elim (cases_lt r (length (compact_front known))) [
+      elim (cases_lt r (length (values_to_last_known known))) [
         | inl h ↦ so_far r h
         | inr ge ↦ subst (λ (v : Val). IsBelow (get_or ws r any_val) v) (sym (any_behind known rest r ge)) (below_any (get_or ws r any_val) (well r lt))
       ]
 
-  module _ (n : ℕ) (here : SpacedValue) (lt : n < length known) (is : here ≡ get_or known n here) (at : ℕ) (up_to : at ≡ length (compact_front (take n known))) where
+  module _ (n : ℕ) (here : SpacedValue) (lt : n < length known) (is : here ≡ get_or known n here) (at : ℕ) (up_to : at ≡ length (values_to_last_known (take n known))) where
     pub place_there : get_or (all known rest) (at + here.anys) any_val ≡ here.value
     place_there = known_place known rest n here lt is at up_to
 
@@ -243,7 +243,7 @@ take_anys vs at (suc k) h none =
     ∙ append_assoc (take at vs) (replicate k any_val) (any_val ∷ [])
     ∙ ap (λ (l : List Val). take at vs ++ l) (replicate_more k any_val ∙ ap (λ (m : ℕ). replicate m any_val) f)
 
-module _ (b : Limits) (known : List SpacedValue) (rest : ℕ) (ws : List Val) (long : length (all known rest) ≡ length ws) (left : AreValues b (all known rest)) (right : AreValues b ws) where
+module _ (b : Limits) (known : List SpacedValue) (rest : ℕ) (ws : List Val) (long : length (all known rest) ≡ length ws) (left : AreInLattice b (all known rest)) (right : AreInLattice b ws) where
   abbrev joins : List Val
   joins = joined_regs b (all known rest) ws
 
@@ -260,17 +260,17 @@ module _ (b : Limits) (known : List SpacedValue) (rest : ℕ) (ws : List Val) (l
   join_any : (r : ℕ) → r < length (all known rest) → get_or (all known rest) r any_val ≡ any_val → get_or joins r any_val ≡ any_val
   join_any r lt is =
       join_at r any_val lt is
-      ∙ join_all b any_val (get_or ws r any_val) refl (subst (λ (v : Val). IsValue b v) is (left r lt)) (right r (omega (arith, long))).well
+      ∙ join_all b any_val (get_or ws r any_val) refl (subst (λ (v : Val). IsInLattice b v) is (left r lt)) (right r (omega (arith, long))).well
 
-  joined_all : length (compact_front known) + rest ≡ length joins
+  joined_all : length (values_to_last_known known) + rest ≡ length joins
   joined_all = omega (arith, length-joins, all_few known rest)
 
-  pub joined_rest : take (length (compact_front known)) joins ++ replicate rest any_val ≡ joins
+  pub joined_rest : take (length (values_to_last_known known)) joins ++ replicate rest any_val ≡ joins
   joined_rest =
-      sym (take_anys joins (length (compact_front known)) rest (omega (arith, joined_all)) (λ r ge lt. join_any r (omega (arith, joined_all, length-joins)) (any_behind known rest r ge)))
-      ∙ take_all (length (compact_front known) + rest) joins (omega (arith, joined_all))
+      sym (take_anys joins (length (values_to_last_known known)) rest (omega (arith, joined_all)) (λ r ge lt. join_any r (omega (arith, joined_all, length-joins)) (any_behind known rest r ge)))
+      ∙ take_all (length (values_to_last_known known) + rest) joins (omega (arith, joined_all))
 
-  module _ (n : ℕ) (here : SpacedValue) (lt : n < length known) (is : here ≡ get_or known n here) (at : ℕ) (up_to : at ≡ length (compact_front (take n known))) where
+  module _ (n : ℕ) (here : SpacedValue) (lt : n < length known) (is : here ≡ get_or known n here) (at : ℕ) (up_to : at ≡ length (values_to_last_known (take n known))) where
     within : at + here.anys < length (all known rest)
     within = omega (arith, is_within known rest n here lt is)
 
@@ -309,32 +309,32 @@ put_anys xs ys k p m v e =
     ∙ append_assoc xs anys (v ∷ more)
 
 -- after the last known value
-pub put_last : (known : List SpacedValue) (rest k p : ℕ) (s : SpacedValue) → s.anys ≡ k → rest ≡ k + 1 + p → all (known ++ s ∷ []) p ≡ set (all known rest) (length (compact_front known) + k) s.value
+pub put_last : (known : List SpacedValue) (rest k p : ℕ) (s : SpacedValue) → s.anys ≡ k → rest ≡ k + 1 + p → all (known ++ s ∷ []) p ≡ set (all known rest) (length (values_to_last_known known) + k) s.value
 put_last known rest k p s e f =
     all_parts known [] s p
-    ∙ ap (λ (i : ℕ). compact_front known ++ (replicate i any_val ++ s.value ∷ replicate p any_val)) e
-    ∙ ap (λ (l : List Val). compact_front known ++ (replicate k any_val ++ s.value ∷ l)) (sym (append-nil (replicate p any_val)))
-    ∙ sym (put_anys (compact_front known) [] k p rest s.value f)
-    ∙ ap (λ (l : List Val). set (compact_front known ++ l) (length (compact_front known) + k) s.value) (append-nil (replicate rest any_val))
+    ∙ ap (λ (i : ℕ). values_to_last_known known ++ (replicate i any_val ++ s.value ∷ replicate p any_val)) e
+    ∙ ap (λ (l : List Val). values_to_last_known known ++ (replicate k any_val ++ s.value ∷ l)) (sym (append-nil (replicate p any_val)))
+    ∙ sym (put_anys (values_to_last_known known) [] k p rest s.value f)
+    ∙ ap (λ (l : List Val). set (values_to_last_known known ++ l) (length (values_to_last_known known) + k) s.value) (append-nil (replicate rest any_val))
 
 -- past all places
-pub put_past : (known : List SpacedValue) (rest k : ℕ) (v : Val) → rest ≤ k → set (all known rest) (length (compact_front known) + k) v ≡ all known rest
-put_past known rest k v h = set_past (all known rest) (length (compact_front known) + k) v (omega (arith, all_few known rest))
+pub put_past : (known : List SpacedValue) (rest k : ℕ) (v : Val) → rest ≤ k → set (all known rest) (length (values_to_last_known known) + k) v ≡ all known rest
+put_past known rest k v h = set_past (all known rest) (length (values_to_last_known known) + k) v (omega (arith, all_few known rest))
 
 -- an unknown value over an unknown one
-pub put_any_last : (known : List SpacedValue) (rest k : ℕ) (v : Val) → v ≡ any_val → set (all known rest) (length (compact_front known) + k) v ≡ all known rest
+pub put_any_last : (known : List SpacedValue) (rest k : ℕ) (v : Val) → v ≡ any_val → set (all known rest) (length (values_to_last_known known) + k) v ≡ all known rest
 put_any_last known rest k v e =
-    let i = length (compact_front known) + k in
+    let i = length (values_to_last_known known) + k in
     ap (λ (u : Val). set (all known rest) i u) (e ∙ sym (any_behind known rest i (omega arith))) ∙ set-get_or (all known rest) i any_val
 
 module _ (known : List SpacedValue) (rest n : ℕ) (here : SpacedValue) (lt : n < length known) (is : here ≡ get_or known n here) where
   -- over a known value
-  pub put_known : (k : ℕ) (s : SpacedValue) → s.anys ≡ here.anys → k ≡ here.anys → all (set known n s) rest ≡ set (all known rest) (length (compact_front (take n known)) + k) s.value
+  pub put_known : (k : ℕ) (s : SpacedValue) → s.anys ≡ here.anys → k ≡ here.anys → all (set known n s) rest ≡ set (all known rest) (length (values_to_last_known (take n known)) + k) s.value
   put_known k s e f =
-      let xs = compact_front (take n known) in
+      let xs = values_to_last_known (take n known) in
       let ys = drop (n + 1) known in
       let anys = replicate here.anys any_val in
-      let after = compact_front ys ++ replicate rest any_val in
+      let after = values_to_last_known ys ++ replicate rest any_val in
       let g : suc n ≡ n + 1 = omega arith in
       ap (λ (l : List SpacedValue). all l rest) (set_split known n s lt ∙ ap (λ (m : ℕ). take n known ++ s ∷ drop m known) g)
       ∙ all_parts (take n known) ys s rest
@@ -346,44 +346,44 @@ module _ (known : List SpacedValue) (rest n : ℕ) (here : SpacedValue) (lt : n 
   -- between the known value and those before it
   pub put_gap :
       (k p : ℕ) (s t : SpacedValue) → s.anys ≡ k → t.anys ≡ p → t.value ≡ here.value → here.anys ≡ k + 1 + p
-      → all (insert (set known n t) n s) rest ≡ set (all known rest) (length (compact_front (take n known)) + k) s.value
+      → all (insert (set known n t) n s) rest ≡ set (all known rest) (length (values_to_last_known (take n known)) + k) s.value
   put_gap k p s t e f g h =
-      let xs = compact_front (take n known) in
+      let xs = values_to_last_known (take n known) in
       let ys = drop (n + 1) known in
-      let after = compact_front ys ++ replicate rest any_val in
+      let after = values_to_last_known ys ++ replicate rest any_val in
       ap (λ (l : List SpacedValue). all l rest)
       (ap (λ (l : List SpacedValue). l ++ s ∷ drop n (set known n t)) (take-set known n t) ∙ ap (λ (l : List SpacedValue). take n known ++ s ∷ l) (drop-set known n t lt))
       ∙ all_parts (take n known) (t ∷ ys) s rest
-      ∙ ap (λ (m : ℕ). xs ++ (replicate m any_val ++ s.value ∷ (compact_front (t ∷ ys) ++ replicate rest any_val))) e
+      ∙ ap (λ (m : ℕ). xs ++ (replicate m any_val ++ s.value ∷ (values_to_last_known (t ∷ ys) ++ replicate rest any_val))) e
       ∙ ap (λ (l : List Val). xs ++ (replicate k any_val ++ s.value ∷ l))
       (all_parts [] ys t rest ∙ ap (λ (m : ℕ). replicate m any_val ++ t.value ∷ after) f ∙ ap (λ (u : Val). replicate p any_val ++ u ∷ after) g)
       ∙ sym (put_anys xs (here.value ∷ after) k p here.anys s.value h)
       ∙ ap (λ (l : List Val). set l (length xs + k) s.value) (sym (all-split known rest n here lt is))
 
-  pub put_any_gap : (k : ℕ) (v : Val) → v ≡ any_val → k < here.anys → set (all known rest) (length (compact_front (take n known)) + k) v ≡ all known rest
+  pub put_any_gap : (k : ℕ) (v : Val) → v ≡ any_val → k < here.anys → set (all known rest) (length (values_to_last_known (take n known)) + k) v ≡ all known rest
   put_any_gap k v e h =
-      let i = length (compact_front (take n known)) + k in
+      let i = length (values_to_last_known (take n known)) + k in
       ap (λ (u : Val). set (all known rest) i u) (e ∙ sym (any_there known rest n here lt is i (omega arith) (omega arith))) ∙ set-get_or (all known rest) i any_val
 
 -- ---- a place that is searched for
-module _ (known : List SpacedValue) (rest n : ℕ) (here : SpacedValue) (lt : n < length known) (is : here ≡ get_or known n here) (i left : ℕ) (up_to : i ≡ length (compact_front (take n known)) + left) where
+module _ (known : List SpacedValue) (rest n : ℕ) (here : SpacedValue) (lt : n < length known) (is : here ≡ get_or known n here) (i left : ℕ) (up_to : i ≡ length (values_to_last_known (take n known)) + left) where
   pub found_any : left < here.anys → get_or (all known rest) i any_val ≡ any_val
   found_any h = any_there known rest n here lt is i (omega (arith, up_to)) (omega (arith, up_to))
 
   pub found_value : here.anys ≡ left → here.value ≡ get_or (all known rest) i any_val
   found_value h =
-      let e : length (compact_front (take n known)) + here.anys ≡ i = omega (arith, up_to) in
+      let e : length (values_to_last_known (take n known)) + here.anys ≡ i = omega (arith, up_to) in
       sym (value_there known rest n here lt is) ∙ ap (λ (m : ℕ). get_or (all known rest) m any_val) e
 
-  pub found_further : here.anys < left → i ≡ length (compact_front (take (n + 1) known)) + (left - here.anys - 1)
+  pub found_further : here.anys < left → i ≡ length (values_to_last_known (take (n + 1) known)) + (left - here.anys - 1)
   found_further further = omega (arith, up_to, further, length-front known rest n here lt is)
 
 -- ---- a known value that is written or spelled after those before it
 module _ (known : List SpacedValue) (rest n : ℕ) (here : SpacedValue) (lt : n < length known) (is : here ≡ get_or known n here) where
   pub spelled_more : (old : List ℕ)
-      → ((old ++ flat_map bytes_of_value (compact_front (take n known))) ++ replicate here.anys 0) ++ bytes_of_value here.value ≡ old ++ flat_map bytes_of_value (compact_front (take (n + 1) known))
+      → ((old ++ flat_map bytes_of_value (values_to_last_known (take n known))) ++ replicate here.anys 0) ++ bytes_of_value here.value ≡ old ++ flat_map bytes_of_value (values_to_last_known (take (n + 1) known))
   spelled_more old =
-      let so_far = flat_map bytes_of_value (compact_front (take n known)) in
+      let so_far = flat_map bytes_of_value (values_to_last_known (take n known)) in
       let value = bytes_of_value here.value in
       append_assoc (old ++ so_far) (replicate here.anys 0) value
       ∙ append_assoc old so_far (replicate here.anys 0 ++ value)
@@ -391,19 +391,19 @@ module _ (known : List SpacedValue) (rest n : ℕ) (here : SpacedValue) (lt : n 
       (ap (λ (l : List ℕ). so_far ++ (l ++ value)) (sym (bytes_of_anys here.anys))
       ∙ ap (λ (l : List ℕ). so_far ++ (flat_map bytes_of_value (replicate here.anys any_val) ++ l)) (sym (append-nil value))
       ∙ ap (λ (l : List ℕ). so_far ++ l) (sym (flat_map-append bytes_of_value (replicate here.anys any_val) (here.value ∷ [])))
-      ∙ sym (flat_map-append bytes_of_value (compact_front (take n known)) (replicate here.anys any_val ++ here.value ∷ []))
+      ∙ sym (flat_map-append bytes_of_value (values_to_last_known (take n known)) (replicate here.anys any_val ++ here.value ∷ []))
       ∙ ap (λ (l : List Val). flat_map bytes_of_value l) (sym (front_more known rest n here lt is)))
 
-  pub written_more : (compact_front (take n known) ++ replicate here.anys any_val) ++ here.value ∷ [] ≡ compact_front (take (n + 1) known)
-  written_more = append_assoc (compact_front (take n known)) (replicate here.anys any_val) (here.value ∷ []) ∙ sym (front_more known rest n here lt is)
+  pub written_more : (values_to_last_known (take n known) ++ replicate here.anys any_val) ++ here.value ∷ [] ≡ values_to_last_known (take (n + 1) known)
+  written_more = append_assoc (values_to_last_known (take n known)) (replicate here.anys any_val) (here.value ∷ []) ∙ sym (front_more known rest n here lt is)
 
-pub spelled_all : (known : List SpacedValue) (rest : ℕ) (old : List ℕ) → (old ++ flat_map bytes_of_value (compact_front known)) ++ replicate rest 0 ≡ old ++ flat_map bytes_of_value (all known rest)
+pub spelled_all : (known : List SpacedValue) (rest : ℕ) (old : List ℕ) → (old ++ flat_map bytes_of_value (values_to_last_known known)) ++ replicate rest 0 ≡ old ++ flat_map bytes_of_value (all known rest)
 spelled_all known rest old =
-    append_assoc old (flat_map bytes_of_value (compact_front known)) (replicate rest 0)
+    append_assoc old (flat_map bytes_of_value (values_to_last_known known)) (replicate rest 0)
     ∙ ap (λ (l : List ℕ). old ++ l)
-    (ap (λ (l : List ℕ). flat_map bytes_of_value (compact_front known) ++ l) (sym (bytes_of_anys rest)) ∙ sym (flat_map-append bytes_of_value (compact_front known) (replicate rest any_val)))
+    (ap (λ (l : List ℕ). flat_map bytes_of_value (values_to_last_known known) ++ l) (sym (bytes_of_anys rest)) ∙ sym (flat_map-append bytes_of_value (values_to_last_known known) (replicate rest any_val)))
 
 -- a known value is one of all
 pub known_well : (known : List SpacedValue) (rest n : ℕ) (here : SpacedValue) → n < length known → here ≡ get_or known n here → All IsWellFormed (all known rest) → IsWellFormed here.value
 known_well known rest n here lt is well =
-    subst IsWellFormed (value_there known rest n here lt is) (well (length (compact_front (take n known)) + here.anys) any_val (is_within known rest n here lt is))
+    subst IsWellFormed (value_there known rest n here lt is) (well (length (values_to_last_known (take n known)) + here.anys) any_val (is_within known rest n here lt is))

@@ -4,38 +4,38 @@ use Rattle.std.proofs.lemmas.List.{append-nil, append_assoc, drop_all, drop_more
 use Rattle.value_domain.specs.declared.values.Val.{Val}
 use Rattle.value_domain.specs.Values.{any_val}
 use Rattle.small_states.specs.declared.values.SpacedValue.{SpacedValue}
-use Rattle.small_states.specs.CompactForms.{compact_front}
+use Rattle.small_states.specs.CompactForms.{values_to_last_known}
 use Rattle.small_states.proofs.SparseLemmas.{all, all_few, all_parts, is_within, length-front}
 
 -- the last values after the first n known ones were written over them
 pub record IsWrittenTo (known last : List SpacedValue) (rest n at : ℕ) (regs : List Val) : Type 0 where
   pub are : regs ≡ all (take n known ++ drop n last) rest
-  pub up_to : at ≡ length (compact_front (take n known))
+  pub up_to : at ≡ length (values_to_last_known (take n known))
 
 pub none_written : (known last : List SpacedValue) (rest : ℕ) (regs : List Val) → regs ≡ all last rest → IsWrittenTo known last rest 0 0 regs
 none_written known last rest regs are = record { are = are; up_to = refl }
 
 -- one value over another with the same gap
 over : (xs ys : List SpacedValue) (k here : SpacedValue) (rest : ℕ) → k.anys ≡ here.anys
-    → set (all (xs ++ k ∷ ys) rest) (length (compact_front xs) + here.anys) here.value ≡ all ((xs ++ here ∷ []) ++ ys) rest
+    → set (all (xs ++ k ∷ ys) rest) (length (values_to_last_known xs) + here.anys) here.value ≡ all ((xs ++ here ∷ []) ++ ys) rest
 over xs ys k here rest e =
-    let i = length (compact_front xs) + here.anys in
+    let i = length (values_to_last_known xs) + here.anys in
     let anys = replicate here.anys any_val in
-    let after = compact_front ys ++ replicate rest any_val in
+    let after = values_to_last_known ys ++ replicate rest any_val in
     ap (λ (l : List Val). set l i here.value)
-    (all_parts xs ys k rest ∙ ap (λ (m : ℕ). compact_front xs ++ (replicate m any_val ++ k.value ∷ after)) e ∙ sym (append_assoc (compact_front xs) anys (k.value ∷ after)))
-    ∙ set_at (compact_front xs ++ anys) k.value after here.value i (length-append (compact_front xs) anys ∙ ap (λ (m : ℕ). length (compact_front xs) + m) (length-replicate here.anys any_val))
-    ∙ append_assoc (compact_front xs) anys (here.value ∷ after)
+    (all_parts xs ys k rest ∙ ap (λ (m : ℕ). values_to_last_known xs ++ (replicate m any_val ++ k.value ∷ after)) e ∙ sym (append_assoc (values_to_last_known xs) anys (k.value ∷ after)))
+    ∙ set_at (values_to_last_known xs ++ anys) k.value after here.value i (length-append (values_to_last_known xs) anys ∙ ap (λ (m : ℕ). length (values_to_last_known xs) + m) (length-replicate here.anys any_val))
+    ∙ append_assoc (values_to_last_known xs) anys (here.value ∷ after)
     ∙ sym (all_parts xs ys here rest)
     ∙ ap (λ (l : List SpacedValue). all l rest) (sym (append_assoc xs (here ∷ []) ys))
 
 -- the same value instead of another
 equal : (xs ys : List SpacedValue) (k here : SpacedValue) (rest : ℕ) → k.anys ≡ here.anys → k.value ≡ here.value → all (xs ++ k ∷ ys) rest ≡ all ((xs ++ here ∷ []) ++ ys) rest
 equal xs ys k here rest e v =
-    let after = compact_front ys ++ replicate rest any_val in
+    let after = values_to_last_known ys ++ replicate rest any_val in
     all_parts xs ys k rest
-    ∙ ap (λ (m : ℕ). compact_front xs ++ (replicate m any_val ++ k.value ∷ after)) e
-    ∙ ap (λ (u : Val). compact_front xs ++ (replicate here.anys any_val ++ u ∷ after)) v
+    ∙ ap (λ (m : ℕ). values_to_last_known xs ++ (replicate m any_val ++ k.value ∷ after)) e
+    ∙ ap (λ (u : Val). values_to_last_known xs ++ (replicate here.anys any_val ++ u ∷ after)) v
     ∙ sym (all_parts xs ys here rest)
     ∙ ap (λ (l : List SpacedValue). all l rest) (sym (append_assoc xs (here ∷ []) ys))
 
@@ -55,7 +55,7 @@ module _ (known last : List SpacedValue) (rest n at : ℕ) (regs : List Val) (he
   were : regs ≡ all (xs ++ before ∷ ys) rest
   were = so_far.are ∙ ap (λ (l : List SpacedValue). all (xs ++ l) rest) left
 
-  next : at + here.anys + 1 ≡ length (compact_front (take (n + 1) known))
+  next : at + here.anys + 1 ≡ length (values_to_last_known (take (n + 1) known))
   next = omega (arith, so_far.up_to, length-front known rest n here lt is)
 
   pub one_written : IsWrittenTo known last rest (n + 1) (at + here.anys + 1) (set regs (at + here.anys) here.value)
@@ -74,7 +74,7 @@ module _ (known last : List SpacedValue) (rest n at : ℕ) (regs : List Val) (he
     up_to = next;
   }
 
-pub place_within : (known : List SpacedValue) (rest n at : ℕ) (here : SpacedValue) → n < length known → here ≡ get_or known n here → at ≡ length (compact_front (take n known)) → length (all known rest) ≡ 27
+pub place_within : (known : List SpacedValue) (rest n at : ℕ) (here : SpacedValue) → n < length known → here ≡ get_or known n here → at ≡ length (values_to_last_known (take n known)) → length (all known rest) ≡ 27
     → at + here.anys < 27
 place_within known rest n at here lt is up_to long = omega (arith, up_to, long, is_within known rest n here lt is)
 

@@ -6,9 +6,9 @@ use Rattle.std.proofs.lemmas.List.{append-nil, append_assoc, length-append, leng
 use Rattle.std.proofs.Math.Seq.{take-append_seam}
 use Rattle.tcd_base.specs.Bytes.{bytes_of_word}
 use Rattle.value_domain.specs.declared.values.Val.TheVariants.{Set, Span}
-use Rattle.value_domain.specs.Values.{is_any_span}
+use Rattle.value_domain.specs.Values.{is_span_of_all_words}
 use Rattle.depth_cert.specs.Spelling.{bytes_of_value}
-use Rattle.small_states.specs.Zeros.{AreZerosBehind}
+use Rattle.small_states.specs.Zeros.{AreZerosAfter}
 
 set_at : (front ys : List ℕ) (n k y : ℕ) → length front ≡ n → set (front ++ ys) (n + k) y ≡ front ++ set ys k y
 set_at front ys n k y e = set-append_right front ys n (n + k) y e (omega arith) ∙ (let i : (n + k) - n ≡ k = omega arith in ap (λ (j : ℕ). front ++ set ys j y) i)
@@ -58,7 +58,7 @@ taken front bytes n long is =
     ∙ ap (λ (m : ℕ). take m (front ++ replicate (192 - n) 0)) (sym long)
     ∙ take-append_seam front (replicate (192 - n) 0)
 
-behind : (front bytes : List ℕ) (n : ℕ) → n ≤ 192 → length front ≡ n → bytes ≡ front ++ replicate (192 - n) 0 → AreZerosBehind n bytes
+behind : (front bytes : List ℕ) (n : ℕ) → n ≤ 192 → length front ≡ n → bytes ≡ front ++ replicate (192 - n) 0 → AreZerosAfter n bytes
 behind front bytes n within long is =
     let same : take n bytes ≡ front = taken front bytes n long is in
     record {
@@ -68,7 +68,7 @@ behind front bytes n within long is =
     }
 
 -- ---- a byte, a word, zeros after n bytes
-module _ (bytes : List ℕ) (n : ℕ) (so_far : AreZerosBehind n bytes) where
+module _ (bytes : List ℕ) (n : ℕ) (so_far : AreZerosAfter n bytes) where
   abbrev front : List ℕ
   front = take n bytes
 
@@ -84,7 +84,7 @@ module _ (bytes : List ℕ) (n : ℕ) (so_far : AreZerosBehind n bytes) where
     byte_long : length (front ++ x ∷ []) ≡ n + 1
     byte_long = length-append front (x ∷ []) ∙ ap (λ (m : ℕ). m + 1) so_far.long
 
-    pub byte_behind : AreZerosBehind (n + 1) (set bytes n x)
+    pub byte_behind : AreZerosAfter (n + 1) (set bytes n x)
     byte_behind = behind (front ++ x ∷ []) (set bytes n x) (n + 1) room byte_long byte_is
 
     pub byte_taken : take (n + 1) (set bytes n x) ≡ front ++ x ∷ []
@@ -106,7 +106,7 @@ module _ (bytes : List ℕ) (n : ℕ) (so_far : AreZerosBehind n bytes) where
     word_long : length (front ++ bytes_of_word x) ≡ n + 4
     word_long = length-append front (bytes_of_word x) ∙ ap (λ (m : ℕ). m + 4) so_far.long
 
-    pub word_behind : AreZerosBehind (n + 4) word_set
+    pub word_behind : AreZerosAfter (n + 4) word_set
     word_behind = behind (front ++ bytes_of_word x) word_set (n + 4) room word_long word_is
 
     pub word_taken : take (n + 4) word_set ≡ front ++ bytes_of_word x
@@ -153,7 +153,7 @@ module _ (bytes : List ℕ) (n : ℕ) (so_far : AreZerosBehind n bytes) where
         ∙ ap (λ (m : ℕ). m + length (bytes_of_value (Set (x ∷ [])))) (zeros_long anys (omega arith))
         ∙ ap (λ (l : List ℕ). n + anys + length l) (one-bytes x)
 
-    pub one_behind : AreZerosBehind (n + anys + 5) one_set
+    pub one_behind : AreZerosAfter (n + anys + 5) one_set
     one_behind = behind (one_front ++ bytes_of_value (Set (x ∷ []))) one_set (n + anys + 5) room one_long one_is
 
     pub one_taken : take (n + anys + 5) one_set ≡ one_front ++ bytes_of_value (Set (x ∷ []))
@@ -176,10 +176,10 @@ words_further words i k =
     ∙ take-append-drop i (take (i + k) words))
 
 -- ---- a range's value
-pub all_bytes : (lo last step : ℕ) → is_any_span lo last step ≡ true → bytes_of_value (Span lo last step) ≡ 0 ∷ []
+pub all_bytes : (lo last step : ℕ) → is_span_of_all_words lo last step ≡ true → bytes_of_value (Span lo last step) ≡ 0 ∷ []
 unfolding bytes_of_value
 all_bytes lo last step e = rw e refl
 
-pub range_bytes : (lo last step : ℕ) → is_any_span lo last step ≡ false → bytes_of_value (Span lo last step) ≡ (240 + step) ∷ bytes_of_word lo ++ (bytes_of_word last ++ [])
+pub range_bytes : (lo last step : ℕ) → is_span_of_all_words lo last step ≡ false → bytes_of_value (Span lo last step) ≡ (240 + step) ∷ bytes_of_word lo ++ (bytes_of_word last ++ [])
 unfolding bytes_of_value
 range_bytes lo last step e = rw e (ap (λ (l : List ℕ). (240 + step) ∷ bytes_of_word lo ++ l) (sym (append-nil (bytes_of_word last))))

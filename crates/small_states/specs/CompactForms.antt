@@ -19,12 +19,12 @@ abbrev pub spaced_values : SpacedValue → List Val
 spaced_values s = replicate s.anys any_val ++ s.value ∷ []
 
 -- the values of a compact list up to the last known one
-abbrev pub compact_front : List SpacedValue → List Val
-compact_front known = flat_map spaced_values known
+abbrev pub values_to_last_known : List SpacedValue → List Val
+values_to_last_known known = flat_map spaced_values known
 
 -- all values that a compact list stands for, known and unknown ones, in their order
 abbrev pub all_values : Values → List Val
-all_values v = compact_front v.known.items ++ replicate v.rest any_val
+all_values v = values_to_last_known v.known.items ++ replicate v.rest any_val
 
 -- `count` of the values that a compact list stands for, from an index on; unknown values past the
 -- end
@@ -54,5 +54,5 @@ IsOutline (leaving x) o = ⊥
 -- known value
 pub record IsIndexAfter (v : Values) (i n others : ℕ) : Type 0 where
   pub within : n ≤ length v.known.items
-  pub at : i ≡ length (compact_front (take n v.known.items)) + others
+  pub at : i ≡ length (values_to_last_known (take n v.known.items)) + others
   pub before : n < length v.known.items → (d : SpacedValue) → others ≤ (slice_index_or v.known.items n d).anys

@@ -3,7 +3,7 @@ use Rattle.std.specs.Prelude.{◌≡◌, ◌<◌, ◌^◌, ◌++◌, ℕ, Bool, 
 use Rattle.value_domain.specs.declared.values.Val.{Val}
 use Rattle.value_domain.specs.declared.states.State.{State}
 use Rattle.vd_transfer.specs.Changes.{state_after}
-use Rattle.depth_cert.specs.Exits.{state_after_exit, exit_of, lower_values}
+use Rattle.depth_cert.specs.Exits.{state_after_return, exit_of_state, lower_values}
 use Rattle.depth_cert.specs.Spelling.{bytes_of_state}
 use Rattle.depth_cert.specs.Known.{Known, state, leaving}
 use Rattle.small_states.specs.CompactForms.{whole_exit}
@@ -17,8 +17,8 @@ use Rattle.small_states.specs.declared.incoming.Given.TheVariants.{Whole, Compac
 -- the state or exit that flows into a place: after a change, after a return, or at leaving a frame
 abbrev pub incoming_known : Incoming → Known
 incoming_known (Changed s c) = state (state_after s.now c.now)
-incoming_known (After s x kind) = state (state_after_exit s.now (whole_exit x.now) kind)
-incoming_known (Leaving s) = leaving (exit_of s.now)
+incoming_known (After s x kind) = state (state_after_return s.now (whole_exit x.now) kind)
+incoming_known (Leaving s) = leaving (exit_of_state s.now)
 
 -- the state of the point from which something flows into a place
 abbrev pub sender_state : Incoming → State
@@ -29,7 +29,7 @@ sender_state (Leaving s) = s.now
 -- the register values of what flows into a place: 27 of a state, or 14 of an exit
 abbrev pub incoming_values : Incoming → List Val
 incoming_values (Changed s c) = (state_after s.now c.now).regs
-incoming_values (After s x kind) = (state_after_exit s.now (whole_exit x.now) kind).regs
+incoming_values (After s x kind) = (state_after_return s.now (whole_exit x.now) kind).regs
 incoming_values (Leaving s) = lower_values (s.now).regs
 
 -- what flows into a place is an exit, not a state
@@ -52,11 +52,11 @@ incoming_known_with incoming k = if is_incoming_exit incoming then leaving (inco
 
 -- the certificate's bytes of a known state are appended, and its CCPN is a byte; nothing is said of
 -- an exit
-abbrev pub AddsKnownState : Known → List ℕ → List ℕ → Type 0
-AddsKnownState (state s) old new = (new ≡ old ++ bytes_of_state s) × (s.ccpn < 2 ^ 8)
-AddsKnownState (leaving x) old new = Unit {0}
+abbrev pub AppendsKnownState : Known → List ℕ → List ℕ → Type 0
+AppendsKnownState (state s) old new = (new ≡ old ++ bytes_of_state s) × (s.ccpn < 2 ^ 8)
+AppendsKnownState (leaving x) old new = Unit {0}
 
 -- the value of an incoming register, which is given whole or in compact form
-abbrev pub value_of_given : Given → Val
-value_of_given (Whole v) = v.now
-value_of_given (Compact v) = v.now
+abbrev pub incoming_value_of : Given → Val
+incoming_value_of (Whole v) = v.now
+incoming_value_of (Compact v) = v.now

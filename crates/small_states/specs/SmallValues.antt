@@ -7,8 +7,8 @@ use Rattle.small_states.specs.declared.small_value.SmallForm.{SmallForm}
 use Rattle.small_states.specs.declared.small_value.SmallForm.TheVariants.{Any, One, Many, Range}
 
 -- the whole value that the form of a compact one stands for
-abbrev pub small_value_of : SmallForm → Val
-small_value_of Any = any_val
-small_value_of (One x) = Set (x ∷ [])
-small_value_of (Many own) = own.value
-small_value_of (Range lo last step) = Span lo last step
+abbrev pub whole_value : SmallForm → Val
+whole_value Any = any_val
+whole_value (One x) = Set (x ∷ [])
+whole_value (Many own) = own.value
+whole_value (Range lo last step) = Span lo last step

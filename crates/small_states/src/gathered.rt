@@ -3,7 +3,7 @@ ghost use Rattle.std.specs.Prelude.{◌≡◌, ◌≤◌, ◌<◌, ◌+◌, ◌*
 ghost use Rattle.std.specs.List.{flat_map};
 ghost use Rattle.value_domain.specs.declared.values.Val.TheVariants.{Set, Span};
 ghost use Rattle.tcd_base.specs.Bytes.{bytes_of_word};
-ghost use Rattle.value_domain.specs.Values.{is_any_span};
+ghost use Rattle.value_domain.specs.Values.{is_span_of_all_words};
 ghost use Rattle.depth_cert.specs.Spelling.{bytes_of_value};
 
 use crate::values::SpacedValue;
@@ -21,19 +21,19 @@ pub(crate) struct Gathered {
 
 impl Model for Gathered {
     ghost use Rattle.std.specs.Prelude.{ℕ, List, take};
-    ghost use Rattle.small_states.specs.Zeros.{AreZerosBehind};
+    ghost use Rattle.small_states.specs.Zeros.{AreZerosAfter};
 
     ghost Value = { List ℕ };
 
     ghost view = { λ g. take g.len g.bytes };
 
-    ghost invariant = { λ g. AreZerosBehind g.len g.bytes };
+    ghost invariant = { λ g. AreZerosAfter g.len g.bytes };
 }
 
 /// Returns whether a range holds all words, which a certificate spells as a single byte.
 #[inline(always)]
 fn is_all_words_range(lo: u32, last: u32, step: u8) -> bool
-    ensures { result ≡ is_any_span lo last step }
+    ensures { result ≡ is_span_of_all_words lo last step }
 {
     lo == 0 && last == u32::MAX && step == 0
 }

@@ -1,9 +1,9 @@
 // What flows into a place from the duty of a point.
 ghost use Rattle.std.specs.Prelude.{◌≡◌, ◌<◌, ◌-◌, ◌==◌, length, ◌↔◌, IsTrue, IfOk, Some};
 ghost use Rattle.small_states.specs.Incoming.{incoming_known, is_incoming_exit, incoming_known_with, incoming_values, incoming_state_with, incoming_exit_with};
-ghost use Rattle.depth_cert.specs.Known.{known_priority, state, leaving};
+ghost use Rattle.depth_cert.specs.Known.{known_ccpn, state, leaving};
 ghost use Rattle.std.specs.Option.{option_map};
-ghost use Rattle.value_domain.specs.State.{AreValues, AreWellFormed, Covers, joined_states};
+ghost use Rattle.value_domain.specs.State.{AreInLattice, AreWellFormed, Covers, state_join_if_any};
 ghost use Rattle.small_states.specs.CompactForms.{all_values, whole_state, whole_known, whole_exit};
 ghost use Rattle.depth_cert.specs.Exits.{ExitCovers, joined_exit};
 
@@ -54,7 +54,7 @@ pub(crate) struct Context<'a> {
 /// Returns the CCPN of the state or exit that flows into a place.
 #[inline(always)]
 pub fn incoming_ccpn(incoming: &Incoming) -> u8
-    ensures { result ≡ known_priority (incoming_known incoming.now) }
+    ensures { result ≡ known_ccpn (incoming_known incoming.now) }
 {
     match incoming {
         Incoming::Changed(_, change) => change.ccpn,
@@ -158,13 +158,13 @@ pub(crate) fn join_incoming_state(
     incoming: &Incoming,
     k: &Context,
 ) -> Result<Option<SmallKnown>, AllocError>
-    requires left { AreValues b.now (all_values left.now.regs.value) }
-    requires incoming { AreValues b.now (incoming_values incoming.now) }
+    requires left { AreInLattice b.now (all_values left.now.regs.value) }
+    requires incoming { AreInLattice b.now (incoming_values incoming.now) }
     requires long { length (all_values left.now.regs.value)
         ≡ length (incoming_values incoming.now) }
     ensures { IfOk result
         (λ r. r ≡ option_map state
-        (joined_states b.now (whole_state left.now)
+        (state_join_if_any b.now (whole_state left.now)
         (incoming_state_with (incoming_values incoming.now) k.now))) }
 {
     if left.locals.len() != k.locals.len() {
@@ -208,8 +208,8 @@ pub(crate) fn join_incoming_exit(
     incoming: &Incoming,
     k: &Context,
 ) -> Result<Option<SmallKnown>, AllocError>
-    requires exit { AreValues b.now (all_values exit.now.lower.value) }
-    requires incoming { AreValues b.now (incoming_values incoming.now) }
+    requires exit { AreInLattice b.now (all_values exit.now.lower.value) }
+    requires incoming { AreInLattice b.now (incoming_values incoming.now) }
     requires long { length (all_values exit.now.lower.value)
         ≡ length (incoming_values incoming.now) }
     ensures { IfOk result

@@ -1,13 +1,13 @@
 // Lists of compact values: made from what flows in, compared with it, joined with it.
 ghost use Rattle.std.specs.Prelude.{◌≡◌, ◌↔◌, IsTrue, IfOk, OnOk, length, ◌<◌, ◌-◌, ◌==◌, nat_lt, slice_index_or, if◌then◌else◌, ◌≤◌};
-ghost use Rattle.value_domain.specs.State.{AreBelow, AreValues, AreWellFormed, joined_regs};
-ghost use Rattle.vd_transfer.specs.Changes.{base_of, with_put, state_after};
+ghost use Rattle.value_domain.specs.State.{AreBelow, AreInLattice, AreWellFormed, joined_regs};
+ghost use Rattle.vd_transfer.specs.Changes.{base_values, with_write, state_after};
 ghost use Rattle.vd_transfer.specs.EffectsOnStates.{with_lower_unknown_from};
-ghost use Rattle.small_states.specs.Incoming.{sender_state, incoming_values, value_of_given};
+ghost use Rattle.small_states.specs.Incoming.{sender_state, incoming_values, incoming_value_of};
 ghost use Rattle.small_states.specs.CompactForms.{all_values};
 ghost use Rattle.value_domain.specs.Values.{any_val};
 ghost use Rattle.value_domain.specs.State as states;
-ghost use Rattle.depth_cert.specs.Exits.{values_with_lower_from};
+ghost use Rattle.depth_cert.specs.Exits.{values_after_return_from};
 
 use crate::SmallExit;
 use crate::incoming::{Given, Incoming};
@@ -96,8 +96,8 @@ pub(crate) fn join_incoming_values(
     left: &Values,
     incoming: &Incoming,
 ) -> Result<Values, AllocError>
-    requires left { AreValues b.now (all_values left.now) }
-    requires incoming { AreValues b.now (incoming_values incoming.now) }
+    requires left { AreInLattice b.now (all_values left.now) }
+    requires incoming { AreInLattice b.now (incoming_values incoming.now) }
     requires long { length (all_values left.now) ≡ length (incoming_values incoming.now) }
     ensures { IfOk result
         (λ values. all_values values
@@ -133,7 +133,7 @@ pub(crate) fn join_incoming_values(
 pub(crate) fn incoming_value<'a>(incoming: &'a Incoming, any: &'a Small, i: usize) -> Given<'a>
     requires place { i < length (incoming_values incoming.now) }
     requires any { any.now ≡ any_val }
-    ensures { value_of_given result ≡ slice_index_or (incoming_values incoming.now) i any_val }
+    ensures { incoming_value_of result ≡ slice_index_or (incoming_values incoming.now) i any_val }
 {
     match incoming {
         Incoming::Changed(s, c) => {
@@ -205,7 +205,7 @@ fn apply_change(alloc: Global, own: &Rc<Values>, c: &Change) -> Result<Rc<Values
     requires { length (all_values own.now.value) ≡ 27 }
     ensures { IfOk result
         (λ values. all_values values.value
-        ≡ with_put (with_put (with_put (base_of c.now.base (all_values own.now.value)) c.now.first)
+        ≡ with_write (with_write (with_write (base_values c.now.base (all_values own.now.value)) c.now.first)
         c.now.second) c.now.third) }
 {
     if c.first.at.is_none() && c.second.at.is_none() && c.third.at.is_none() {
@@ -225,7 +225,7 @@ fn apply_change(alloc: Global, own: &Rc<Values>, c: &Change) -> Result<Rc<Values
 #[inline(always)]
 fn base_values(alloc: Global, own: &Values, base: Base) -> Result<Values, AllocError>
     requires { length (all_values own.now) ≡ 27 }
-    ensures { IfOk result (λ values. all_values values ≡ base_of base (all_values own.now)) }
+    ensures { IfOk result (λ values. all_values values ≡ base_values base (all_values own.now)) }
 {
     match base {
         Base::Same => own.copy(alloc),
@@ -240,7 +240,7 @@ fn base_values(alloc: Global, own: &Values, base: Base) -> Result<Values, AllocE
 /// Puts one register's value of a change into a compact list, if the change has that value.
 #[inline(always)]
 fn apply_write(alloc: Global, values: &mut Values, write: &RegisterWrite) -> Result<(), AllocError>
-    ensures { OnOk result (all_values values.new ≡ with_put (all_values values.old) write.now) }
+    ensures { OnOk result (all_values values.new ≡ with_write (all_values values.old) write.now) }
 {
     let Some(at) = write.at else {
         return Ok(());
@@ -272,7 +272,7 @@ fn without_lower_values(alloc: Global, own: &Values) -> Result<Values, AllocErro
 fn changed_state_value<'a>(s: &'a State, c: &'a Change, any: &'a Small, i: usize) -> Given<'a>
     requires place { i < 27 }
     requires any { any.now ≡ any_val }
-    ensures { value_of_given result ≡ slice_index_or (state_after s.now c.now).regs i any_val }
+    ensures { incoming_value_of result ≡ slice_index_or (state_after s.now c.now).regs i any_val }
 {
     let _regs = &s.regs[..];
     if c.third.at == Some(i) {
@@ -293,8 +293,8 @@ fn changed_state_value<'a>(s: &'a State, c: &'a Change, any: &'a Small, i: usize
 fn value_after_return<'a>(s: &'a State, exit: &'a SmallExit, any: &'a Small, i: usize) -> Given<'a>
     requires place { i < 27 }
     requires any { any.now ≡ any_val }
-    ensures { value_of_given result
-        ≡ slice_index_or (values_with_lower_from 0 (all_values exit.now.lower.value) s.now.regs) i
+    ensures { incoming_value_of result
+        ≡ slice_index_or (values_after_return_from 0 (all_values exit.now.lower.value) s.now.regs) i
         any_val }
 {
     let _regs = &s.regs[..];
@@ -307,7 +307,7 @@ fn value_after_return<'a>(s: &'a State, exit: &'a SmallExit, any: &'a Small, i: 
 fn base_value<'a>(s: &'a State, base: Base, any: &'a Small, i: usize) -> Given<'a>
     requires place { i < 27 }
     requires any { any.now ≡ any_val }
-    ensures { value_of_given result ≡ slice_index_or (base_of base s.now.regs) i any_val }
+    ensures { incoming_value_of result ≡ slice_index_or (base_values base s.now.regs) i any_val }
 {
     let _regs = &s.regs[..];
     match base {
@@ -328,7 +328,7 @@ fn base_value<'a>(s: &'a State, base: Base, any: &'a Small, i: usize) -> Given<'
 #[inline(always)]
 fn lower_or_caller_value<'a>(i: usize, exit: &'a SmallExit, any: &'a Small, v: &'a Val) -> Given<'a>
     requires { any.now ≡ any_val }
-    ensures { value_of_given result
+    ensures { incoming_value_of result
         ≡ (if states.is_lower_slot i
         then slice_index_or (all_values exit.now.lower.value)
         (if nat_lt i 8 then i else i - 8) any_val

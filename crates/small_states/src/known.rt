@@ -1,8 +1,8 @@
 // What is known at a place.
 ghost use Rattle.std.specs.Prelude.{◌≡◌, ◌↔◌, IsTrue, IfNone, IfOk, IfSome, OnOk, Some};
 ghost use Rattle.small_states.specs.CompactForms.{whole_exit, whole_known, IsOutline};
-ghost use Rattle.small_states.specs.Incoming.{AddsKnownState, incoming_known, sender_state};
-ghost use Rattle.depth_cert.specs.Known.{CoversKnown, joined_known, state, leaving, IsNoExit, IsKnownState};
+ghost use Rattle.small_states.specs.Incoming.{AppendsKnownState, incoming_known, sender_state};
+ghost use Rattle.depth_cert.specs.Known.{CoversKnown, joined_known, state, leaving, IsNotExit, IsKnownState};
 ghost use Rattle.depth_cert.specs.WellFormed.{IsWellFormedKnown};
 
 use crate::incoming::{
@@ -229,7 +229,7 @@ impl SmallKnown {
     /// Appends the certificate's bytes of the known state. For an exit, nothing is appended.
     pub fn append_state(&self, _b: &Bounds, out: &mut Vec<u8>) -> Result<(), NoMemory>
         requires { IsWellFormedKnown _b.now self.now }
-        ensures { OnOk result (AddsKnownState self.now out.old.items out.new.items) }
+        ensures { OnOk result (AppendsKnownState self.now out.old.items out.new.items) }
     {
         match &self.form {
             KnownForm::Point(s) => {
@@ -243,7 +243,7 @@ impl SmallKnown {
     /// Returns the compact exit that is known at a place, or `None` for a state.
     pub fn exit(&self) -> Option<&SmallExit>
         ensures some { IfSome result (λ x. self.now ≡ leaving (whole_exit x.now)) }
-        ensures none { IfNone result (IsNoExit self.now) }
+        ensures none { IfNone result (IsNotExit self.now) }
     {
         match &self.form {
             KnownForm::Point(_) => None,

@@ -3,9 +3,9 @@ ghost use Rattle.std.specs.Prelude.{◌≡◌, ◌↔◌, ◌≤◌, ◌<◌, �
 ghost use Rattle.depth_cert.specs.Spelling.{bytes_of_value};
 ghost use Rattle.value_domain.specs.declared.values.Val.TheVariants.{Set, Span};
 ghost use Rattle.value_domain.specs.Sets.{Among, IsAscending};
-ghost use Rattle.value_domain.specs.Values.{IsWellFormed, IsValue, IsBelow, IsMember, any_val, cover, members, join_of};
-ghost use Rattle.small_states.specs.SmallValues.{small_value_of};
-ghost use Rattle.small_states.specs.Incoming.{value_of_given};
+ghost use Rattle.value_domain.specs.Values.{IsWellFormed, IsInLattice, IsBelow, IsMember, any_val, cover, members, join_of};
+ghost use Rattle.small_states.specs.SmallValues.{whole_value};
+ghost use Rattle.small_states.specs.Incoming.{incoming_value_of};
 
 use crate::incoming::Given;
 use depth_cert::write_value;
@@ -37,11 +37,11 @@ pub struct Small {
 
 impl Model for Small {
     ghost use Rattle.value_domain.specs.declared.values.Val.{Val};
-    ghost use Rattle.small_states.specs.SmallValues.{small_value_of};
+    ghost use Rattle.small_states.specs.SmallValues.{whole_value};
 
     ghost Value = { Val };
 
-    ghost view = { λ s. small_value_of s.form };
+    ghost view = { λ s. whole_value s.form };
 }
 
 /// Returns true only if a set of words has this word alone.
@@ -139,7 +139,7 @@ fn is_word_in_range(x: u32, lo: u32, last: u32, step: u8) -> bool
 /// Returns the compact form of a range that isn't all words, out of line.
 #[inline(never)]
 fn range_form(lo: u32, last: u32, step: u8) -> SmallForm
-    ensures { small_value_of result ≡ Span lo last step }
+    ensures { whole_value result ≡ Span lo last step }
 {
     SmallForm::Range { lo, last, step }
 }
@@ -285,7 +285,7 @@ impl Small {
     /// Returns a compact copy of an incoming value, which is whole or compact.
     #[inline(always)]
     pub(crate) fn from_incoming(alloc: Global, v: &Given) -> Result<Small, AllocError>
-        ensures { IfOk result (λ s. s ≡ value_of_given v.now) }
+        ensures { IfOk result (λ s. s ≡ incoming_value_of v.now) }
     {
         match v {
             Given::Whole(v) => Small::from_value(alloc, v),
@@ -377,8 +377,8 @@ impl Small {
     #[inline(always)]
     pub(crate) fn covers_incoming(&self, v: &Given) -> bool
         requires own { IsWellFormed self.now }
-        requires value { IsWellFormed (value_of_given v.now) }
-        ensures { IsTrue result ↔ IsBelow (value_of_given v.now) self.now }
+        requires value { IsWellFormed (incoming_value_of v.now) }
+        ensures { IsTrue result ↔ IsBelow (incoming_value_of v.now) self.now }
     {
         match v {
             Given::Whole(v) => self.covers(v),
@@ -389,8 +389,8 @@ impl Small {
     /// Returns the least compact value with the members of this one and of a whole one.
     #[inline(always)]
     pub fn join(&self, alloc: Global, b: &Bounds, v: &Val) -> Result<Small, AllocError>
-        requires own { IsValue b.now self.now }
-        requires value { IsValue b.now v.now }
+        requires own { IsInLattice b.now self.now }
+        requires value { IsInLattice b.now v.now }
         ensures { IfOk result (λ s. s ≡ join_of b.now self.now v.now) }
     {
         if self.stands_for(v) {
@@ -415,9 +415,9 @@ impl Small {
         b: &Bounds,
         v: &Given,
     ) -> Result<Small, AllocError>
-        requires own { IsValue b.now self.now }
-        requires value { IsValue b.now (value_of_given v.now) }
-        ensures { IfOk result (λ s. s ≡ join_of b.now self.now (value_of_given v.now)) }
+        requires own { IsInLattice b.now self.now }
+        requires value { IsInLattice b.now (incoming_value_of v.now) }
+        ensures { IfOk result (λ s. s ≡ join_of b.now self.now (incoming_value_of v.now)) }
     {
         match v {
             Given::Whole(v) => self.join(alloc, b, v),
@@ -543,8 +543,8 @@ impl Small {
         v: &Val,
         words: &[u32],
     ) -> Result<Small, AllocError>
-        requires own { IsValue b.now self.now }
-        requires value { IsValue b.now v.now }
+        requires own { IsInLattice b.now self.now }
+        requires value { IsInLattice b.now v.now }
         requires words { v.now ≡ Set words.now }
         ensures { IfOk result (λ s. s ≡ join_of b.now self.now v.now) }
     {
@@ -575,8 +575,8 @@ impl Small {
     /// if that covers the other.
     #[inline(never)]
     fn join_range(&self, alloc: Global, b: &Bounds, v: &Val) -> Result<Small, AllocError>
-        requires own { IsValue b.now self.now }
-        requires value { IsValue b.now v.now }
+        requires own { IsInLattice b.now self.now }
+        requires value { IsInLattice b.now v.now }
         ensures { IfOk result (λ s. s ≡ join_of b.now self.now v.now) }
     {
         if let Val::Span { lo, last, step } = v {
@@ -599,7 +599,7 @@ impl Small {
         words: &[u32],
         others: &[u32],
     ) -> Result<Small, AllocError>
-        requires { IsValue b.now (Set words.now) }
+        requires { IsInLattice b.now (Set words.now) }
         ensures { IfOk result (λ s. s ≡ cover b.now (words.now ++ others.now)) }
     {
         let mut out = Val::one(0);
@@ -616,7 +616,7 @@ impl Small {
     /// added to a whole copy.
     #[inline(never)]
     fn with_words(&self, alloc: Global, b: &Bounds, words: &[u32]) -> Result<Small, AllocError>
-        requires own { IsValue b.now self.now }
+        requires own { IsInLattice b.now self.now }
         ensures { IfOk result (λ s. s ≡ cover b.now (members self.now ++ words.now)) }
     {
         let mut out = Val::one(0);
@@ -641,8 +641,8 @@ impl Small {
     /// added to a whole copy.
     #[inline(never)]
     fn join_whole(&self, alloc: Global, b: &Bounds, v: &Val) -> Result<Small, AllocError>
-        requires own { IsValue b.now self.now }
-        requires value { IsValue b.now v.now }
+        requires own { IsInLattice b.now self.now }
+        requires value { IsInLattice b.now v.now }
         ensures { IfOk result (λ s. s ≡ join_of b.now self.now v.now) }
     {
         let mut out = Val::one(0);
@@ -683,8 +683,8 @@ impl Small {
     /// found unequal.
     #[inline(never)]
     fn join_compact(&self, alloc: Global, b: &Bounds, v: &Small) -> Result<Small, AllocError>
-        requires own { IsValue b.now self.now }
-        requires value { IsValue b.now v.now }
+        requires own { IsInLattice b.now self.now }
+        requires value { IsInLattice b.now v.now }
         ensures { IfOk result (λ s. s ≡ join_of b.now self.now v.now) }
     {
         match &v.form {
@@ -703,8 +703,8 @@ impl Small {
     /// whole first.
     #[inline(never)]
     fn join_as_whole(&self, alloc: Global, b: &Bounds, v: &Small) -> Result<Small, AllocError>
-        requires own { IsValue b.now self.now }
-        requires value { IsValue b.now v.now }
+        requires own { IsInLattice b.now self.now }
+        requires value { IsInLattice b.now v.now }
         ensures { IfOk result (λ s. s ≡ join_of b.now self.now v.now) }
     {
         self.join(alloc, b, &v.value())

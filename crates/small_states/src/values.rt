@@ -1,8 +1,8 @@
 // Sparse lists of values: only known values take room. A value is unknown if it holds all words.
 ghost use Rattle.std.specs.Prelude.{◌≡◌, ◌+◌, ◌-◌, ◌^◌, ◌<◌, ◌≤◌, ◌++◌, ◌∷◌, [], IfOk, OnOk, length, replicate, take, slice_index_or, slice_set, IsTrue};
 ghost use Rattle.value_domain.specs.Values.{any_val};
-ghost use Rattle.small_states.specs.CompactForms.{all_values, compact_front, values_from, IsIndexAfter};
-ghost use Rattle.small_states.specs.Incoming.{value_of_given};
+ghost use Rattle.small_states.specs.CompactForms.{all_values, values_to_last_known, values_from, IsIndexAfter};
+ghost use Rattle.small_states.specs.Incoming.{incoming_value_of};
 ghost use Rattle.small_states.specs.declared.values.SpacedValue as spaced;
 ghost use Rattle.value_domain.specs.State.{AreBelow, AreWellFormed};
 
@@ -80,7 +80,7 @@ impl Values {
     /// Returns the value at an index of a compact list. `any` is returned for an unknown value.
     pub(crate) fn value_or_any<'a>(&'a self, any: &'a Small, i: usize) -> Given<'a>
         requires { any.now ≡ any_val }
-        ensures { value_of_given result ≡ slice_index_or (all_values self.now) i any_val }
+        ensures { incoming_value_of result ≡ slice_index_or (all_values self.now) i any_val }
     {
         let (n, anys) = self.locate_index(i);
         if n < self.known.len() {
@@ -217,7 +217,7 @@ impl Values {
         ensures { OnOk result
             (all_values self.new
             ≡ slice_set (all_values self.old)
-            (length (compact_front (take n self.old.known.items)) + anys) value) }
+            (length (values_to_last_known (take n self.old.known.items)) + anys) value) }
     {
         let past = self.known[n].anys as usize - anys;
         if past == 0 {
@@ -244,7 +244,7 @@ impl Values {
         ensures { OnOk result
             (all_values self.new
             ≡ slice_set (all_values self.old)
-            (length (compact_front self.old.known.items) + anys) value) }
+            (length (values_to_last_known self.old.known.items) + anys) value) }
     {
         let rest = self.rest as usize;
         if rest <= anys || value.is_any() {

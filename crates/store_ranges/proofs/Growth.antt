@@ -7,14 +7,14 @@ use Rattle.elf_image.specs.Images.{ImageData, image_byte}
 use Rattle.elf_image.proofs.ReadBytes.{byte_lt}
 use Rattle.tcd_base.specs.declared.range.Range.{Range}
 use Rattle.tcd_plan.specs.declared.plans.Device.{Device}
-use Rattle.tcd_plan.specs.PlanData.{PlanData, IsPlan, are_all_ranges_apart, areas_range, is_plan_device}
+use Rattle.tcd_plan.specs.PlanData.{PlanData, IsPlan, are_all_ranges_disjoint, areas_range, is_plan_device}
 use Rattle.tcd_base.specs.Ranges.{IsWithinRange, IsInOneRange, is_within_range}
 use Rattle.tcd_plan.specs.MappedAddresses.{IsInDevice}
 use Rattle.value_domain.specs.declared.values.Val.{Val}
 use Rattle.value_domain.specs.declared.values.Val.TheVariants.{Set, Span}
 use Rattle.value_domain.specs.Sets.{Among, Within}
 use Rattle.value_domain.specs.Limits.{Limits}
-use Rattle.value_domain.specs.Values.{IsValue, IsBelow, range}
+use Rattle.value_domain.specs.Values.{IsInLattice, IsBelow, multiples_in_range}
 use Rattle.value_domain.proofs.SetLaws.{distinct-rising, length-distinct}
 use Rattle.value_domain.proofs.CoverLaws.{cover_mono, range_among, among_member, member_among}
 use Rattle.value_domain.proofs.ExtentLaws.{among_append, many_span}
@@ -103,7 +103,7 @@ module _ (plan : PlanData) (ok : IsPlan plan) where
 
 -- ---- one peripheral
 -- a peripheral that is found with more accesses is found with fewer
-found_fewer : (p q : Device → Bool) (x : ℕ) (rest : List Range) (ds : List Device) (d : Device) → are_all_ranges_apart (map (λ d. d.range) ds ++ rest) ≡ true
+found_fewer : (p q : Device → Bool) (x : ℕ) (rest : List Range) (ds : List Device) (d : Device) → are_all_ranges_disjoint (map (λ d. d.range) ds ++ rest) ≡ true
     → ((c : Device) → q c ≡ true → p c ≡ true) → ((c : Device) → p c ≡ true → IsWithinRange x 1 c.range) → find q ds ≡ Some d → find p ds ≡ Some d
 found_fewer p q x rest [] d apart narrow at e = absurd (let f : None ≡ Some d = e in cc)
 found_fewer p q x rest (c ∷ ds) d apart narrow at e =
@@ -129,8 +129,8 @@ module _ (plan : PlanData) (ok : IsPlan plan) where
   device_fewer size xs ys d x i there e =
       let found = only_words plan ok size ys d e in
       let devices = map (λ d. d.range) plan.devices in
-      let apart : are_all_ranges_apart (devices ++ areas_range plan ∷ []) ≡ true =
-      all_apart-behind (plan.rom ++ plan.ram) (devices ++ areas_range plan ∷ []) (sym (ap are_all_ranges_apart (append_assoc (plan.rom ++ plan.ram) devices (areas_range plan ∷ []))) ∙ ok.apart)
+      let apart : are_all_ranges_disjoint (devices ++ areas_range plan ∷ []) ≡ true =
+      all_apart-behind (plan.rom ++ plan.ram) (devices ++ areas_range plan ∷ []) (sym (ap are_all_ranges_disjoint (append_assoc (plan.rom ++ plan.ram) devices (areas_range plan ∷ []))) ∙ ok.apart)
       in
       let fewer : find (λ d. list_all (λ x. is_within_range x 4 d.range) xs) plan.devices ≡ Some d =
       found_fewer (λ d. list_all (λ x. is_within_range x 4 d.range) xs) (λ d. list_all (λ x. is_within_range x 4 d.range) ys) x (areas_range plan ∷ []) plan.devices d apart
@@ -174,24 +174,24 @@ module _ (plan : PlanData) (ok : IsPlan plan) where
         let f = loaded_words_at image plan size signed in
         omega (arith, length-append (f w) (flat_map f ws), given_more plan ok image size signed w (rom_number image plan w size))
 
-    grow : (b : Limits) (v w : Val) → IsValue b v → IsValue b w → IsBelow v w → IsBelow (load_value_of b image plan v size signed) (load_value_of b image plan w size signed)
+    grow : (b : Limits) (v w : Val) → IsInLattice b v → IsInLattice b w → IsBelow v w → IsBelow (load_value_of b image plan v size signed) (load_value_of b image plan w size signed)
     grow b (Set vs) (Set ws) vv vw below =
         cover_mono b (flat_map (loaded_words_at image plan size signed) vs) (flat_map (loaded_words_at image plan size signed) ws) (flat_some vs vv.well.some)
         (λ z i. let x = flat_among (loaded_words_at image plan size signed) z vs i in among_flat (loaded_words_at image plan size signed) x.0 z ws (below x.0 x.1) x.2)
     grow b (Set vs) (Span lo last step) vv vw below =
-        cover_mono b (flat_map (loaded_words_at image plan size signed) vs) (answers_to_load size signed (device_of_loads plan size (range lo last step))) (flat_some vs vv.well.some)
+        cover_mono b (flat_map (loaded_words_at image plan size signed) vs) (answers_to_load size signed (device_of_loads plan size (multiples_in_range lo last step))) (flat_some vs vv.well.some)
         (λ z i.
         let x = flat_among (loaded_words_at image plan size signed) z vs i in
-        given_answers x.0 (range lo last step) (device_of_loads plan size (range lo last step)) (among_member (Span lo last step) x.0 vw.well.0 (below x.0 x.1)) refl z x.2)
+        given_answers x.0 (multiples_in_range lo last step) (device_of_loads plan size (multiples_in_range lo last step)) (among_member (Span lo last step) x.0 vw.well.0 (below x.0 x.1)) refl z x.2)
     grow b (Span lo last step) (Set ws) vv vw below =
         absurd (let long = many_span b lo last step vv in
         let short = (set_value b ws vw.well).1 vw in
-        let inside = length-distinct (range lo last step) ws (λ z i. below z (member_among (Span lo last step) z vv.well.0 i)) in
+        let inside = length-distinct (multiples_in_range lo last step) ws (λ z i. below z (member_among (Span lo last step) z vv.well.0 i)) in
         let inside2 = rw (distinct-rising ws vw.well.rising) at inside in
         omega arith)
     grow b (Span lo last step) (Span lo2 last2 step2) vv vw below =
-        let xs = range lo last step in
-        let ys = range lo2 last2 step2 in
+        let xs = multiples_in_range lo last step in
+        let ys = multiples_in_range lo2 last2 step2 in
         cover_mono b (answers_to_load size signed (device_of_loads plan size xs)) (answers_to_load size signed (device_of_loads plan size ys)) (answers_more plan ok size signed xs)
         (answers_answers xs ys _ (device_of_loads plan size ys) (among_get xs 0 (some_members (Span lo last step) vv.well))
         (λ z i. among_member (Span lo2 last2 step2) z vw.well.0 (below z (member_among (Span lo last step) z vv.well.0 i))) refl)

@@ -10,7 +10,7 @@ use Rattle.tcd_plan.specs.PlanData.{PlanData, IsPlan, is_plan_device, is_plan_ra
 use Rattle.value_domain.specs.Sets.{Among, IsExtent}
 use Rattle.value_domain.specs.Limits.{Limits}
 use Rattle.value_domain.specs.declared.values.Val.{Val}
-use Rattle.value_domain.specs.Values.{IsWellFormed, cover, members, span_len, first_in_span}
+use Rattle.value_domain.specs.Values.{IsWellFormed, cover, members, span_len, first_member_quotient}
 use Rattle.value_domain.proofs.CoverLaws.{length-multiples}
 use Rattle.value_domain.proofs.ExtentLaws.{append_left, append_right, cover-part}
 use Rattle.value_domain.proofs.RangeLaws.{some_members}
@@ -64,8 +64,8 @@ device_bounds plan p (Some d) ok e =
 
 -- ---- answers
 pub answers_some : (size : ℕ) (signed : Bool) (device : Option Device) → IfSome device (λ d. d.lo ≤ d.hi) → 1 ≤ length (answers_to_load size signed device)
-answers_some size signed None ordered = simp length-map (omega (arith, length-multiples (span_len 0 (2 ^ (8 * size) - 1) 0) (first_in_span 0 0) (2 ^ 0)))
-answers_some size signed (Some d) ordered = omega (arith, length-multiples (span_len d.lo d.hi 0) (first_in_span d.lo 0) (2 ^ 0))
+answers_some size signed None ordered = simp length-map (omega (arith, length-multiples (span_len 0 (2 ^ (8 * size) - 1) 0) (first_member_quotient 0 0) (2 ^ 0)))
+answers_some size signed (Some d) ordered = omega (arith, length-multiples (span_len d.lo d.hi 0) (first_member_quotient d.lo 0) (2 ^ 0))
 
 -- ---- the words of a Set
 pub among_flat : (f : ℕ → List ℕ) (x z : ℕ) (ws : List ℕ) → Among x ws → Among z (f x) → Among z (flat_map f ws)

@@ -6,18 +6,18 @@ use Rattle.std.specs.List.{find, list_all, list_any, flat_map}
 use Rattle.std.specs.FinMap as map
 use Rattle.std.proofs.lemmas.Bool.{cases_Bool, eqb-true, lt-ltb, le-ltb, cases_lt}
 use Rattle.std.proofs.lemmas.Nat.{pow-add}
-use Rattle.csa_chain.specs.MemoryBytes.{Memory, loaded_number, extend_loaded_bytes, HasBytes}
+use Rattle.csa_chain.specs.MemoryBytes.{Memory, loaded_number, load_result, HasOnlyBytes}
 use Rattle.elf_image.specs.Images.{ImageData, image_byte}
 use Rattle.tcd_plan.specs.declared.plans.Device.{Device}
-use Rattle.tcd_plan.specs.PlanData.{PlanData, IsPlan, are_all_ranges_apart, areas_range, is_plan_device}
+use Rattle.tcd_plan.specs.PlanData.{PlanData, IsPlan, are_all_ranges_disjoint, areas_range, is_plan_device}
 use Rattle.tcd_base.specs.Ranges.{IsWithinRange, IsInOneRange, is_within_range}
-use Rattle.tcd_plan.specs.MappedAddresses.{IsInDevice, IsMappedBy, AnswersAt}
+use Rattle.tcd_plan.specs.MappedAddresses.{IsInDevice, IsMappedBy, MayAnswerAt}
 use Rattle.tc_mem.specs.PlanMemory.{IsPlanMemory, HoldsRom}
 use Rattle.value_domain.specs.declared.values.Val.{Val}
 use Rattle.value_domain.specs.declared.values.Val.TheVariants.{Set}
 use Rattle.value_domain.specs.Sets.{Among}
 use Rattle.value_domain.specs.Limits.{Limits}
-use Rattle.value_domain.specs.Values.{IsWellFormed, cover, members, range}
+use Rattle.value_domain.specs.Values.{IsWellFormed, cover, members, multiples_in_range}
 use Rattle.value_domain.proofs.CoverLaws.{cover_holds, among_range, among_member, has_step}
 use Rattle.tcd_base.proofs.RangeLaws.{in_one, IsInOne-front, IsInOne-behind, within_true}
 use Rattle.store_ranges.specs.Loads.{HoldsLoads, answers_to_load, device_of_loads, loaded_words_at, number_in_image, loaded_word_or_answers, rom_number}
@@ -39,7 +39,7 @@ byte_lt (Some b) d each h = each b refl
 pub one_more_byte : (n b l p : ℕ) → p ≡ 2 ^ (8 * n) → b < 2 ^ 8 → l < p → b + 2 ^ 8 * l < 2 ^ 8 * p
 one_more_byte n b l p e byte below = omega arith
 
-pub loaded_lt : (mem : Memory) → HasBytes mem → (input x n : ℕ) → loaded_number mem input x n < 2 ^ (8 * n)
+pub loaded_lt : (mem : Memory) → HasOnlyBytes mem → (input x n : ℕ) → loaded_number mem input x n < 2 ^ (8 * n)
 unfolding loaded_number
 loaded_lt mem bytes input x zero = omega arith
 loaded_lt mem bytes input x (suc n) =
@@ -86,8 +86,8 @@ pub device_apart : (plan : PlanData) (y : ℕ) → IsPlan plan → IsInDevice y 
 device_apart plan y ok i mapped =
     let devices = map (λ d. d.range) plan.devices in
     let device = in_ranges y 1 plan.devices i in
-    let apart : are_all_ranges_apart ((plan.rom ++ plan.ram) ++ (devices ++ areas_range plan ∷ [])) ≡ true =
-    sym (ap are_all_ranges_apart (append_assoc (plan.rom ++ plan.ram) devices (areas_range plan ∷ []))) ∙ ok.apart
+    let apart : are_all_ranges_disjoint ((plan.rom ++ plan.ram) ++ (devices ++ areas_range plan ∷ [])) ≡ true =
+    sym (ap are_all_ranges_disjoint (append_assoc (plan.rom ++ plan.ram) devices (areas_range plan ∷ []))) ∙ ok.apart
     in
     elim mapped [
       | inl rom ↦ all_apart-before y (plan.rom ++ plan.ram) (devices ++ areas_range plan ∷ []) apart (IsInOne-front y 1 plan.rom plan.ram rom) (IsInOne-front y 1 devices (areas_range plan ∷ []) device)
@@ -119,7 +119,7 @@ loaded-input mem input x small fits none =
     (ap (map.get mem) p2 ∙ none (x + 2) (omega arith) (omega arith)) (ap (map.get mem) p3 ∙ none (x + 3) (omega arith) (omega arith))
 
 -- a word is its own extension
-pub extended-word : (signed : Bool) (w : ℕ) → w < 2 ^ 32 → extend_loaded_bytes signed 4 w ≡ w
+pub extended-word : (signed : Bool) (w : ℕ) → w < 2 ^ 32 → load_result signed 4 w ≡ w
 extended-word false w below = refl
 extended-word true w below = elim (cases_lt w (2 ^ 31)) [
   | inl low ↦ rw (lt-ltb w (2 ^ 31) low) refl
@@ -136,23 +136,23 @@ found_each P p (c ∷ ds) d all e =
     ] e
 
 -- ---- what the machine loads
-module _ (image : ImageData) (plan : PlanData) (ok : IsPlan plan) (mem : Memory) (bytes : HasBytes mem) (memory : IsPlanMemory plan mem) (rom : HoldsRom image plan mem) where
+module _ (image : ImageData) (plan : PlanData) (ok : IsPlan plan) (mem : Memory) (bytes : HasOnlyBytes mem) (memory : IsPlanMemory plan mem) (rom : HoldsRom image plan mem) where
   -- from a peripheral
-  device_has : (input x : ℕ) (signed : Bool) (p : Device → Bool) (d : Device) → input < 2 ^ 32 → AnswersAt x input plan.devices → find p plan.devices ≡ Some d → IsWithinRange x 4 d.range
-      → Among (extend_loaded_bytes signed 4 (loaded_number mem input x 4)) (range d.lo d.hi 0)
+  device_has : (input x : ℕ) (signed : Bool) (p : Device → Bool) (d : Device) → input < 2 ^ 32 → MayAnswerAt x input plan.devices → find p plan.devices ≡ Some d → IsWithinRange x 4 d.range
+      → Among (load_result signed 4 (loaded_number mem input x 4)) (multiples_in_range d.lo d.hi 0)
   device_has input x signed p d small answer found w =
       let fits = device_fits d (found_all p is_plan_device plan.devices d ok.ranges.devices found) in
       let none : (y : ℕ) → x ≤ y → y < x + 4 → map.get mem y ≡ None =
       λ y low high. unmapped plan mem y ok memory (found_device p plan.devices d y 1 found (omega (arith, w.0), omega (arith, w.1)))
       in
-      let is : extend_loaded_bytes signed 4 (loaded_number mem input x 4) ≡ input =
-      ap (extend_loaded_bytes signed 4) (loaded-input mem input x small (omega (arith, w.1)) none) ∙ extended-word signed input small
+      let is : load_result signed 4 (loaded_number mem input x 4) ≡ input =
+      ap (load_result signed 4) (loaded-input mem input x small (omega (arith, w.1)) none) ∙ extended-word signed input small
       in
       let bounds = found_each (λ (e : Device). IsWithinRange x 4 e.range → (e.lo ≤ input) × (input ≤ e.hi)) p plan.devices d answer found w in
-      subst (λ (z : ℕ). Among z (range d.lo d.hi 0)) (sym is) (among_range input d.lo d.hi 0 (omega arith) (bounds.0, bounds.1, omega arith))
+      subst (λ (z : ℕ). Among z (multiples_in_range d.lo d.hi 0)) (sym is) (among_range input d.lo d.hi 0 (omega arith) (bounds.0, bounds.1, omega arith))
 
-  answers_has : (input x size : ℕ) (signed : Bool) (xs : List ℕ) (o : Option Device) → input < 2 ^ 32 → (size ≡ 4 → AnswersAt x input plan.devices) → Among x xs → device_of_loads plan size xs ≡ o
-      → Among (extend_loaded_bytes signed size (loaded_number mem input x size)) (answers_to_load size signed o)
+  answers_has : (input x size : ℕ) (signed : Bool) (xs : List ℕ) (o : Option Device) → input < 2 ^ 32 → (size ≡ 4 → MayAnswerAt x input plan.devices) → Among x xs → device_of_loads plan size xs ≡ o
+      → Among (load_result signed size (loaded_number mem input x size)) (answers_to_load size signed o)
   answers_has input x size signed xs None small answer i e = anything_has size signed (loaded_number mem input x size) (loaded_lt mem bytes input x size)
   answers_has input x size signed xs (Some d) small answer i e =
       elim (cases_Bool (eqb size 4)) [
@@ -160,13 +160,13 @@ module _ (image : ImageData) (plan : PlanData) (ok : IsPlan plan) (mem : Memory)
             let is : size ≡ 4 = eqb-true size 4 four in
             let found : find (λ d. list_all (λ x. is_within_range x 4 d.range) xs) plan.devices ≡ Some d = rw four at e in
             let w = within_true x 4 d.range (all_at 4 d.range xs x (found_true _ plan.devices d found) i) in
-            subst (λ n. Among (extend_loaded_bytes signed n (loaded_number mem input x n)) (range d.lo d.hi 0)) (sym is) (device_has input x signed _ d small (answer is) found w)
+            subst (λ n. Among (load_result signed n (loaded_number mem input x n)) (multiples_in_range d.lo d.hi 0)) (sym is) (device_has input x signed _ d small (answer is) found w)
         | inr other ↦ absurd (let f : None ≡ Some d = rw other at e in cc)
       ]
 
   -- from an address
-  given_has : (input x size : ℕ) (signed : Bool) (o : Option ℕ) → input < 2 ^ 32 → (size ≡ 4 → AnswersAt x input plan.devices) → rom_number image plan x size ≡ o
-      → Among (extend_loaded_bytes signed size (loaded_number mem input x size)) (loaded_word_or_answers size signed (device_of_loads plan size (x ∷ [])) o)
+  given_has : (input x size : ℕ) (signed : Bool) (o : Option ℕ) → input < 2 ^ 32 → (size ≡ 4 → MayAnswerAt x input plan.devices) → rom_number image plan x size ≡ o
+      → Among (load_result signed size (loaded_number mem input x size)) (loaded_word_or_answers size signed (device_of_loads plan size (x ∷ [])) o)
   given_has input x size signed None small answer e = answers_has input x size signed (x ∷ []) (device_of_loads plan size (x ∷ [])) small answer (inl refl) refl
   given_has input x size signed (Some w) small answer e =
       elim (cases_Bool (list_any (is_within_range x size) plan.rom)) [
@@ -177,7 +177,7 @@ module _ (image : ImageData) (plan : PlanData) (ok : IsPlan plan) (mem : Memory)
             let at : x + (y - x) ≡ y = omega arith in
             rom y b (subst (λ (z : ℕ). IsInOneRange z 1 plan.rom) at (in_one x size (y - x) plan.rom (omega arith) (any_one x size plan.rom t))) is
             in
-            inl (ap (extend_loaded_bytes signed size) (loaded-held image mem input x size w (any_fits plan x size ok t) there held))
+            inl (ap (load_result signed size) (loaded-held image mem input x size w (any_fits plan x size ok t) there held))
         | inr f ↦ absurd (let g : None ≡ Some w = rw f at e in cc)
       ]
 

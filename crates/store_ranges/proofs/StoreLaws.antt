@@ -11,11 +11,11 @@ use Rattle.tcd_plan.specs.MappedAddresses.{IsStoreInRange}
 use Rattle.value_domain.specs.declared.values.Val.{Val}
 use Rattle.value_domain.specs.declared.values.Val.TheVariants.{Set, Span}
 use Rattle.value_domain.specs.Sets.{Among, alignment_log2, IsExtent}
-use Rattle.value_domain.specs.Values.{IsMember, IsWellFormed, members, range}
+use Rattle.value_domain.specs.Values.{IsMember, IsWellFormed, members, multiples_in_range}
 use Rattle.value_domain.proofs.CoverLaws.{step_cases, in_units, from_units, among_range, range_among, among_member, member_among, has_step}
 use Rattle.value_domain.proofs.SetLaws.{twos_le}
 use Rattle.value_domain.proofs.Loops.{among_get}
-use Rattle.store_ranges.specs.Accesses.{IsAccessSize, AreAligned, AreStoresInRange, IsNextAccessAddress, AreStoresInRangeUntil}
+use Rattle.store_ranges.specs.Accesses.{IsAccessSize, AreAligned, AreStoresInRange, IsNextStoreAddress, AreStoresInRangeUntil}
 use Rattle.store_ranges.proofs.Finds.{found_true, found_all, found_one, found_device, unfound_one, unfound_device}
 use Rattle.tcd_base.specs.Ranges.{is_within_range}
 use Rattle.tcd_base.proofs.RangeLaws.{within_true, true_within}
@@ -66,7 +66,7 @@ next_least =
     (λ x y h e. omega arith)
     (λ x y h e. omega arith)
 
-pub next_is : (s x : ℕ) → s ≤ 2 → IsNextAccessAddress s x ((x / 2 ^ s + 1) * 2 ^ s)
+pub next_is : (s x : ℕ) → s ≤ 2 → IsNextStoreAddress s x ((x / 2 ^ s + 1) * 2 ^ s)
 next_is s x small = record {
   above = next_above s small x;
   fits = from_units s small (x / 2 ^ s + 1) ((x / 2 ^ s + 1) * 2 ^ s) refl;
@@ -81,7 +81,7 @@ pub record Walked (plan : PlanData) (least last step size x : ℕ) : Type 0 wher
   pub before : (y : ℕ) → IsMember y (Span least last step) → y < x → IsStoreInRange plan (y, size)
 
 -- from a range to the first member that leaves it
-pub walk_more : (plan : PlanData) (least last step size x end next : ℕ) → Walked plan least last step size x → AreStoresInRangeUntil plan size x end → IsNextAccessAddress step (end - size) next
+pub walk_more : (plan : PlanData) (least last step size x end next : ℕ) → Walked plan least last step size x → AreStoresInRangeUntil plan size x end → IsNextStoreAddress step (end - size) next
     → Walked plan least last step size next
 walk_more plan least last step size x end next w s n = record {
   from = omega (arith, w.from, s.here, n.above);
@@ -112,17 +112,17 @@ pub stores_set : (plan : PlanData) (ws : List ℕ) (size : ℕ) → AreStoresInR
 stores_set plan ws size each = All-from_get_or (λ x. IsStoreInRange plan (x, size)) ws 0 (λ i h. each (get_or ws i 0) (among_get ws i h))
 
 -- ---- a Span from its first member on
-pub span_stores : {least greatest s : ℕ} (plan : PlanData) (lo last step size : ℕ) → IsWellFormed (Span lo last step) → IsExtent (range lo last step) least greatest s
+pub span_stores : {least greatest s : ℕ} (plan : PlanData) (lo last step size : ℕ) → IsWellFormed (Span lo last step) → IsExtent (multiples_in_range lo last step) least greatest s
     → AreStoresInRange plan (Span least last step) size → AreStoresInRange plan (Span lo last step) size
 span_stores plan lo last step size well e each x m = each x (e.low x (among_range x lo last step well.0 m), m.1, m.2)
 
-pub stores_span : {least greatest s : ℕ} (plan : PlanData) (lo last step size : ℕ) → IsWellFormed (Span lo last step) → IsExtent (range lo last step) least greatest s
+pub stores_span : {least greatest s : ℕ} (plan : PlanData) (lo last step size : ℕ) → IsWellFormed (Span lo last step) → IsExtent (multiples_in_range lo last step) least greatest s
     → AreStoresInRange plan (Span lo last step) size → AreStoresInRange plan (Span least last step) size
 stores_span {least} plan lo last step size well e each x m =
     let first = range_among least lo last step well.0 e.low_in in
     each x ((let a : lo ≤ least = first.0 in let b : least ≤ x = m.0 in omega arith), m.1, m.2)
 
-pub first_fits : {least greatest s : ℕ} (lo last step : ℕ) → IsWellFormed (Span lo last step) → IsExtent (range lo last step) least greatest s → step ≤ alignment_log2 least
+pub first_fits : {least greatest s : ℕ} (lo last step : ℕ) → IsWellFormed (Span lo last step) → IsExtent (multiples_in_range lo last step) least greatest s → step ≤ alignment_log2 least
 first_fits {least} lo last step well e = (range_among least lo last step well.0 e.low_in).2
 
 -- ---- multiples of a size

@@ -28,7 +28,7 @@ pub record AreStoresInRangeUntil (plan : PlanData) (size x end : ℕ) : Type 0 w
   pub each : (y : ℕ) → x ≤ y → y + size ≤ end → IsStoreInRange plan (y, size)
 
 -- next is the least multiple of 2 ^ step above x: the next address that a Span of accesses may have
-pub record IsNextAccessAddress (step x next : ℕ) : Type 0 where
+pub record IsNextStoreAddress (step x next : ℕ) : Type 0 where
   pub above : x < next
   pub fits : step ≤ alignment_log2 next
   pub least : (y : ℕ) → x < y → step ≤ alignment_log2 y → next ≤ y

@@ -4,7 +4,7 @@ use Rattle.elf_image.specs.Images.{ImageData, IsImage}
 use Rattle.tcd_plan.specs.PlanData.{PlanData, IsPlan}
 use Rattle.value_domain.specs.declared.values.Val.{Val}
 use Rattle.value_domain.specs.Limits.{Limits}
-use Rattle.value_domain.specs.Values.{IsValue, IsBelow}
+use Rattle.value_domain.specs.Values.{IsInLattice, IsBelow}
 use Rattle.store_ranges.specs.Accesses.{IsAccessSize}
 use Rattle.store_ranges.specs.Loads.{load_value_of}
 
@@ -12,4 +12,4 @@ use Rattle.store_ranges.specs.Loads.{load_value_of}
 abbrev pub LoadsAreMonotone : Type 0
 LoadsAreMonotone =
     (b : Limits) (image : ImageData) (plan : PlanData) (v w : Val) (size : ℕ) (signed : Bool) → IsPlan plan → IsImage image → IsAccessSize size →
-    IsValue b v → IsValue b w → IsBelow v w → IsBelow (load_value_of b image plan v size signed) (load_value_of b image plan w size signed)
+    IsInLattice b v → IsInLattice b w → IsBelow v w → IsBelow (load_value_of b image plan v size signed) (load_value_of b image plan w size signed)

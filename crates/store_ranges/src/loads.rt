@@ -3,7 +3,7 @@ ghost use Rattle.std.specs.Prelude.{◌≡◌, ◌≤◌, ◌<◌, ◌+◌, ◌-
 ghost use Rattle.std.specs.List.{flat_map};
 ghost use Rattle.csa_chain.specs.MemoryBytes as memory;
 ghost use Rattle.tcd_base.specs.Ranges.{is_within_range};
-ghost use Rattle.value_domain.specs.Values.{IsValue, cover, members};
+ghost use Rattle.value_domain.specs.Values.{IsInLattice, cover, members};
 ghost use Rattle.value_domain.specs.declared.values.Val.TheVariants.{Set, Span};
 ghost use Rattle.store_ranges.specs.Accesses.{IsAccessSize};
 ghost use Rattle.store_ranges.specs.Loads as loads;
@@ -29,10 +29,10 @@ pub struct LoadKind {
 /// addresses in `at`. Rom gives the image's word, a peripheral the plan's answers, any other
 /// address any word.
 pub fn load_of(b: &Bounds, image: &Image, plan: &Plan, at: &Val, size: u8, signed: bool) -> Val
-    requires at { IsValue b.now at.now }
+    requires at { IsInLattice b.now at.now }
     requires size { IsAccessSize size }
     ensures loaded { result ≡ load_value_of b.now image.now plan.now at.now size signed }
-    ensures value { IsValue b.now result }
+    ensures value { IsInLattice b.now result }
     ensures sound { HoldsLoads image.now plan.now at.now size signed result }
 {
     let mut out = Val::any();
@@ -43,10 +43,10 @@ pub fn load_of(b: &Bounds, image: &Image, plan: &Plan, at: &Val, size: u8, signe
 /// Overwrites an abstract value with what loads from all addresses in `at` give, as `load_of` does.
 /// A second value is built only for several addresses, some outside rom.
 pub fn write_load(b: &Bounds, image: &Image, plan: &Plan, at: &Val, load: LoadKind, out: &mut Val)
-    requires at { IsValue b.now at.now }
+    requires at { IsInLattice b.now at.now }
     requires size { IsAccessSize load.size }
     ensures loaded { out.new ≡ load_value_of b.now image.now plan.now at.now load.size load.signed }
-    ensures value { IsValue b.now out.new }
+    ensures value { IsInLattice b.now out.new }
     ensures sound { HoldsLoads image.now plan.now at.now load.size load.signed out.new }
 {
     // Reading the plan gives the facts that hold of every plan.
@@ -64,7 +64,7 @@ fn write_loads(b: &Bounds, image: &Image, plan: &Plan, words: &[u32], load: Load
     ensures loaded { out.new
         ≡ cover b.now (flat_map
         (loaded_words_at image.now plan.now load.size load.signed) words.now) }
-    ensures value { IsValue b.now out.new }
+    ensures value { IsInLattice b.now out.new }
 {
     write_load_at(b, image, plan, words[0], load, out);
     for i in 1..words.len() {
@@ -75,11 +75,11 @@ fn write_loads(b: &Bounds, image: &Image, plan: &Plan, words: &[u32], load: Load
 /// Overwrites an abstract value with what loads from a Span of addresses give: a peripheral's
 /// answers if all are in its range, else any word.
 fn write_loads_from_span(b: &Bounds, plan: &Plan, at: &Val, load: LoadKind, out: &mut Val)
-    requires at { IsValue b.now at.now }
+    requires at { IsInLattice b.now at.now }
     requires size { IsAccessSize load.size }
     ensures loaded { out.new ≡ cover b.now (loads.answers_to_load load.size load.signed
         (loads.device_of_loads plan.now load.size (members at.now))) }
-    ensures value { IsValue b.now out.new }
+    ensures value { IsInLattice b.now out.new }
 {
     let e = extent_of(at);
     let device = device_of_load(plan, e.least, e.greatest, load.size);
@@ -92,7 +92,7 @@ fn write_load_at(b: &Bounds, image: &Image, plan: &Plan, x: u32, load: LoadKind,
     requires { IsAccessSize load.size }
     ensures loaded { out.new
         ≡ cover b.now (loaded_words_at image.now plan.now load.size load.signed x) }
-    ensures value { IsValue b.now out.new }
+    ensures value { IsInLattice b.now out.new }
     ensures some { 1 ≤ length (loaded_words_at image.now plan.now load.size load.signed x) }
 {
     let _most_words = b.most_words();
@@ -106,10 +106,10 @@ fn write_load_at(b: &Bounds, image: &Image, plan: &Plan, x: u32, load: LoadKind,
 /// Joins what a load from one more address gives into an abstract value.
 fn join_load_at(b: &Bounds, image: &Image, plan: &Plan, x: u32, load: LoadKind, out: &mut Val)
     requires size { IsAccessSize load.size }
-    requires value { IsValue b.now out.old }
+    requires value { IsInLattice b.now out.old }
     ensures loaded { out.new ≡ cover b.now
         (members out.old ++ loaded_words_at image.now plan.now load.size load.signed x) }
-    ensures value { IsValue b.now out.new }
+    ensures value { IsInLattice b.now out.new }
 {
     let device = device_of_load(plan, x, x, load.size);
     match rom_number(image, plan, x, load.size) {
@@ -139,7 +139,7 @@ fn device_of_load(plan: &Plan, low: u32, high: u32, size: u8) -> Option<Device>
 fn extend_loaded_number(number: u32, load: LoadKind) -> u32
     requires size { IsAccessSize load.size }
     requires below { number < 2 ^ (8 * load.size) }
-    ensures { result ≡ memory.extend_loaded_bytes load.signed load.size number }
+    ensures { result ≡ memory.load_result load.signed load.size number }
 {
     if load.signed {
         sext(number, 8 * load.size)
@@ -154,7 +154,7 @@ fn write_peripheral_answers(b: &Bounds, device: Option<Device>, load: LoadKind, 
     requires size { IsAccessSize load.size }
     requires bounds { IfSome device (λ d. d.lo ≤ d.hi) }
     ensures cover { out.new ≡ cover b.now (loads.answers_to_load load.size load.signed device) }
-    ensures value { IsValue b.now out.new }
+    ensures value { IsInLattice b.now out.new }
     ensures some { 1 ≤ length (loads.answers_to_load load.size load.signed device) }
 {
     match device {
@@ -168,7 +168,7 @@ fn write_peripheral_answers(b: &Bounds, device: Option<Device>, load: LoadKind, 
 fn write_all_loaded_words(b: &Bounds, load: LoadKind, out: &mut Val)
     requires { IsAccessSize load.size }
     ensures cover { out.new ≡ cover b.now (all_loaded_words load.size load.signed) }
-    ensures value { IsValue b.now out.new }
+    ensures value { IsInLattice b.now out.new }
 {
     let _most_words = b.most_words();
     if load.signed {
@@ -183,7 +183,7 @@ fn write_all_loaded_words(b: &Bounds, load: LoadKind, out: &mut Val)
 fn write_unsigned_loaded_words(b: &Bounds, size: u8, out: &mut Val)
     requires { IsAccessSize size }
     ensures cover { out.new ≡ cover b.now (all_loaded_words size false) }
-    ensures value { IsValue b.now out.new }
+    ensures value { IsInLattice b.now out.new }
 {
     let _most_words = b.most_words();
     if size == 4 {
@@ -212,10 +212,10 @@ fn greatest_loaded_number(size: u8) -> u32
 fn join_peripheral_answers(b: &Bounds, device: Option<Device>, load: LoadKind, out: &mut Val)
     requires size { IsAccessSize load.size }
     requires bounds { IfSome device (λ d. d.lo ≤ d.hi) }
-    requires value { IsValue b.now out.old }
+    requires value { IsInLattice b.now out.old }
     ensures cover { out.new
         ≡ cover b.now (members out.old ++ loads.answers_to_load load.size load.signed device) }
-    ensures value { IsValue b.now out.new }
+    ensures value { IsInLattice b.now out.new }
 {
     let mut answers = Val::any();
     write_peripheral_answers(b, device, load, &mut answers);

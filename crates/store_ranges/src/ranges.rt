@@ -4,7 +4,7 @@ ghost use Rattle.tcd_base.specs.Ranges.{is_within_range};
 ghost use Rattle.tcd_plan.specs.MappedAddresses.{IsStoreInRange};
 ghost use Rattle.value_domain.specs.Sets as sets;
 ghost use Rattle.value_domain.specs.declared.values.Val.TheVariants.{Span};
-ghost use Rattle.store_ranges.specs.Accesses.{AreStoresInRange, AreStoresInRangeUntil, IsNextAccessAddress};
+ghost use Rattle.store_ranges.specs.Accesses.{AreStoresInRange, AreStoresInRangeUntil, IsNextStoreAddress};
 
 use tcd_base::Range;
 use tcd_plan::{Device, Plan};
@@ -72,7 +72,7 @@ pub(crate) fn is_span_store_in_range(plan: &Plan, least: u32, last: u32, step: u
 pub(crate) fn next_store_address(x: u64, step: u8) -> u64
     requires step { step ≤ 2 }
     requires small { x ≤ 2 ^ 32 }
-    ensures { IsNextAccessAddress step x result }
+    ensures { IsNextStoreAddress step x result }
 {
     let unit = 1u64 << step;
     (x / unit + 1) * unit

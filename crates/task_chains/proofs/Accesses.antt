@@ -2,7 +2,7 @@
 use Rattle.std.proofs.Common.{◌≡◌, ℕ, zero, suc, ◌+◌, ◌*◌, ◌/◌, ◌%◌, ◌^◌, ◌<◌, ◌⊎◌, inl, inr, false, Option, Some, None, refl, sym, ap, ◌∙◌, subst, arith}
 use Rattle.std.specs.Prelude.{unwrap_or}
 use Rattle.std.specs.FinMap as map
-use Rattle.csa_chain.specs.MemoryBytes.{Memory, is_mapped, loaded_number, with_bytes, HasBytes}
+use Rattle.csa_chain.specs.MemoryBytes.{Memory, is_mapped, loaded_number, with_bytes, HasOnlyBytes}
 use Rattle.csa_chain.proofs.MemoryLaws.{with_byte_gone}
 
 -- a byte that the view lacks, or has as the machine has it
@@ -29,7 +29,7 @@ one_byte seen None input again (inr same) e = ap (λ p. unwrap_or p again) same 
 one_byte seen (Some b) input again (inr same) e = ap (λ p. unwrap_or p again) same
 
 -- the view loads the same if its input is what the machine loaded
-pub load_again : (view mem : Memory) → HasBytes mem → (n x input : ℕ) → ((i : ℕ) → i < n → Agrees view mem ((x + i) % 2 ^ 32)) → x < 2 ^ 32 → loaded_number view (loaded_number mem input x n) x n ≡ loaded_number mem input x n
+pub load_again : (view mem : Memory) → HasOnlyBytes mem → (n x input : ℕ) → ((i : ℕ) → i < n → Agrees view mem ((x + i) % 2 ^ 32)) → x < 2 ^ 32 → loaded_number view (loaded_number mem input x n) x n ≡ loaded_number mem input x n
 unfolding loaded_number
 load_again view mem bytes zero x input agrees lt = refl
 load_again view mem bytes (suc n) x input agrees lt =

@@ -4,7 +4,7 @@ use Rattle.std.proofs.lemmas.Bool.{cases_lt, cases_eq}
 use Rattle.std.specs.FinMap as map
 use Rattle.csa_chain.specs.MemoryBytes.{Memory, is_mapped, with_words}
 use Rattle.csa_chain.specs.Chain.{link_in, link_address}
-use Rattle.csa_chain.specs.ContextWordLaws.{HasContextWords}
+use Rattle.csa_chain.specs.ContextWordLaws.{IsListOfWords}
 use Rattle.csa_chain.proofs.MemoryLaws.{get-with_words_other, is_mapped-with_words}
 use Rattle.csa_chain.proofs.ChainLaws.{SameAreas, SameAreas-written}
 use Rattle.csa_chain.proofs.WordLaws.{upper_words-HasWords, lower_words-HasWords}
@@ -16,18 +16,18 @@ use Rattle.tc_machine.specs.declared.events.Event.{Event}
 use Rattle.tc_machine.specs.declared.events.End.TheVariants.{Running}
 use Rattle.tc_machine.specs.declared.state.Machine.{Machine}
 use Rattle.tc_machine.specs.Machine.{if_running, IsMachine}
-use Rattle.tc_machine.specs.Instructions.{machine_address_ahead, target_of, does}
+use Rattle.tc_machine.specs.Instructions.{wrapping_sum, target_of, does}
 use Rattle.tc_machine.specs.SavesAndRestores.{context_of, with_context_saved, save}
 use Rattle.tc_machine.specs.Fetching.{fetched_instruction}
-use Rattle.tc_machine.specs.Handlers.{at_handler_entry, interrupt}
-use Rattle.tc_machine.specs.Stepping.{is_interrupt_taken, after_found_instruction, machine_after_event, step}
+use Rattle.tc_machine.specs.Handlers.{at_handler_entry, after_interrupt}
+use Rattle.tc_machine.specs.Stepping.{is_interrupt_taken, after_fetch_result, machine_after_event, step}
 use Rattle.tcd_plan.specs.MappedAddresses.{IsInAreas}
 use Rattle.tc_machine.specs.PlanAreas.{consecutive_links, first_link, plan_areas}
 use Rattle.tc_machine.proofs.Saves.{save-is, then_-running}
 use Rattle.tc_machine.proofs.Steps.{with_event, step-is, step_does, does-call}
 use Rattle.tc_machine.proofs.PlanLaws.{link_address-area}
 use Rattle.tc_machine.proofs.Areas.{HasFree, has_free}
-use Rattle.csa_chain.specs.SeveralChains.{times_in_list, sum_over_chains, with_chain, with_chain_word}
+use Rattle.csa_chain.specs.SeveralChains.{occurrences_of, sum_of_first, with_chain, with_chain_word}
 use Rattle.csa_chain.proofs.SeveralLaws.{cond_other, first_avoids, times-first, times-other}
 use Rattle.task_chains.proofs.Twins.{SameBehindFirst, areas_once, reserve_of, Twins, has_shared, Twins-saved}
 
@@ -53,7 +53,7 @@ pub record Alike (plan : PlanData) (n u : ℕ) (word_of : ℕ → ℕ) (chain_of
 
 -- ---- where areas lie
 -- a link in the list of areas is that of an area
-pub area_at : (l n f : ℕ) → times_in_list f (consecutive_links l n) ≢ 0 → (i : ℕ) × (i < n) × (f ≡ l + i)
+pub area_at : (l n f : ℕ) → occurrences_of f (consecutive_links l n) ≢ 0 → (i : ℕ) × (i < n) × (f ≡ l + i)
 area_at l zero f some = absurd (some refl)
 area_at l (suc n) f some =
     elim (cases_eq l f) [
@@ -81,7 +81,7 @@ outside_area {plan = plan} ok mem l i at lt ws few x not_in =
     get-with_words_other mem (link_address l) ws x (out_of x (link_address l) plan.csa_at plan.areas i (length ws) place lt few (in_areas_or_not plan x not_in))
 
 -- ---- contexts
-context_words : (m : Machine) → IsMachine m → (upper : Bool) → HasContextWords 16 (context_of m upper)
+context_words : (m : Machine) → IsMachine m → (upper : Bool) → IsListOfWords 16 (context_of m upper)
 context_words m k true = upper_words-HasWords m.pcxi m.psw m.d m.d m.a k.pcxi k.psw ((k.d).count, (k.d).words) ((k.d).count, (k.d).words) ((k.a).count, (k.a).words)
 context_words m k false = lower_words-HasWords m.pcxi m.psw m.d m.d m.a k.pcxi k.psw ((k.d).count, (k.d).words) ((k.d).count, (k.d).words) ((k.a).count, (k.a).words)
 
@@ -96,7 +96,7 @@ context_alike m mem pcxi fcx false i lt = refl
 module _ {plan : PlanData} (ok : IsPlan plan) (Kept : ℕ → Type 0) (kept : (x : ℕ) → Kept x → IsInAreas plan x → ⊥) {n u : ℕ} {word_of : ℕ → ℕ} {chain_of : ℕ → List ℕ} {seen : List ℕ} (m : Machine) (view : Memory) (pcxi fcx : ℕ)
     (words : IsMachine m) (view_words : IsMachine (seen_as m view pcxi fcx)) (running : m.end ≡ Running)
     (t : Twins plan n u word_of chain_of seen m.mem m.pcxi m.fcx m.lcx view pcxi fcx)
-    (room : sum_over_chains n (λ w. length (chain_of w)) < plan.areas - plan.reserve) (view_room : length seen < plan.areas - plan.reserve) where
+    (room : sum_of_first n (λ w. length (chain_of w)) < plan.areas - plan.reserve) (view_room : length seen < plan.areas - plan.reserve) where
   abbrev v : Machine
   v = seen_as m view pcxi fcx
 
@@ -151,21 +151,21 @@ module _ {plan : PlanData} (ok : IsPlan plan) (Kept : ℕ → Type 0) (kept : (x
   abbrev interrupted : ℕ → Machine
   interrupted irq = record (at_handler_entry m (with_context_saved m true) m.pc (bit_or m.biv (irq * 2 ^ 5))) { ccpn = irq }
 
-  interrupt-is : (irq : ℕ) → interrupt m irq ≡ interrupted irq
+  interrupt-is : (irq : ℕ) → after_interrupt m irq ≡ interrupted irq
   interrupt-is irq =
       ap (λ s. if_running s (λ s. record (at_handler_entry m s m.pc (bit_or m.biv (irq * 2 ^ 5))) { ccpn = irq })) (saves true)
       ∙ then_-running (with_context_saved m true) (λ s. record (at_handler_entry m s m.pc (bit_or m.biv (irq * 2 ^ 5))) { ccpn = irq }) running
 
-  view_interrupt-is : (irq : ℕ) → interrupt v irq ≡ seen_as (interrupted irq) (with_context_saved v true).mem (with_context_saved v true).pcxi (with_context_saved v true).fcx
+  view_interrupt-is : (irq : ℕ) → after_interrupt v irq ≡ seen_as (interrupted irq) (with_context_saved v true).mem (with_context_saved v true).pcxi (with_context_saved v true).fcx
   view_interrupt-is irq =
       ap (λ s. if_running s (λ s. record (at_handler_entry v s v.pc (bit_or v.biv (irq * 2 ^ 5))) { ccpn = irq })) (view_saves true)
       ∙ then_-running (with_context_saved v true) (λ s. record (at_handler_entry v s v.pc (bit_or v.biv (irq * 2 ^ 5))) { ccpn = irq }) running
 
   pub Alike-interrupt : (e e2 : Event) → is_interrupt_taken m e ≡ true → e2.irq ≡ e.irq → e2.status ≡ e.status → Alike plan n u word_of chain_of Kept view m (step m e) (step v e2)
   Alike-interrupt e e2 taken same_irq same_status =
-      let here : machine_after_event m e ≡ interrupted e.irq = ap (λ b. cond b (interrupt m e.irq) (after_found_instruction m e (fetched_instruction m))) taken ∙ interrupt-is e.irq in
+      let here : machine_after_event m e ≡ interrupted e.irq = ap (λ b. cond b (after_interrupt m e.irq) (after_fetch_result m e (fetched_instruction m))) taken ∙ interrupt-is e.irq in
       let there : machine_after_event v e2 ≡ seen_as (interrupted e.irq) (with_context_saved v true).mem (with_context_saved v true).pcxi (with_context_saved v true).fcx =
-      ap (λ b. cond b (interrupt v e2.irq) (after_found_instruction v e2 (fetched_instruction v))) (ap (λ q. is_interrupt_taken m (record e { irq = q })) same_irq ∙ taken) ∙ view_interrupt-is e2.irq
+      ap (λ b. cond b (after_interrupt v e2.irq) (after_fetch_result v e2 (fetched_instruction v))) (ap (λ q. is_interrupt_taken m (record e { irq = q })) same_irq ∙ taken) ∙ view_interrupt-is e2.irq
       ∙ ap (λ q. seen_as (interrupted q) (with_context_saved v true).mem (with_context_saved v true).pcxi (with_context_saved v true).fcx) same_irq
       in
       let m_is : step m e ≡ with_event (interrupted e.irq) e = step-is m e running (ap (λ x. x.end) here ∙ running) ∙ ap (λ x. with_event x e) here in
@@ -178,7 +178,7 @@ module _ {plan : PlanData} (ok : IsPlan plan) (Kept : ℕ → Type 0) (kept : (x
 
   -- ---- a call
   abbrev entered : Target → ℕ → Machine
-  entered to k = record (with_context_saved m true) { a = set m.a 11 (machine_address_ahead m.pc k); pc = target_of m to }
+  entered to k = record (with_context_saved m true) { a = set m.a 11 (wrapping_sum m.pc k); pc = target_of m to }
 
   target_same : (to : Target) → target_of v to ≡ target_of m to
   target_same (target.Rel by) = refl
@@ -187,13 +187,13 @@ module _ {plan : PlanData} (ok : IsPlan plan) (Kept : ℕ → Type 0) (kept : (x
 
   call-is : (e : Event) (to : Target) (k : ℕ) → does m e (Call to) k ≡ entered to k
   call-is e to k =
-      does-call m e to k ∙ ap (λ s. if_running s (λ s. record s { a = set s.a 11 (machine_address_ahead m.pc k); pc = target_of m to })) (saves true)
-      ∙ then_-running (with_context_saved m true) (λ s. record s { a = set s.a 11 (machine_address_ahead m.pc k); pc = target_of m to }) running
+      does-call m e to k ∙ ap (λ s. if_running s (λ s. record s { a = set s.a 11 (wrapping_sum m.pc k); pc = target_of m to })) (saves true)
+      ∙ then_-running (with_context_saved m true) (λ s. record s { a = set s.a 11 (wrapping_sum m.pc k); pc = target_of m to }) running
 
   view_call-is : (e : Event) (to : Target) (k : ℕ) → does v e (Call to) k ≡ seen_as (entered to k) (with_context_saved v true).mem (with_context_saved v true).pcxi (with_context_saved v true).fcx
   view_call-is e to k =
-      does-call v e to k ∙ ap (λ s. if_running s (λ s. record s { a = set s.a 11 (machine_address_ahead v.pc k); pc = target_of v to })) (view_saves true)
-      ∙ then_-running (with_context_saved v true) (λ s. record s { a = set s.a 11 (machine_address_ahead v.pc k); pc = target_of v to }) running
+      does-call v e to k ∙ ap (λ s. if_running s (λ s. record s { a = set s.a 11 (wrapping_sum v.pc k); pc = target_of v to })) (view_saves true)
+      ∙ then_-running (with_context_saved v true) (λ s. record s { a = set s.a 11 (wrapping_sum v.pc k); pc = target_of v to }) running
       ∙ ap (λ q. record (seen_as (entered to k) (with_context_saved v true).mem (with_context_saved v true).pcxi (with_context_saved v true).fcx) { pc = q }) (target_same to)
 
   pub Alike-call : (e e2 : Event) (to : Target) (k : ℕ) → is_interrupt_taken m e ≡ false → e2.irq ≡ e.irq → e2.status ≡ e.status → fetched_instruction m ≡ Ok (Call to, k) → fetched_instruction v ≡ Ok (Call to, k) → Alike plan n u word_of chain_of Kept view m (step m e) (step v e2)

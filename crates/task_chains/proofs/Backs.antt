@@ -5,7 +5,7 @@ use Rattle.std.proofs.lemmas.Bool.{cases_Bool, eqb-false}
 use Rattle.std.specs.FinMap as map
 use Rattle.csa_chain.specs.MemoryBytes.{Memory, is_mapped}
 use Rattle.csa_chain.specs.Chain.{link_in, link_address, is_area, area_word}
-use Rattle.csa_chain.specs.ContextWords.{ul_of, pie_of, pcpn_of, d_after_upper, a_after_upper, d_after_lower, a_after_lower}
+use Rattle.csa_chain.specs.ContextWords.{ul_of, pie_of, pcpn_of, d_after_upper_restore, a_after_upper_restore, d_after_lower_restore, a_after_lower_restore}
 use Rattle.csa_chain.proofs.MemoryLaws.{is_mapped-with_words}
 use Rattle.csa_chain.proofs.ChainLaws.{SameAreas, SameAreas-written}
 use Rattle.csa_chain.proofs.ContextLaws.{below_16}
@@ -21,7 +21,7 @@ use Rattle.tc_machine.specs.declared.events.End.TheVariants.{Running, Dead}
 use Rattle.tc_machine.specs.declared.state.Machine.{Machine}
 use Rattle.tc_machine.specs.Machine.{a11, dead_machine, if_running, IsMachine}
 use Rattle.tc_machine.specs.Instructions.{with_pc_advanced, does}
-use Rattle.tc_machine.specs.SavesAndRestores.{has_kind, saved_area_words, last_context, with_area_released, with_context_restored, restore}
+use Rattle.tc_machine.specs.SavesAndRestores.{is_last_context_of_kind, saved_area_words, last_context, with_area_released, with_context_restored, restore}
 use Rattle.tc_machine.specs.Fetching.{fetched_instruction}
 use Rattle.tc_machine.specs.Stepping.{is_interrupt_taken, step}
 use Rattle.tcd_plan.specs.MappedAddresses.{IsInAreas}
@@ -30,7 +30,7 @@ use Rattle.tc_machine.proofs.Saves.{restore-is, then_-running}
 use Rattle.tc_machine.proofs.Steps.{with_event, step_does, does-ret}
 use Rattle.tc_machine.proofs.Areas.{is_freed}
 use Rattle.cfg_recover.proofs.Points.{does-rfe, does-rslcx}
-use Rattle.csa_chain.specs.SeveralChains.{times_in_list, with_chain, with_chain_word}
+use Rattle.csa_chain.specs.SeveralChains.{occurrences_of, with_chain, with_chain_word}
 use Rattle.csa_chain.proofs.SeveralLaws.{cond_other, owned_avoids, times-first, sum_below-at}
 use Rattle.task_chains.proofs.Twins.{SameContexts, SameBehindFirst, areas_once, Twins, same_before, links_before, named, Twins-restored}
 use Rattle.task_chains.proofs.Alike.{seen_as, Alike, area_at, outside_area}
@@ -41,17 +41,17 @@ running≢dead cause e = cc
 
 pub record Restores (m : Machine) (upper : Bool) : Type 0 where
   pub some : link_in m.pcxi ≢ 0
-  pub kind : has_kind m upper ≡ true
+  pub kind : is_last_context_of_kind m upper ≡ true
   pub area : is_area m.mem (link_in m.pcxi) ≡ true
 
 pub restores_from : (m : Machine) (upper : Bool) → (restore m upper).end ≡ Running → Restores m upper
 unfolding restore
 restores_from m upper e =
     elim (cases_Bool (link_in m.pcxi == 0)) [
-      | inl none ↦ absurd (running≢dead Csu (sym (ap (λ t. (cond t (dead_machine Csu m) (cond (has_kind m upper) (cond (is_area m.mem (link_in m.pcxi)) (with_context_restored m upper) (dead_machine NoArea m)) (dead_machine Ctyp m))).end) none) ∙ e))
+      | inl none ↦ absurd (running≢dead Csu (sym (ap (λ t. (cond t (dead_machine Csu m) (cond (is_last_context_of_kind m upper) (cond (is_area m.mem (link_in m.pcxi)) (with_context_restored m upper) (dead_machine NoArea m)) (dead_machine Ctyp m))).end) none) ∙ e))
       | inr some ↦
-          let e1 = sym (ap (λ t. (cond t (dead_machine Csu m) (cond (has_kind m upper) (cond (is_area m.mem (link_in m.pcxi)) (with_context_restored m upper) (dead_machine NoArea m)) (dead_machine Ctyp m))).end) some) ∙ e in
-          elim (cases_Bool (has_kind m upper)) [
+          let e1 = sym (ap (λ t. (cond t (dead_machine Csu m) (cond (is_last_context_of_kind m upper) (cond (is_area m.mem (link_in m.pcxi)) (with_context_restored m upper) (dead_machine NoArea m)) (dead_machine Ctyp m))).end) some) ∙ e in
+          elim (cases_Bool (is_last_context_of_kind m upper)) [
             | inr other ↦ absurd (running≢dead Ctyp (sym (ap (λ t. (cond t (cond (is_area m.mem (link_in m.pcxi)) (with_context_restored m upper) (dead_machine NoArea m)) (dead_machine Ctyp m)).end) other) ∙ e1))
             | inl kind ↦
                 let e2 = sym (ap (λ t. (cond t (cond (is_area m.mem (link_in m.pcxi)) (with_context_restored m upper) (dead_machine NoArea m)) (dead_machine Ctyp m)).end) kind) ∙ e1 in
@@ -89,25 +89,25 @@ module _ (ws ws2 rs : List ℕ) (alike : SameBehindFirst ws ws2) where
   at : (i : ℕ) → i < 15 → get_or ws (suc i) 0 ≡ get_or ws2 (suc i) 0
   at i lt = alike i lt
 
-  pub same_d_upper : d_after_upper ws rs ≡ d_after_upper ws2 rs
+  pub same_d_upper : d_after_upper_restore ws rs ≡ d_after_upper_restore ws2 rs
   same_d_upper = λ i.
       get_or rs 0 0 ∷ get_or rs 1 0 ∷ get_or rs 2 0 ∷ get_or rs 3 0 ∷ get_or rs 4 0 ∷ get_or rs 5 0 ∷ get_or rs 6 0 ∷ get_or rs 7 0
       ∷ alike 3 (omega arith) i ∷ alike 4 (omega arith) i ∷ alike 5 (omega arith) i ∷ alike 6 (omega arith) i
       ∷ alike 11 (omega arith) i ∷ alike 12 (omega arith) i ∷ alike 13 (omega arith) i ∷ alike 14 (omega arith) i ∷ []
 
-  pub same_a_upper : a_after_upper ws rs ≡ a_after_upper ws2 rs
+  pub same_a_upper : a_after_upper_restore ws rs ≡ a_after_upper_restore ws2 rs
   same_a_upper = λ i.
       get_or rs 0 0 ∷ get_or rs 1 0 ∷ get_or rs 2 0 ∷ get_or rs 3 0 ∷ get_or rs 4 0 ∷ get_or rs 5 0 ∷ get_or rs 6 0 ∷ get_or rs 7 0
       ∷ get_or rs 8 0 ∷ get_or rs 9 0 ∷ alike 1 (omega arith) i ∷ alike 2 (omega arith) i
       ∷ alike 7 (omega arith) i ∷ alike 8 (omega arith) i ∷ alike 9 (omega arith) i ∷ alike 10 (omega arith) i ∷ []
 
-  pub same_d_lower : d_after_lower ws rs ≡ d_after_lower ws2 rs
+  pub same_d_lower : d_after_lower_restore ws rs ≡ d_after_lower_restore ws2 rs
   same_d_lower = λ i.
       alike 3 (omega arith) i ∷ alike 4 (omega arith) i ∷ alike 5 (omega arith) i ∷ alike 6 (omega arith) i
       ∷ alike 11 (omega arith) i ∷ alike 12 (omega arith) i ∷ alike 13 (omega arith) i ∷ alike 14 (omega arith) i
       ∷ get_or rs 8 0 ∷ get_or rs 9 0 ∷ get_or rs 10 0 ∷ get_or rs 11 0 ∷ get_or rs 12 0 ∷ get_or rs 13 0 ∷ get_or rs 14 0 ∷ get_or rs 15 0 ∷ []
 
-  pub same_a_lower : a_after_lower ws rs ≡ a_after_lower ws2 rs
+  pub same_a_lower : a_after_lower_restore ws rs ≡ a_after_lower_restore ws2 rs
   same_a_lower = λ i.
       get_or rs 0 0 ∷ get_or rs 1 0 ∷ alike 1 (omega arith) i ∷ alike 2 (omega arith) i
       ∷ alike 7 (omega arith) i ∷ alike 8 (omega arith) i ∷ alike 9 (omega arith) i ∷ alike 10 (omega arith) i
@@ -143,17 +143,17 @@ module _ {plan : PlanData} (ok : IsPlan plan) (Kept : ℕ → Type 0) (kept : (x
   there : link_in pcxi ≡ k
   there = (t.view_links).1
 
-  kind_from : (upper : Bool) → ul_of m.core m.pcxi ≡ ul_of m.core pcxi → has_kind v upper ≡ true → has_kind m upper ≡ true
+  kind_from : (upper : Bool) → ul_of m.core m.pcxi ≡ ul_of m.core pcxi → is_last_context_of_kind v upper ≡ true → is_last_context_of_kind m upper ≡ true
   kind_from true same kind = same ∙ kind
   kind_from false same kind = ap not same ∙ kind
 
   -- if the view restores a context, so does the machine
-  pub restores : (upper : Bool) → has_kind v upper ≡ true → restore m upper ≡ with_context_restored m upper
+  pub restores : (upper : Bool) → is_last_context_of_kind v upper ≡ true → restore m upper ≡ with_context_restored m upper
   restores upper kind =
       let ls = links_before ok l used is words.bytes view_words.bytes t in
       restore-is m upper (λ e. ls.0 (sym here ∙ e)) (kind_from upper (same_ul m.core m.pcxi pcxi high) kind) (ap (is_area m.mem) here ∙ ls.2)
 
-  pub view_restores : (upper : Bool) → has_kind v upper ≡ true → restore v upper ≡ with_context_restored v upper
+  pub view_restores : (upper : Bool) → is_last_context_of_kind v upper ≡ true → restore v upper ≡ with_context_restored v upper
   view_restores upper kind = restore-is v upper (λ e. (t.view_links).0 (sym there ∙ e)) kind (ap (is_area view) there ∙ (t.view_links).2)
 
   behind : SameBehindFirst (last_context m) (last_context v)
@@ -176,9 +176,9 @@ module _ {plan : PlanData} (ok : IsPlan plan) (Kept : ℕ → Type 0) (kept : (x
   Alike-restored m2 mem_is pcxi_is fcx_is lcx_is =
       let once = areas_once plan in
       let all = (t.share).each l in
-      let owned = sum_below-at n (λ w. times_in_list l (chain_of w)) u t.own in
+      let owned = sum_below-at n (λ w. occurrences_of l (chain_of w)) u t.own in
       let first = times-first l used in
-      let first_is : times_in_list l (chain_of u) ≡ times_in_list l (l ∷ used) = ap (times_in_list l) is in
+      let first_is : occurrences_of l (chain_of u) ≡ occurrences_of l (l ∷ used) = ap (occurrences_of l) is in
       let at = area_at (first_link plan) plan.areas l (λ none. omega arith) in
       let freed = is_freed view fcx m.lcx k seen t.view_free t.view_areas in
       record {
@@ -209,7 +209,7 @@ module _ {plan : PlanData} (ok : IsPlan plan) (Kept : ℕ → Type 0) (kept : (x
   back_to r = record r { pc = a11 m / 2 * 2 }
 
   -- if both do the same with the restored context, and end alike, the steps are alike
-  pub Alike-back : (upper : Bool) (shape : Shape) (size : ℕ) (after : Machine → Machine) (e e2 : Event) → has_kind v upper ≡ true
+  pub Alike-back : (upper : Bool) (shape : Shape) (size : ℕ) (after : Machine → Machine) (e e2 : Event) → is_last_context_of_kind v upper ≡ true
       → does m e shape size ≡ if_running (restore m upper) after → does v e2 shape size ≡ if_running (restore v upper) after
       → ((r : Machine) → (after r).end ≡ r.end) → ((r : Machine) (mem : Memory) (p f : ℕ) → after (seen_as r mem p f) ≡ seen_as (after r) mem p f)
       → (after (with_context_restored m upper)).mem ≡ (with_area_released m).mem → (after (with_context_restored m upper)).pcxi ≡ (with_area_released m).pcxi → (after (with_context_restored m upper)).fcx ≡ (with_area_released m).fcx → (after (with_context_restored m upper)).lcx ≡ m.lcx
@@ -233,15 +233,15 @@ module _ {plan : PlanData} (ok : IsPlan plan) (Kept : ℕ → Type 0) (kept : (x
       (subst (λ y. Alike plan n u word_of chain_of Kept view m (with_event (after (with_context_restored m upper)) e) y) (sym v_is) (Alike-restored (with_event (after (with_context_restored m upper)) e) mem_is pcxi_is fcx_is lcx_is))
 
   module _ (e e2 : Event) (size : ℕ) (none : is_interrupt_taken m e ≡ false) (same_irq : e2.irq ≡ e.irq) (same_status : e2.status ≡ e.status) where
-    pub Alike-ret : has_kind v true ≡ true → fetched_instruction m ≡ Ok (Ret, size) → fetched_instruction v ≡ Ok (Ret, size) → Alike plan n u word_of chain_of Kept view m (step m e) (step v e2)
+    pub Alike-ret : is_last_context_of_kind v true ≡ true → fetched_instruction m ≡ Ok (Ret, size) → fetched_instruction v ≡ Ok (Ret, size) → Alike plan n u word_of chain_of Kept view m (step m e) (step v e2)
     Alike-ret kind at view_at =
         Alike-back true Ret size back_to e e2 kind (does-ret m e size) (does-ret v e2 size) (λ r. refl) (λ r mem p f. refl) refl refl refl refl none same_irq same_status at view_at
 
-    pub Alike-rslcx : has_kind v false ≡ true → fetched_instruction m ≡ Ok (Rslcx, size) → fetched_instruction v ≡ Ok (Rslcx, size) → Alike plan n u word_of chain_of Kept view m (step m e) (step v e2)
+    pub Alike-rslcx : is_last_context_of_kind v false ≡ true → fetched_instruction m ≡ Ok (Rslcx, size) → fetched_instruction v ≡ Ok (Rslcx, size) → Alike plan n u word_of chain_of Kept view m (step m e) (step v e2)
     Alike-rslcx kind at view_at =
         Alike-back false Rslcx size (with_pc_advanced size) e e2 kind (does-rslcx m e size) (does-rslcx v e2 size) (λ r. refl) (λ r mem p f. refl) refl refl refl refl none same_irq same_status at view_at
 
-    pub Alike-rfe : has_kind v true ≡ true → fetched_instruction m ≡ Ok (Rfe, size) → fetched_instruction v ≡ Ok (Rfe, size) → Alike plan n u word_of chain_of Kept view m (step m e) (step v e2)
+    pub Alike-rfe : is_last_context_of_kind v true ≡ true → fetched_instruction m ≡ Ok (Rfe, size) → fetched_instruction v ≡ Ok (Rfe, size) → Alike plan n u word_of chain_of Kept view m (step m e) (step v e2)
     Alike-rfe kind at view_at =
         Alike-back true Rfe size (λ r. record (back_to r) { ie = pie_of m.core m.pcxi; ccpn = pcpn_of m.core m.pcxi }) e e2 kind (does-rfe m e size)
         (does-rfe v e2 size ∙ (λ i. if_running (restore v true) (λ r. record (back_to r) { ie = sym (same_pie m.core m.pcxi pcxi high) i; ccpn = sym (same_pcpn m.core m.pcxi pcxi high) i })))

@@ -2,10 +2,10 @@
 use Rattle.std.proofs.Common.{◌≡◌, ◌≢◌, ℕ, zero, suc, ◌+◌, ◌-◌, ◌*◌, ◌/◌, ◌%◌, ◌^◌, ◌<◌, ◌≤◌, inl, inr, Bool, true, false, not, List, [], ◌∷◌, length, get_or, Some, Ok, refl, sym, ap, ◌∙◌, subst, arith, ◌==◌}
 use Rattle.std.proofs.lemmas.Bool.{cases_lt}
 use Rattle.std.specs.FinMap as finite
-use Rattle.csa_chain.specs.MemoryBytes.{Memory, is_mapped, with_words, HasBytes}
+use Rattle.csa_chain.specs.MemoryBytes.{Memory, is_mapped, with_words, HasOnlyBytes}
 use Rattle.csa_chain.specs.Chain.{link_in, link_address, is_area, area_word, word_with_link}
 use Rattle.csa_chain.specs.ContextWords.{pcxi_word_of, ul_of}
-use Rattle.csa_chain.specs.SeveralChains.{times_in_list, with_chain, with_chain_word}
+use Rattle.csa_chain.specs.SeveralChains.{occurrences_of, with_chain, with_chain_word}
 use Rattle.csa_chain.proofs.ChainLaws.{Links, SameAreas, area_word_same, SameArea-written, SameAreas-written}
 use Rattle.csa_chain.proofs.ContextLaws.{ul_of-pcxi_word, link_in-with_link, with_link-lt, link_in-lt}
 use Rattle.csa_chain.proofs.MemoryLaws.{is_mapped-with_words}
@@ -15,9 +15,9 @@ use Rattle.elf_image.specs.Images.{ImageData, image_byte}
 use Rattle.tcd_base.specs.Ranges.{IsInOneRange}
 use Rattle.tcd_plan.specs.PlanData.{PlanData, IsPlan}
 use Rattle.tcd_plan.specs.MappedAddresses.{IsInAreas}
-use Rattle.tc_isa.specs.Rows.{is_long}
-use Rattle.tc_isa.specs.Spelling.{spelling_of, word_of}
-use Rattle.tc_isa.specs.Insts.{fields_in}
+use Rattle.tc_isa.specs.Rows.{is_32_bit_row}
+use Rattle.tc_isa.specs.Spelling.{four_or_two_bytes, row_word}
+use Rattle.tc_isa.specs.Insts.{inst_fields}
 use Rattle.tc_isa.proofs.TableFacts.{row_at}
 use Rattle.tc_encode.proofs.Bytes.{word-lt, short-lt}
 use Rattle.tc_isa.specs.declared.shapes.Shape.{Shape}
@@ -26,8 +26,8 @@ use Rattle.tc_machine.specs.declared.events.Event.{Event}
 use Rattle.tc_machine.specs.declared.events.End.TheVariants.{Running}
 use Rattle.tc_machine.specs.declared.state.Machine.{Machine}
 use Rattle.tc_machine.specs.Machine.{a11, is_interrupt_stack_used, if_running, psw_with_status, IsMachine}
-use Rattle.tc_machine.specs.Instructions.{machine_address_ahead, with_pc_advanced, does}
-use Rattle.tc_machine.specs.SavesAndRestores.{has_kind, with_area_released, with_context_restored, restore}
+use Rattle.tc_machine.specs.Instructions.{wrapping_sum, with_pc_advanced, does}
+use Rattle.tc_machine.specs.SavesAndRestores.{is_last_context_of_kind, with_area_released, with_context_restored, restore}
 use Rattle.tc_machine.specs.Fetching.{fetched_instruction}
 use Rattle.tc_machine.specs.Stepping.{is_interrupt_taken, step}
 use Rattle.tc_machine.specs.PlanAreas.{first_link, plan_areas}
@@ -69,7 +69,7 @@ abbrev AreSmall : List ℕ → Type 0
 AreSmall [] = Unit {0}
 AreSmall (b ∷ bs) = (b < 2 ^ 8) × AreSmall bs
 
-small_spelled : (long : Bool) (w : ℕ) → w < 2 ^ 32 → (long ≡ false → w < 2 ^ 16) → AreSmall (spelling_of long w)
+small_spelled : (long : Bool) (w : ℕ) → w < 2 ^ 32 → (long ≡ false → w < 2 ^ 16) → AreSmall (four_or_two_bytes long w)
 small_spelled true w lt short = (omega arith, (omega arith, (omega arith, (omega arith, tt))))
 small_spelled false w lt short = let h = short refl in (omega arith, (omega arith, tt))
 
@@ -84,10 +84,10 @@ small_code image plan p shape size c =
     let i = s.inst in
     let row = i.row in
     let r = row_at (c.inst).row row i.at in
-    let f = fields_in c.inst in
-    subst AreSmall (sym s.is) (small_spelled (is_long row) (word_of row f) (word-lt row.form row.op1 row.op2 f r.first r.second (i.fits).below) (λ e. short-lt row.form row.op1 row.op2 f r.first r.second (i.fits).below (sym r.size ∙ e)))
+    let f = inst_fields c.inst in
+    subst AreSmall (sym s.is) (small_spelled (is_32_bit_row row) (row_word row f) (word-lt row.form row.op1 row.op2 f r.first r.second (i.fits).below) (λ e. short-lt row.form row.op1 row.op2 f r.first r.second (i.fits).below (sym r.size ∙ e)))
 
-pub view_small : (image : ImageData) (plan : PlanData) (tasks : TasksData) → AreTasks tasks → HasRoutine image plan tasks → (u : ℕ) (mem : Memory) → HoldsRom image plan mem → HasBytes mem → (x b : ℕ) → IsInOneRange x 1 plan.rom → image_byte (view_image_of image tasks u) x ≡ Some b → b < 2 ^ 8
+pub view_small : (image : ImageData) (plan : PlanData) (tasks : TasksData) → AreTasks tasks → HasRoutine image plan tasks → (u : ℕ) (mem : Memory) → HoldsRom image plan mem → HasOnlyBytes mem → (x b : ℕ) → IsInOneRange x 1 plan.rom → image_byte (view_image_of image tasks u) x ≡ Some b → b < 2 ^ 8
 view_small image plan tasks are has u mem rom bytes x b in_rom held =
     elim (cases_lt x tasks.switch) [
       | inl low ↦ bytes x b (rom x b in_rom (sym (view_byte_outside image tasks u x (inl low)) ∙ held))
@@ -114,7 +114,7 @@ record GivenBack (plan : PlanData) (n u : ℕ) (word_of : ℕ → ℕ) (chain_of
   pub outside : (y : ℕ) → (IsInAreas plan y → ⊥) → finite.get x.mem y ≡ finite.get m.mem y
   pub mapped : (y : ℕ) → is_mapped x.mem y ≡ is_mapped m.mem y
 
-module _ {plan : PlanData} (ok : IsPlan plan) {n u : ℕ} {word_of : ℕ → ℕ} {chain_of : ℕ → List ℕ} (m : Machine) (s : Shared plan n u word_of chain_of m.mem m.pcxi m.fcx m.lcx) (bytes : HasBytes m.mem) (l : ℕ) (used : List ℕ) (is : chain_of u ≡ l ∷ used) where
+module _ {plan : PlanData} (ok : IsPlan plan) {n u : ℕ} {word_of : ℕ → ℕ} {chain_of : ℕ → List ℕ} (m : Machine) (s : Shared plan n u word_of chain_of m.mem m.pcxi m.fcx m.lcx) (bytes : HasOnlyBytes m.mem) (l : ℕ) (used : List ℕ) (is : chain_of u ≡ l ∷ used) where
   links_here : Links m.mem (word_of u) (l ∷ used)
   links_here = subst (Links m.mem (word_of u)) is (s.links u s.own)
 
@@ -124,7 +124,7 @@ module _ {plan : PlanData} (ok : IsPlan plan) {n u : ℕ} {word_of : ℕ → ℕ
   small : l < 2 ^ 20
   small = subst (λ x. x < 2 ^ 20) here (link_in-lt m.pcxi)
 
-  stands : (upper : Bool) → has_kind m upper ≡ true → restore m upper ≡ with_context_restored m upper
+  stands : (upper : Bool) → is_last_context_of_kind m upper ≡ true → restore m upper ≡ with_context_restored m upper
   stands upper kind = restore-is m upper (λ e. links_here.0 (sym here ∙ e)) kind (ap (is_area m.mem) here ∙ links_here.2)
 
   given_back : (x : Machine) → x.mem ≡ (with_area_released m).mem → x.pcxi ≡ (with_area_released m).pcxi → x.fcx ≡ (with_area_released m).fcx → x.lcx ≡ m.lcx → GivenBack plan n u word_of chain_of m x l used
@@ -132,9 +132,9 @@ module _ {plan : PlanData} (ok : IsPlan plan) {n u : ℕ} {word_of : ℕ → ℕ
       let to_l = link_in-with_link m.fcx l small in
       let once = areas_once plan in
       let all = (s.share).each l in
-      let owned = sum_below-at n (λ w. times_in_list l (chain_of w)) u s.own in
+      let owned = sum_below-at n (λ w. occurrences_of l (chain_of w)) u s.own in
       let first = times-first l used in
-      let first_is : times_in_list l (chain_of u) ≡ times_in_list l (l ∷ used) = ap (times_in_list l) is in
+      let first_is : occurrences_of l (chain_of u) ≡ occurrences_of l (l ∷ used) = ap (occurrences_of l) is in
       let at = area_at (first_link plan) plan.areas l (λ none. omega arith) in
       let mem_at : x.mem ≡ with_words m.mem (link_address l) (m.fcx ∷ []) = mem_is ∙ ap (λ y. with_words m.mem (link_address y) (m.fcx ∷ [])) here in
       let pcxi_at : x.pcxi ≡ area_word m.mem l 0 = pcxi_is ∙ ap (λ y. area_word m.mem y 0) here in
@@ -183,7 +183,7 @@ status_io psw status = omega arith
 
 module _ {image : ImageData} {plan : PlanData} {tasks : TasksData} {certs : ℕ → CertData} {needs : ℕ → ℕ} (wd : World image plan tasks certs needs) where
   -- ---- a view that starts in a memory of the machine's
-  module _ {u : ℕ} (own : u < count tasks) (x : Machine) (memory : IsPlanMemory plan x.mem) (rom : HoldsRom image plan x.mem) (bytes : HasBytes x.mem) where
+  module _ {u : ℕ} (own : u < count tasks) (x : Machine) (memory : IsPlanMemory plan x.mem) (rom : HoldsRom image plan x.mem) (bytes : HasOnlyBytes x.mem) where
     pub start_memory : Memory
     start_memory = view_memory wd.ok image (view_image_of image tasks u) tasks u x.mem memory rom bytes (view_byte_outside image tasks u) (view_small image plan tasks wd.are wd.has u x.mem rom bytes)
 
@@ -226,7 +226,7 @@ module _ {image : ImageData} {plan : PlanData} {tasks : TasksData} {certs : ℕ 
     at_code : (i : ℕ) → m.pc ≡ tasks.switch + 4 * i → (shape : Shape) → IsCode image plan (tasks.switch + 4 * i) shape 4 → fetched_instruction m ≡ Ok (shape, 4)
     at_code i pc shape c = fetched_code image plan m shape 4 wd.ok k.rom (subst (λ x. IsCode image plan x shape 4) (sym pc) c)
 
-    next_pc : (i : ℕ) → i < 17 → m.pc ≡ tasks.switch + 4 * i → machine_address_ahead m.pc 4 ≡ tasks.switch + 4 * suc i
+    next_pc : (i : ℕ) → i < 17 → m.pc ≡ tasks.switch + 4 * i → wrapping_sum m.pc 4 ≡ tasks.switch + 4 * suc i
     next_pc i lt pc = let f = routine_fits wd in omega arith
 
     after_machine : IsMachine (step m e)
@@ -288,7 +288,7 @@ module _ {image : ImageData} {plan : PlanData} {tasks : TasksData} {certs : ℕ 
         let bytes = (k.words).bytes in
         let at = here wd.ok m k.shared (k.words).bytes (task_lower_area plan u) (task_upper_area plan u ∷ []) links in
         let low_small = small wd.ok m k.shared (k.words).bytes (task_lower_area plan u) (task_upper_area plan u ∷ []) links in
-        let kind : has_kind m false ≡ true = ap (λ w. not (ul_of m.core w)) word ∙ ap not (ul_of-pcxi_word m.core 0 false false (task_lower_area plan u) low_small) in
+        let kind : is_last_context_of_kind m false ≡ true = ap (λ w. not (ul_of m.core w)) word ∙ ap not (ul_of-pcxi_word m.core 0 false false (task_lower_area plan u) low_small) in
         let m_does : does m e Rslcx 4 ≡ with_pc_advanced 4 (with_context_restored m false) =
         does-rslcx m e 4 ∙ ap (λ s. if_running s (with_pc_advanced 4)) (stands wd.ok m k.shared (k.words).bytes (task_lower_area plan u) (task_upper_area plan u ∷ []) links false kind) ∙ then_-running (with_context_restored m false) (with_pc_advanced 4) (restored_end m false ∙ k.running)
         in

@@ -7,7 +7,7 @@ use Rattle.csa_chain.specs.Chain.{link_in}
 use Rattle.csa_chain.proofs.ChainLaws.{Links}
 use Rattle.elf_image.specs.Images.{ImageData}
 use Rattle.tcd_plan.specs.PlanData.{PlanData}
-use Rattle.tcd_plan.specs.MappedAddresses.{AnswersLoad}
+use Rattle.tcd_plan.specs.MappedAddresses.{MayAnswerLoad}
 use Rattle.tc_isa.specs.declared.shapes.Shape.{Shape}
 use Rattle.tc_isa.specs.declared.shapes.Shape.TheVariants.{Ret, Rslcx, Mtcr, Nothing}
 use Rattle.tc_machine.specs.declared.events.Cause.{Cause}
@@ -15,8 +15,8 @@ use Rattle.tc_machine.specs.declared.events.Event.{Event}
 use Rattle.tc_machine.specs.declared.events.End.TheVariants.{Running}
 use Rattle.tc_machine.specs.declared.state.Machine.{Machine}
 use Rattle.tc_machine.specs.Machine.{reg, a11, if_running, IsMachine}
-use Rattle.tc_machine.specs.Instructions.{machine_address_ahead, with_pc_advanced, does}
-use Rattle.tc_machine.specs.SavesAndRestores.{has_kind, with_area_released, with_context_restored, restore}
+use Rattle.tc_machine.specs.Instructions.{wrapping_sum, with_pc_advanced, does}
+use Rattle.tc_machine.specs.SavesAndRestores.{is_last_context_of_kind, with_area_released, with_context_restored, restore}
 use Rattle.tc_machine.specs.Fetching.{fetched_instruction, fetched_size}
 use Rattle.tc_machine.specs.Stepping.{is_interrupt_taken, load_of_fetched, step}
 use Rattle.tc_machine.specs.Safe.{Fits}
@@ -28,7 +28,7 @@ use Rattle.tc_machine.proofs.Stays.{stays_step, irq_lt}
 use Rattle.tc_machine.proofs.Steps.{with_event, done-is, step_does, does-nothing, does-ret}
 use Rattle.depth_cert.specs.Certs.{CertData}
 use Rattle.cfg_recover.specs.Code.{IsCode}
-use Rattle.cfg_recover.specs.Frames.{RunFrame, frames_left, frames_after_edge, frames_after}
+use Rattle.cfg_recover.specs.Frames.{RunFrame, frames_after_return, frames_after_edge, frames_after}
 use Rattle.cfg_recover.specs.StepEdges.{to, ret, irq, edge_way_by_trap, edge_way_in_fetch}
 use Rattle.cfg_recover.proofs.EntryLaws.{reg_lt}
 use Rattle.cfg_recover.proofs.Points.{does-rslcx}
@@ -71,7 +71,7 @@ first_returns : (tasks : TasksData) (v : Machine) (e : Event) (f : RunFrame) (fs
 first_returns tasks v e f fs none at first =
     let q = (step v e).pc in
     let way : cond (is_interrupt_taken v e) (irq q) (edge_way_in_fetch v e (fetched_instruction v) q) ≡ ret = ap (λ t. cond t (irq q) (edge_way_in_fetch v e (fetched_instruction v) q)) none ∙ ap (λ (r : Result (Shape × ℕ) Cause). edge_way_in_fetch v e r q) at in
-    subst (λ w. AreFirst tasks (frames_after_edge v.pc (machine_address_ahead v.pc (fetched_size (fetched_instruction v))) e.irq w (f ∷ fs))) (sym way) first
+    subst (λ w. AreFirst tasks (frames_after_edge v.pc (wrapping_sum v.pc (fetched_size (fetched_instruction v))) e.irq w (f ∷ fs))) (sym way) first
 
 module _ {image : ImageData} {plan : PlanData} {tasks : TasksData} {certs : ℕ → CertData} {needs : ℕ → ℕ} (wd : World image plan tasks certs needs) where
   -- ---- a view in the routine, with interrupts off
@@ -80,8 +80,8 @@ module _ {image : ImageData} {plan : PlanData} {tasks : TasksData} {certs : ℕ 
     abbrev fs : List RunFrame
     fs = (of.run).frame ∷ (of.run).behind
 
-    view_moves : (shape : Shape) → IsCode (view_image_of image tasks u) plan v.pc shape 4 → AnswersLoad (view_plan_of plan tasks u) e.input (load_of_fetched v (Ok (shape, 4)))
-        → (is_interrupt_taken v e ≡ false → fetched_instruction v ≡ Ok (shape, 4) → AreFirst tasks (frames_left (frames_after v e ((of.run).frame ∷ (of.run).behind)))) → ViewMoved image plan tasks u v e (frames_after v e ((of.run).frame ∷ (of.run).behind)) shape
+    view_moves : (shape : Shape) → IsCode (view_image_of image tasks u) plan v.pc shape 4 → MayAnswerLoad (view_plan_of plan tasks u) e.input (load_of_fetched v (Ok (shape, 4)))
+        → (is_interrupt_taken v e ≡ false → fetched_instruction v ≡ Ok (shape, 4) → AreFirst tasks (frames_after_return (frames_after v e ((of.run).frame ∷ (of.run).behind)))) → ViewMoved image plan tasks u v e (frames_after v e ((of.run).frame ∷ (of.run).behind)) shape
     view_moves shape code answers first =
         let none = none_when_off v e off in
         let running = view_running wd.ok wd.are wd.fit own (certs u) (wd.judged u own) (view_few wd u own) v of.run in
@@ -91,7 +91,7 @@ module _ {image : ImageData} {plan : PlanData} {tasks : TasksData} {certs : ℕ 
           irq = fits.irq;
           input = fits.input;
           status = fits.status;
-          answers = λ _. subst (λ (r : Result (Shape × ℕ) Cause). AnswersLoad (view_plan_of plan tasks u) e.input (load_of_fetched v r)) (sym there) answers;
+          answers = λ _. subst (λ (r : Result (Shape × ℕ) Cause). MayAnswerLoad (view_plan_of plan tasks u) e.input (load_of_fetched v r)) (sym there) answers;
         }
         in
         record {
@@ -101,7 +101,7 @@ module _ {image : ImageData} {plan : PlanData} {tasks : TasksData} {certs : ℕ 
           next = view_run_step wd.ok wd.are wd.fit own (certs u) (wd.judged u own) (view_few wd u own) v of.run running of.rom seen free links areas e fits2 of.memory none (first none there);
         }
 
-    stays_in : (shape : Shape) → edge_way_by_trap v e shape (step v e).pc ≡ to (step v e).pc → is_interrupt_taken v e ≡ false → fetched_instruction v ≡ Ok (shape, 4) → AreFirst tasks (frames_left (frames_after v e ((of.run).frame ∷ (of.run).behind)))
+    stays_in : (shape : Shape) → edge_way_by_trap v e shape (step v e).pc ≡ to (step v e).pc → is_interrupt_taken v e ≡ false → fetched_instruction v ≡ Ok (shape, 4) → AreFirst tasks (frames_after_return (frames_after v e ((of.run).frame ∷ (of.run).behind)))
     stays_in shape way none there = first_stays tasks v e (of.run).frame (of.run).behind shape 4 none there way (of.run).first
 
     -- the instruction does nothing
@@ -123,7 +123,7 @@ module _ {image : ImageData} {plan : PlanData} {tasks : TasksData} {certs : ℕ 
     at_code : (i : ℕ) → m.pc ≡ tasks.switch + 4 * i → (shape : Shape) → IsCode image plan (tasks.switch + 4 * i) shape 4 → fetched_instruction m ≡ Ok (shape, 4)
     at_code i pc shape c = fetched_code image plan m shape 4 wd.ok k.rom (subst (λ x. IsCode image plan x shape 4) (sym pc) c)
 
-    next_pc : (i : ℕ) → i < 17 → m.pc ≡ tasks.switch + 4 * i → machine_address_ahead m.pc 4 ≡ tasks.switch + 4 * suc i
+    next_pc : (i : ℕ) → i < 17 → m.pc ≡ tasks.switch + 4 * i → wrapping_sum m.pc 4 ≡ tasks.switch + 4 * suc i
     next_pc i lt pc = let f = routine_fits wd in omega arith
 
     module _ (mem : Memory) (pcxi fcx : ℕ) (seen : List ℕ) (of : ViewOf image plan tasks u m.mem (seen_as m mem pcxi fcx)) (pause : Paused plan m.mem m.pcxi (chain_of u) seen m.lcx mem pcxi fcx) (r : InRoutine tasks m u 14 word_of) where
@@ -202,7 +202,7 @@ module _ {image : ImageData} {plan : PlanData} {tasks : TasksData} {certs : ℕ 
           let code : IsCode (view_image_of image tasks w) plan v.pc Nothing 4 = subst (λ y. IsCode (view_image_of image tasks w) plan y Nothing 4) (sym pc_14) (view_code_14 image plan tasks wd.are wd.has w) in
           comes_back (with_event (with_pc_advanced 4 v) e) seen2 15 (omega arith) (omega arith) (next_pc 14 (omega arith) r.pc) r.off (view_nothing beyond.0 m.mem v of2 seen2 p2.view_free p2.view_links (subst (λ y. Areas plan v.mem v.fcx y seen2 p2.view_free) (sym (core2.lcx ∙ sym k.lcx)) p2.view_areas) off2 m e fits code)
           (record {
-            pc = ap (λ y. machine_address_ahead y 4) (pc_14 ∙ sym r.pc);
+            pc = ap (λ y. wrapping_sum y 4) (pc_14 ∙ sym r.pc);
             lcx = core2.lcx ∙ sym k.lcx;
             ccpn = ccpn2 ∙ sym level;
             ie = off2 ∙ sym r.off;
@@ -244,7 +244,7 @@ module _ {image : ImageData} {plan : PlanData} {tasks : TasksData} {certs : ℕ 
           let words : IsMachine (with_event (with_pc_advanced 4 m) e) = subst IsMachine m_is (stays_step m e k.words (irq_lt wd.ok m e fits) fits.input fits.status) in
           let turn : Turn image plan tasks u word_of chain_of (with_event (with_pc_advanced 4 m) e) =
           comes_back (with_event (with_pc_advanced 4 v) e) seen 16 (omega arith) (omega arith) (next_pc 15 (omega arith) pc) off of2
-          (record { pc = ap (λ y. machine_address_ahead y 4) beside.pc; lcx = beside.lcx; ccpn = beside.ccpn; ie = beside.ie; biv = beside.biv; btv = beside.btv; isp = beside.isp; core = beside.core; end = beside.end })
+          (record { pc = ap (λ y. wrapping_sum y 4) beside.pc; lcx = beside.lcx; ccpn = beside.ccpn; ie = beside.ie; biv = beside.biv; btv = beside.btv; isp = beside.isp; core = beside.core; end = beside.end })
           (λ a. absurd (omega arith)) pause now
           in
           subst (Goes image plan tasks needs) (sym m_is)
@@ -324,12 +324,12 @@ module _ {image : ImageData} {plan : PlanData} {tasks : TasksData} {certs : ℕ 
 
       -- the view restores a context, so both have one
       by_context : (upper : Bool) → (restore v upper).end ≡ Running
-          → ((l : ℕ) (used : List ℕ) → chain_of u ≡ l ∷ used → (j : ℕ) (seen2 : List ℕ) → seen ≡ j ∷ seen2 → has_kind v upper ≡ true → Goes image plan tasks needs (step m e)) → Goes image plan tasks needs (step m e)
+          → ((l : ℕ) (used : List ℕ) → chain_of u ≡ l ∷ used → (j : ℕ) (seen2 : List ℕ) → seen ≡ j ∷ seen2 → is_last_context_of_kind v upper ≡ true → Goes image plan tasks needs (step m e)) → Goes image plan tasks needs (step m e)
       by_context upper stands go =
           let r = restores_from v upper stands in
           by_lists (chain_of u) refl seen refl r.some r.kind
         where
-          by_lists : (links : List ℕ) → chain_of u ≡ links → (sees : List ℕ) → seen ≡ sees → link_in v.pcxi ≢ 0 → has_kind v upper ≡ true → Goes image plan tasks needs (step m e)
+          by_lists : (links : List ℕ) → chain_of u ≡ links → (sees : List ℕ) → seen ≡ sees → link_in v.pcxi ≢ 0 → is_last_context_of_kind v upper ≡ true → Goes image plan tasks needs (step m e)
           by_lists links is_l [] is_s some kind = absurd (some (subst (Links v.mem v.pcxi) is_s pause.view_links))
           by_lists [] is_l (j ∷ seen2) is_s some kind =
               absurd (let long = SameContexts-length m.mem v.mem m.pcxi v.pcxi (chain_of u) seen pause.same in let l0 : length (chain_of u) ≡ 0 = ap length is_l in let l1 : length seen ≡ suc (length seen2) = ap length is_s in omega arith)
@@ -366,7 +366,7 @@ module _ {image : ImageData} {plan : PlanData} {tasks : TasksData} {certs : ℕ 
           let low = lower_back wd.ok m v k.words words_of_view k.running beside l used is_l j seen2 t (globals_same plan m v k.globals (view_globals wd.ok wd.are wd.fit own (certs u) (wd.judged u own) (view_few wd u own) v of.run)) in
           let turn : Turn image plan tasks u bk.words bk.chains (with_event (with_pc_advanced 4 (with_context_restored m false)) e) =
           comes_back (with_event (with_pc_advanced 4 (with_context_restored v false)) e) bk.seen 17 (omega arith) (omega arith) (next_pc 16 (omega arith) pc) off (view_back l used is_l j seen2 is_s (with_event (with_pc_advanced 4 (with_context_restored m false)) e) refl refl refl refl (with_event (with_pc_advanced 4 (with_context_restored v false)) e) refl run)
-          (record { pc = ap (λ q. machine_address_ahead q 4) beside.pc; lcx = beside.lcx; ccpn = beside.ccpn; ie = beside.ie; biv = beside.biv; btv = beside.btv; isp = beside.isp; core = beside.core; end = beside.end })
+          (record { pc = ap (λ q. wrapping_sum q 4) beside.pc; lcx = beside.lcx; ccpn = beside.ccpn; ie = beside.ie; biv = beside.biv; btv = beside.btv; isp = beside.isp; core = beside.core; end = beside.end })
           (λ _. record { d = low.d; a = low.a; back = low.back })
           (paused_back l used is_l j seen2 is_s (with_event (with_pc_advanced 4 (with_context_restored m false)) e) refl refl refl refl) (now_back l used is_l j seen2 is_s (with_event (with_pc_advanced 4 (with_context_restored m false)) e) refl refl refl refl)
           in

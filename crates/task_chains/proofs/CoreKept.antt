@@ -12,10 +12,10 @@ use Rattle.tc_machine.specs.declared.events.End.TheVariants.{Running, Dead}
 use Rattle.tc_machine.specs.declared.events.Event.{Event}
 use Rattle.tc_machine.specs.declared.state.Machine.{Machine}
 use Rattle.tc_machine.specs.Machine.{a11, dead_machine, if_end_running, if_running, psw_with_status}
-use Rattle.tc_machine.specs.Instructions.{machine_address_ahead, with_pc_advanced, access_address, is_trapping_access, target_of, does}
-use Rattle.tc_machine.specs.Handlers.{at_handler_entry, trap, interrupt}
-use Rattle.tc_machine.specs.Stepping.{is_interrupt_taken, after_found_instruction, machine_after_event, step}
-use Rattle.tc_machine.specs.SavesAndRestores.{has_kind, with_context_saved, save, with_context_restored, restore}
+use Rattle.tc_machine.specs.Instructions.{wrapping_sum, with_pc_advanced, access_address, is_trapping_access, target_of, does}
+use Rattle.tc_machine.specs.Handlers.{at_handler_entry, after_trap, after_interrupt}
+use Rattle.tc_machine.specs.Stepping.{is_interrupt_taken, after_fetch_result, machine_after_event, step}
+use Rattle.tc_machine.specs.SavesAndRestores.{is_last_context_of_kind, with_context_saved, save, with_context_restored, restore}
 use Rattle.tc_machine.specs.Fetching.{fetched_instruction}
 use Rattle.tc_machine.proofs.Steps.{done-is, does-call, does-ret}
 use Rattle.vd_transfer.specs.Registers.{WritesNoFixedRegister}
@@ -71,19 +71,19 @@ core_restored m false = record { lcx = refl; biv = refl; btv = refl; isp = refl;
 core_restore : (m : Machine) (upper : Bool) → SameCore m (restore m upper)
 unfolding restore
 core_restore m upper =
-    cond_both (link_in m.pcxi == 0) (dead_machine Csu m) (cond (has_kind m upper) (cond (is_area m.mem (link_in m.pcxi)) (with_context_restored m upper) (dead_machine NoArea m)) (dead_machine Ctyp m)) (SameCore m)
+    cond_both (link_in m.pcxi == 0) (dead_machine Csu m) (cond (is_last_context_of_kind m upper) (cond (is_area m.mem (link_in m.pcxi)) (with_context_restored m upper) (dead_machine NoArea m)) (dead_machine Ctyp m)) (SameCore m)
     (λ _. record { lcx = refl; biv = refl; btv = refl; isp = refl; core = refl })
     (λ _.
-    cond_both (has_kind m upper) (cond (is_area m.mem (link_in m.pcxi)) (with_context_restored m upper) (dead_machine NoArea m)) (dead_machine Ctyp m) (SameCore m)
+    cond_both (is_last_context_of_kind m upper) (cond (is_area m.mem (link_in m.pcxi)) (with_context_restored m upper) (dead_machine NoArea m)) (dead_machine Ctyp m) (SameCore m)
     (λ _. cond_both (is_area m.mem (link_in m.pcxi)) (with_context_restored m upper) (dead_machine NoArea m) (SameCore m) (λ _. core_restored m upper) (λ _. record { lcx = refl; biv = refl; btv = refl; isp = refl; core = refl }))
     (λ _. record { lcx = refl; biv = refl; btv = refl; isp = refl; core = refl }))
 
-core_interrupt : (m : Machine) (irq : ℕ) → SameCore m (interrupt m irq)
+core_interrupt : (m : Machine) (irq : ℕ) → SameCore m (after_interrupt m irq)
 core_interrupt m irq =
     core_then m (save m true) (λ s. record (at_handler_entry m s m.pc (bit_or m.biv (irq * 2 ^ 5))) { ccpn = irq }) (core_save m true)
     (λ r h. record { lcx = h.lcx; biv = h.biv; btv = h.btv; isp = h.isp; core = h.core })
 
-core_trap : (m : Machine) (class tin back : ℕ) → SameCore m (trap m class tin back)
+core_trap : (m : Machine) (class tin back : ℕ) → SameCore m (after_trap m class tin back)
 core_trap m class tin back =
     core_then m (save m true) (λ s. record (at_handler_entry m s back (bit_or m.btv (class * 2 ^ 5))) { d = set s.d 15 tin }) (core_save m true)
     (λ r h. record { lcx = h.lcx; biv = h.biv; btv = h.btv; isp = h.isp; core = h.core })
@@ -100,17 +100,17 @@ module _ (m : Machine) (e : Event) (size : ℕ) where
   core_does (Scaled dst base index j) w n = plainly (Scaled dst base index j) (plain-scaled m m.mem m.pcxi m.fcx e e dst base index j size)
   core_does (Load dst base offset width signed after) w n =
       elim (cases_Bool (is_trapping_access e (access_address m base offset after) width)) [
-        | inl yes_trap ↦ through (Load dst base offset width signed after) (trap m 2 4 m.pc) (does-trapped m e size (Load dst base offset width signed after) yes_trap) (core_trap m 2 4 m.pc)
+        | inl yes_trap ↦ through (Load dst base offset width signed after) (after_trap m 2 4 m.pc) (does-trapped m e size (Load dst base offset width signed after) yes_trap) (core_trap m 2 4 m.pc)
         | inr no_trap ↦ plainly (Load dst base offset width signed after) (plain-load m m.mem m.pcxi m.fcx e e dst base offset width signed after size no_trap refl refl)
       ]
   core_does (Store src base offset width after) w n =
       elim (cases_Bool (is_trapping_access e (access_address m base offset after) width)) [
-        | inl yes_trap ↦ through (Store src base offset width after) (trap m 2 4 m.pc) (does-trapped m e size (Store src base offset width after) yes_trap) (core_trap m 2 4 m.pc)
+        | inl yes_trap ↦ through (Store src base offset width after) (after_trap m 2 4 m.pc) (does-trapped m e size (Store src base offset width after) yes_trap) (core_trap m 2 4 m.pc)
         | inr no_trap ↦ plainly (Store src base offset width after) (plain-store m m.mem m.pcxi m.fcx e e src base offset width after size no_trap refl (n no_trap))
       ]
   core_does (Branch test x y by lowers) w n = plainly (Branch test x y by lowers) (plain-branch m m.mem m.pcxi m.fcx e e test x y by lowers size)
   core_does (Jump target) w n = plainly (Jump target) (plain-jump m m.mem m.pcxi m.fcx e e target size)
-  core_does (Call target) w n = through (Call target) _ (does-call m e target size) (core_then m (save m true) (λ s. record s { a = set s.a 11 (machine_address_ahead m.pc size); pc = target_of m target }) (core_save m true) (λ r h. record { lcx = h.lcx; biv = h.biv; btv = h.btv; isp = h.isp; core = h.core }))
+  core_does (Call target) w n = through (Call target) _ (does-call m e target size) (core_then m (save m true) (λ s. record s { a = set s.a 11 (wrapping_sum m.pc size); pc = target_of m target }) (core_save m true) (λ r h. record { lcx = h.lcx; biv = h.biv; btv = h.btv; isp = h.isp; core = h.core }))
   core_does Ret w n = through Ret _ (does-ret m e size) (core_then m (restore m true) (λ r. record r { pc = a11 m / 2 * 2 }) (core_restore m true) (λ r h. record { lcx = h.lcx; biv = h.biv; btv = h.btv; isp = h.isp; core = h.core }))
   core_does Rfe w n =
       through Rfe _ (does-rfe m e size)
@@ -120,7 +120,7 @@ module _ (m : Machine) (e : Event) (size : ℕ) where
   core_does (Bisr c) w n = through (Bisr c) _ (does-bisr m e size c) (core_then m (save m false) (λ s. record (with_pc_advanced size s) { ccpn = c; ie = true }) (core_save m false) (λ r h. record { lcx = h.lcx; biv = h.biv; btv = h.btv; isp = h.isp; core = h.core }))
   core_does Enable w n = plainly Enable (plain-enable m m.mem m.pcxi m.fcx e e size)
   core_does Disable w n = plainly Disable (plain-disable m m.mem m.pcxi m.fcx e e size)
-  core_does (Syscall tin) w n = through (Syscall tin) (trap m 6 tin (machine_address_ahead m.pc size)) (does-syscall m e size tin) (core_trap m 6 tin (machine_address_ahead m.pc size))
+  core_does (Syscall tin) w n = through (Syscall tin) (after_trap m 6 tin (wrapping_sum m.pc size)) (does-syscall m e size tin) (core_trap m 6 tin (wrapping_sum m.pc size))
   core_does (Mfcr dst number) w n = plainly (Mfcr dst number) (plain-mfcr m m.mem m.pcxi m.fcx e e dst number size refl)
   core_does (Mtcr src number) w n = absurd w
   core_does Nothing w n = plainly Nothing (plain-nothing m m.mem m.pcxi m.fcx e e size)
@@ -135,7 +135,7 @@ core_of_done m e h = by_end m.end
     by_end (Dead cause) = itself m
 
 pub core_taken : (m : Machine) (e : Event) → is_interrupt_taken m e ≡ true → SameCore m (step m e)
-core_taken m e taken = core_of_done m e (subst (λ t. SameCore m (cond t (interrupt m e.irq) (after_found_instruction m e (fetched_instruction m)))) (sym taken) (core_interrupt m e.irq))
+core_taken m e taken = core_of_done m e (subst (λ t. SameCore m (cond t (after_interrupt m e.irq) (after_fetch_result m e (fetched_instruction m)))) (sym taken) (core_interrupt m e.irq))
 
 pub core_step : (m : Machine) (e : Event) (shape : Shape) (size : ℕ) → is_interrupt_taken m e ≡ false → fetched_instruction m ≡ Ok (shape, size) → WritesNoFixedRegister shape → StoresNothing m e shape → SameCore m (step m e)
 core_step m e shape size none at writes nothing = core_of_done m e (subst (SameCore m) (sym (done-is m e shape size none at)) (core_does m e size shape writes nothing))

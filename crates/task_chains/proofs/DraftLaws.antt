@@ -10,7 +10,7 @@ use Rattle.task_chains.specs.declared.lines.Places.{Places}
 use Rattle.task_chains.specs.declared.drafts.TasksDraft.{TasksDraft}
 use Rattle.task_chains.specs.declared.task_lists.Task.{Task}
 use Rattle.task_chains.specs.Tasks.{TasksData}
-use Rattle.task_chains.specs.TaskListText.{task_of, nonempty_task_lines, AreNamedTasks, IsEighthTaskLine, tasks_with, IsEighthTaskLineIfAny, IsTasksDraftOfParts, IsTasksDraftOf, IsTasksDraftAfterLine}
+use Rattle.task_chains.specs.TaskListText.{task_of, nonempty_task_lines, LinesNameTasks, IsEighthTaskLine, tasks_with, IsEighthTaskLineIfAny, IsTasksDraftOfParts, IsTasksDraftOf, IsTasksDraftAfterLine}
 
 abbrev some_task : Task → Option Task
 some_task t = Some t
@@ -56,7 +56,7 @@ tells_same before line tasks (Some n) e = eighth_more before line n e
 -- ---- one line more
 module _ (before : List (List ℕ)) where
   -- an empty line
-  said_empty : (tasks : TasksData) → AreNamedTasks before tasks → AreNamedTasks (before ++ [] ∷ []) tasks
+  said_empty : (tasks : TasksData) → LinesNameTasks before tasks → LinesNameTasks (before ++ [] ∷ []) tasks
   said_empty tasks s = record { first = s.first; behind = s.behind; split = written_empty before ∙ s.split; places = s.places; named = s.named }
 
   draft_empty : (places : Option Places) (list : List Task) (eighth : Option ℕ) → IsTasksDraftOfParts before places list eighth → IsTasksDraftOfParts (before ++ [] ∷ []) places list eighth
@@ -64,7 +64,7 @@ module _ (before : List (List ℕ)) where
   draft_empty (Some p) list eighth d = record { all = d.all; said = said_empty (tasks_with p d.all) d.said; seven = d.seven; more = tells_same before [] (tasks_with p d.all) eighth d.more }
 
   -- a line that names a task
-  said_more : (line : List ℕ) (p : Places) (t : Task) (all : List Task) → 0 < length line → task_of line ≡ Some t → AreNamedTasks before (tasks_with p all) → AreNamedTasks (before ++ line ∷ []) (tasks_with p (all ++ t ∷ []))
+  said_more : (line : List ℕ) (p : Places) (t : Task) (all : List Task) → 0 < length line → task_of line ≡ Some t → LinesNameTasks before (tasks_with p all) → LinesNameTasks (before ++ line ∷ []) (tasks_with p (all ++ t ∷ []))
   said_more line p t all lt is s = record {
     first = s.first;
     behind = s.behind ++ line ∷ [];
@@ -77,7 +77,7 @@ module _ (before : List (List ℕ)) where
   tells_few line p t all None lt few = omega (arith, length-append all (t ∷ []))
   tells_few line p t all (Some n) lt e = eighth_more before line n e
 
-  tells_many : (n : ℕ) (line : List ℕ) (p : Places) (t : Task) (all : List Task) (eighth : Option ℕ) → n ≡ length before + 1 → 0 < length line → 7 ≤ length all → AreNamedTasks before (tasks_with p all) → IsEighthTaskLineIfAny before (tasks_with p all) eighth
+  tells_many : (n : ℕ) (line : List ℕ) (p : Places) (t : Task) (all : List Task) (eighth : Option ℕ) → n ≡ length before + 1 → 0 < length line → 7 ≤ length all → LinesNameTasks before (tasks_with p all) → IsEighthTaskLineIfAny before (tasks_with p all) eighth
       → IsEighthTaskLineIfAny (before ++ line ∷ []) (tasks_with p (all ++ t ∷ [])) (option_or eighth (Some n))
   tells_many n line p t all None at lt many s few = record { before = before; line = line; behind = []; split = refl; at = at; some = not_empty line lt; seven = tasks_with p all; said = s; many = omega arith }
   tells_many n line p t all (Some k) at lt many s e = eighth_more before line k e

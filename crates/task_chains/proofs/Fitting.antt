@@ -6,7 +6,7 @@ use Rattle.std.specs.List.{list_all}
 use Rattle.csa_chain.specs.Chain.{link_in, is_area}
 use Rattle.tcd_base.specs.declared.range.Range.{Range}
 use Rattle.tcd_plan.specs.declared.plans.Device.{Device}
-use Rattle.tcd_plan.specs.PlanData.{PlanData, IsPlan, is_plan_range, is_plan_device, areas_range, are_all_ranges_apart}
+use Rattle.tcd_plan.specs.PlanData.{PlanData, IsPlan, is_plan_range, is_plan_device, areas_range, are_all_ranges_disjoint}
 use Rattle.tc_machine.specs.declared.events.Event.{Event}
 use Rattle.tc_machine.specs.declared.events.Cause.{Cause}
 use Rattle.tc_machine.specs.declared.events.Cause.TheVariants.{Fcd, Fcu, NoArea}
@@ -18,7 +18,7 @@ use Rattle.tc_machine.specs.Stepping.{load_at_pc}
 use Rattle.tcd_base.specs.Ranges.{IsWithinRange, IsInOneRange}
 use Rattle.tc_machine.specs.PlanAreas.{first_link}
 use Rattle.tc_machine.specs.Safe.{Fits}
-use Rattle.tcd_plan.specs.MappedAddresses.{AnswersAt, AnswersLoad}
+use Rattle.tcd_plan.specs.MappedAddresses.{MayAnswerAt, MayAnswerLoad}
 use Rattle.tc_machine.proofs.PlanLaws.{place_of}
 use Rattle.tcd_base.proofs.RangeLaws.{IsInOne-front}
 use Rattle.tcd_plan.proofs.ApartLaws.{all_apart-before, all_apart-behind}
@@ -49,18 +49,18 @@ device_bounds d h =
     (leb-true d.lo d.hi (and_parts (is_plan_range d.range) (nat_le d.lo d.hi) a.0).1, ltb-true d.hi (2 ^ 32) a.1)
 
 -- if no peripheral of the list has the word, each input fits
-none_within : (ds : List Device) (x input : ℕ) → (IsInOneRange x 1 (map (λ (d : Device). d.range) ds) → ⊥) → AnswersAt x input ds
+none_within : (ds : List Device) (x input : ℕ) → (IsInOneRange x 1 (map (λ (d : Device). d.range) ds) → ⊥) → MayAnswerAt x input ds
 none_within [] x input none = All-none (Answered x input)
 none_within (d ∷ ds) x input none = All-cons (Answered x input) d ds (λ there. absurd (none (inl (there.0, (let h = there.1 in omega arith))))) (none_within ds x input (λ h. none (inr h)))
 
 -- the peripheral that has the word answers in its bounds, and no other has it
-answers : (ds : List Device) (x : ℕ) (rest : List Range) → list_all is_plan_device ds ≡ true → are_all_ranges_apart (map (λ (d : Device). d.range) ds ++ rest) ≡ true → AnswersAt x (answer ds x) ds × (answer ds x < 2 ^ 32)
+answers : (ds : List Device) (x : ℕ) (rest : List Range) → list_all is_plan_device ds ≡ true → are_all_ranges_disjoint (map (λ (d : Device). d.range) ds ++ rest) ≡ true → MayAnswerAt x (answer ds x) ds × (answer ds x < 2 ^ 32)
 answers [] x rest are apart = (All-none (Answered x 0), omega arith)
 answers (d ∷ ds) x rest are apart =
     let parts = and_parts (is_plan_device d) (list_all is_plan_device ds) are in
     let bounds = device_bounds d parts.0 in
     let more = answers ds x rest parts.1 (all_apart-behind (d.range ∷ []) (map (λ (d : Device). d.range) ds ++ rest) apart) in
-    elim (has_word d x) as (λ t. has_word d x ≡ t → AnswersAt x (cond t d.lo (answer ds x)) (d ∷ ds) × (cond t d.lo (answer ds x) < 2 ^ 32)) [
+    elim (has_word d x) as (λ t. has_word d x ≡ t → MayAnswerAt x (cond t d.lo (answer ds x)) (d ∷ ds) × (cond t d.lo (answer ds x) < 2 ^ 32)) [
       | true ↦ λ has.
           let low : (d.range).at ≤ x = leb-true (d.range).at x (and_parts _ _ has).0 in
           let high : x + 4 ≤ (d.range).at + (d.range).len = leb-true (x + 4) ((d.range).at + (d.range).len) (and_parts _ _ has).1 in
@@ -91,13 +91,13 @@ pub record Quiet (plan : PlanData) (m : Machine) : Type 0 where
 pub quiet : {plan : PlanData} → IsPlan plan → (m : Machine) → Quiet plan m
 unfolding some_event input_of
 quiet {plan = plan} ok m =
-    let apart : are_all_ranges_apart (map (λ (d : Device). d.range) plan.devices ++ areas_range plan ∷ []) ≡ true =
-    all_apart-behind plan.ram _ (all_apart-behind plan.rom _ (sym (ap are_all_ranges_apart (append_assoc (plan.rom ++ plan.ram) (map (λ (d : Device). d.range) plan.devices) (areas_range plan ∷ []) ∙ append_assoc plan.rom plan.ram (map (λ (d : Device). d.range) plan.devices ++ areas_range plan ∷ []))) ∙ ok.apart))
+    let apart : are_all_ranges_disjoint (map (λ (d : Device). d.range) plan.devices ++ areas_range plan ∷ []) ≡ true =
+    all_apart-behind plan.ram _ (all_apart-behind plan.rom _ (sym (ap are_all_ranges_disjoint (append_assoc (plan.rom ++ plan.ram) (map (λ (d : Device). d.range) plan.devices) (areas_range plan ∷ []) ∙ append_assoc plan.rom plan.ram (map (λ (d : Device). d.range) plan.devices ++ areas_range plan ∷ []))) ∙ ok.apart))
     in
     let by = by_load apart (load_at_pc m) in
     record { event = some_event plan m; fits = record { irq = inl refl; input = by.1; status = omega arith; answers = λ none. by.0 }; irq = refl; aln = refl }
   where
-    by_load : are_all_ranges_apart (map (λ (d : Device). d.range) plan.devices ++ areas_range plan ∷ []) ≡ true → (o : Option (ℕ × ℕ)) → AnswersLoad plan (input_of plan o) o × (input_of plan o < 2 ^ 32)
+    by_load : are_all_ranges_disjoint (map (λ (d : Device). d.range) plan.devices ++ areas_range plan ∷ []) ≡ true → (o : Option (ℕ × ℕ)) → MayAnswerLoad plan (input_of plan o) o × (input_of plan o < 2 ^ 32)
     by_load apart None = (tt, omega arith)
     by_load apart (Some l) = let a = answers plan.devices l.0 (areas_range plan ∷ []) (ok.ranges).devices apart in (λ four. a.0, a.1)
 

@@ -9,7 +9,7 @@ use Rattle.tc_machine.specs.declared.events.Event.{Event}
 use Rattle.tc_machine.specs.declared.events.End.TheVariants.{Running}
 use Rattle.tc_machine.specs.declared.state.Machine.{Machine}
 use Rattle.tc_machine.specs.Machine.{if_running, IsMachine}
-use Rattle.tc_machine.specs.Instructions.{machine_address_ahead, with_pc_advanced, does, is_trapping_instruction}
+use Rattle.tc_machine.specs.Instructions.{wrapping_sum, with_pc_advanced, does, is_trapping_instruction}
 use Rattle.tc_machine.specs.Handlers.{at_handler_entry}
 use Rattle.tc_machine.specs.SavesAndRestores.{with_context_saved, save}
 use Rattle.tc_machine.specs.Fetching.{fetched_instruction}
@@ -18,14 +18,14 @@ use Rattle.tcd_plan.specs.MappedAddresses.{IsInAreas}
 use Rattle.tc_machine.proofs.Saves.{then_-running}
 use Rattle.tc_machine.proofs.Steps.{with_event, step_does}
 use Rattle.cfg_recover.proofs.Points.{does-svlcx, does-bisr, does-syscall, does-trapped}
-use Rattle.csa_chain.specs.SeveralChains.{sum_over_chains}
+use Rattle.csa_chain.specs.SeveralChains.{sum_of_first}
 use Rattle.task_chains.proofs.Twins.{Twins}
 use Rattle.task_chains.proofs.Alike.{seen_as, Alike, saves, view_saves, Alike-saved}
 
 module _ {plan : PlanData} (ok : IsPlan plan) (Kept : ℕ → Type 0) (kept : (x : ℕ) → Kept x → IsInAreas plan x → ⊥) {n u : ℕ} {word_of : ℕ → ℕ} {chain_of : ℕ → List ℕ} {seen : List ℕ} (m : Machine) (view : Memory) (pcxi fcx : ℕ)
     (words : IsMachine m) (view_words : IsMachine (seen_as m view pcxi fcx)) (running : m.end ≡ Running)
     (t : Twins plan n u word_of chain_of seen m.mem m.pcxi m.fcx m.lcx view pcxi fcx)
-    (room : sum_over_chains n (λ w. length (chain_of w)) < plan.areas - plan.reserve) (view_room : length seen < plan.areas - plan.reserve)
+    (room : sum_of_first n (λ w. length (chain_of w)) < plan.areas - plan.reserve) (view_room : length seen < plan.areas - plan.reserve)
     (e e2 : Event) (none : is_interrupt_taken m e ≡ false) (same_irq : e2.irq ≡ e.irq) (same_status : e2.status ≡ e.status) where
   abbrev v : Machine
   v = seen_as m view pcxi fcx
@@ -60,7 +60,7 @@ module _ {plan : PlanData} (ok : IsPlan plan) (Kept : ℕ → Type 0) (kept : (x
 
   pub Alike-syscall : (tin size : ℕ) → fetched_instruction m ≡ Ok (Syscall tin, size) → fetched_instruction v ≡ Ok (Syscall tin, size) → Alike plan n u word_of chain_of Kept view m (step m e) (step v e2)
   Alike-syscall tin size at view_at =
-      Alike-forth true (Syscall tin) size (λ s. record (at_handler_entry m s (machine_address_ahead m.pc size) (bit_or m.btv (6 * 2 ^ 5))) { d = set s.d 15 tin }) (λ s. record (at_handler_entry v s (machine_address_ahead v.pc size) (bit_or v.btv (6 * 2 ^ 5))) { d = set s.d 15 tin })
+      Alike-forth true (Syscall tin) size (λ s. record (at_handler_entry m s (wrapping_sum m.pc size) (bit_or m.btv (6 * 2 ^ 5))) { d = set s.d 15 tin }) (λ s. record (at_handler_entry v s (wrapping_sum v.pc size) (bit_or v.btv (6 * 2 ^ 5))) { d = set s.d 15 tin })
       (does-syscall m e size tin) (does-syscall v e2 size tin) refl refl refl refl refl refl at view_at
 
   pub Alike-misaligned : (shape : Shape) (size : ℕ) → is_trapping_instruction m e shape ≡ true → is_trapping_instruction v e2 shape ≡ true → fetched_instruction m ≡ Ok (shape, size) → fetched_instruction v ≡ Ok (shape, size) → Alike plan n u word_of chain_of Kept view m (step m e) (step v e2)

@@ -7,12 +7,12 @@ use Rattle.tc_isa.specs.declared.shapes.Shape.TheVariants.{Compute, Scaled, Load
 use Rattle.tc_machine.specs.declared.events.Cause.{Cause}
 use Rattle.tc_machine.specs.declared.events.Event.{Event}
 use Rattle.tc_machine.specs.declared.state.Machine.{Machine}
-use Rattle.tc_machine.specs.Instructions.{machine_address_ahead, is_trapping_instruction}
+use Rattle.tc_machine.specs.Instructions.{wrapping_sum, is_trapping_instruction}
 use Rattle.tc_machine.specs.Fetching.{fetched_instruction, fetched_size}
 use Rattle.tc_machine.specs.Stepping.{is_interrupt_taken, step}
 use Rattle.depth_cert.specs.declared.keys.Key.{Key}
 use Rattle.depth_cert.specs.Keys.{IsKey}
-use Rattle.cfg_recover.specs.Frames.{RunFrame, frames_left, frames_after_edge, frames_after}
+use Rattle.cfg_recover.specs.Frames.{RunFrame, frames_after_return, frames_after_edge, frames_after}
 use Rattle.cfg_recover.specs.StepEdges.{EdgeWay, to, call, irq, sys, aln, ret, rfe, edge_way_of_shape, edge_way_in_fetch}
 use Rattle.task_chains.specs.Tasks.{TasksData}
 use Rattle.task_chains.specs.SwitchRoutine.{switch_key}
@@ -28,7 +28,7 @@ abbrev pub AreFirst : TasksData → List RunFrame → Type 0
 AreFirst tasks [] = Unit {0}
 AreFirst tasks (f ∷ fs) = (f.key ≡ switch_key tasks → f.at ≡ tasks.switch) × AreFirst tasks fs
 
-pub AreFirst-left : (tasks : TasksData) (fs : List RunFrame) → AreFirst tasks fs → AreFirst tasks (frames_left fs)
+pub AreFirst-left : (tasks : TasksData) (fs : List RunFrame) → AreFirst tasks fs → AreFirst tasks (frames_after_return fs)
 AreFirst-left tasks [] h = tt
 AreFirst-left tasks (f ∷ fs) h = h.1
 
@@ -64,7 +64,7 @@ by_way v e q P goes calls interrupts systems misaligns returns leaves = cond_bot
 pub keys_next : (v : Machine) (e : Event) (f : RunFrame) (fs : List RunFrame) → AreKeys (f ∷ fs) → e.irq < 2 ^ 8 → (step v e).pc < 2 ^ 32 → AreKeys (frames_after v e (f ∷ fs))
 keys_next v e f fs keys irq_lt pc_lt =
     let same : IsKey f.key = keys.0 in
-    by_way v e (step v e).pc (λ w. AreKeys (frames_after_edge v.pc (machine_address_ahead v.pc (fetched_size (fetched_instruction v))) e.irq w (f ∷ fs)))
+    by_way v e (step v e).pc (λ w. AreKeys (frames_after_edge v.pc (wrapping_sum v.pc (fetched_size (fetched_instruction v))) e.irq w (f ∷ fs)))
     keys
     (record { kind = omega arith; entry = pc_lt; prio = same.prio }, keys)
     (record { kind = omega arith; entry = pc_lt; prio = irq_lt }, keys)
@@ -76,7 +76,7 @@ keys_next v e f fs keys irq_lt pc_lt =
 -- a step from outside of the routine enters it only at the first instruction
 pub first_next : (tasks : TasksData) (v : Machine) (e : Event) (f : RunFrame) (fs : List RunFrame) → (f.key ≡ switch_key tasks → ⊥) → AreFirst tasks fs → AreFirst tasks (frames_after v e (f ∷ fs))
 first_next tasks v e f fs apart first =
-    by_way v e (step v e).pc (λ w. AreFirst tasks (frames_after_edge v.pc (machine_address_ahead v.pc (fetched_size (fetched_instruction v))) e.irq w (f ∷ fs)))
+    by_way v e (step v e).pc (λ w. AreFirst tasks (frames_after_edge v.pc (wrapping_sum v.pc (fetched_size (fetched_instruction v))) e.irq w (f ∷ fs)))
     (λ is. absurd (apart is), first)
     (λ is. ap (λ (k : Key). k.entry) is, (λ is. absurd (apart is), first))
     (λ is. absurd (let k : 2 ≡ 1 = ap (λ (k : Key). k.kind) is in omega arith), (λ is. absurd (apart is), first))
@@ -88,5 +88,5 @@ first_next tasks v e f fs apart first =
 -- an interrupt enters a handler, and the frame below returns to where it was
 pub first_interrupt : (tasks : TasksData) (v : Machine) (e : Event) (f : RunFrame) (fs : List RunFrame) → is_interrupt_taken v e ≡ true → (f.key ≡ switch_key tasks → v.pc ≡ tasks.switch) → AreFirst tasks fs → AreFirst tasks (frames_after v e (f ∷ fs))
 first_interrupt tasks v e f fs taken at first =
-    subst (λ t. AreFirst tasks (frames_after_edge v.pc (machine_address_ahead v.pc (fetched_size (fetched_instruction v))) e.irq (cond t (irq (step v e).pc) (edge_way_in_fetch v e (fetched_instruction v) (step v e).pc)) (f ∷ fs))) (sym taken)
+    subst (λ t. AreFirst tasks (frames_after_edge v.pc (wrapping_sum v.pc (fetched_size (fetched_instruction v))) e.irq (cond t (irq (step v e).pc) (edge_way_in_fetch v e (fetched_instruction v) (step v e).pc)) (f ∷ fs))) (sym taken)
     (λ is. absurd (let k : 2 ≡ 1 = ap (λ (k : Key). k.kind) is in omega arith), (at, first))

@@ -14,7 +14,7 @@ use Rattle.tc_machine.specs.declared.events.Event.{Event}
 use Rattle.tc_machine.specs.declared.events.End.TheVariants.{Running, Dead}
 use Rattle.tc_machine.specs.declared.state.Machine.{Machine}
 use Rattle.tc_machine.specs.Machine.{reg}
-use Rattle.tc_machine.specs.Instructions.{machine_address_ahead, with_pc_advanced, access_address, is_trapping_access, does}
+use Rattle.tc_machine.specs.Instructions.{wrapping_sum, with_pc_advanced, access_address, is_trapping_access, does}
 use Rattle.tc_machine.specs.SavesAndRestores.{save}
 use Rattle.tc_machine.specs.Fetching.{fetched_instruction, fetched_size}
 use Rattle.std.specs.Prelude.{IfSome}
@@ -28,9 +28,9 @@ use Rattle.cfg_recover.proofs.Points.{does-svlcx}
 use Rattle.task_chains.proofs.CoreKept.{save_place}
 use Rattle.value_domain.specs.Limits.{Limits}
 use Rattle.depth_cert.specs.Certs.{CertData}
-use Rattle.cfg_recover.specs.RulesHoldOrFail.{limits_in}
+use Rattle.cfg_recover.specs.RulesHoldOrFail.{limits_of_cert}
 use Rattle.cfg_recover.specs.Code.{IsCode, HasCode}
-use Rattle.cfg_recover.specs.Frames.{RunFrame, frames_left, frames_after_edge, frames_after}
+use Rattle.cfg_recover.specs.Frames.{RunFrame, frames_after_return, frames_after_edge, frames_after}
 use Rattle.cfg_recover.specs.StepEdges.{to, irq, edge_way_by_trap, edge_way_in_fetch}
 use Rattle.cfg_recover.proofs.CodeLaws.{IsCode-bounded, IsCode-one, IsCode-sized}
 use Rattle.task_chains.specs.Tasks.{TasksData, count}
@@ -68,11 +68,11 @@ code_to image plan tasks u p shape size c = record { even = c.even; bytes = c.by
 
 -- an instruction that stays in its frame leaves the older frames as they are
 pub first_stays : (tasks : TasksData) (v : Machine) (e : Event) (f : RunFrame) (fs : List RunFrame) (shape : Shape) (size : ℕ) → is_interrupt_taken v e ≡ false → fetched_instruction v ≡ Ok (shape, size) → edge_way_by_trap v e shape (step v e).pc ≡ to (step v e).pc → AreFirst tasks fs
-    → AreFirst tasks (frames_left (frames_after v e (f ∷ fs)))
+    → AreFirst tasks (frames_after_return (frames_after v e (f ∷ fs)))
 first_stays tasks v e f fs shape size none at is first =
     let q = (step v e).pc in
     let way : cond (is_interrupt_taken v e) (irq q) (edge_way_in_fetch v e (fetched_instruction v) q) ≡ to q = ap (λ t. cond t (irq q) (edge_way_in_fetch v e (fetched_instruction v) q)) none ∙ ap (λ (r : Result (Shape × ℕ) Cause). edge_way_in_fetch v e r q) at ∙ is in
-    subst (λ w. AreFirst tasks (frames_left (frames_after_edge v.pc (machine_address_ahead v.pc (fetched_size (fetched_instruction v))) e.irq w (f ∷ fs)))) (sym way) first
+    subst (λ w. AreFirst tasks (frames_after_return (frames_after_edge v.pc (wrapping_sum v.pc (fetched_size (fetched_instruction v))) e.irq w (f ∷ fs)))) (sym way) first
 
 disable_is : (m : Machine) (e : Event) → does m e Disable 4 ≡ record (with_pc_advanced 4 m) { ie = false }
 unfolding does
@@ -93,7 +93,7 @@ module _ {image : ImageData} {plan : PlanData} {tasks : TasksData} {certs : ℕ 
   own = (k.shared).own
 
   abbrev limits : Limits
-  limits = limits_in (view_plan_of plan tasks u) (certs u)
+  limits = limits_of_cert (view_plan_of plan tasks u) (certs u)
 
   abbrev b : Both image (view_image_of image tasks u) plan tasks (count tasks) u word_of chain_of seen m mem pcxi fcx
   b = both wd m k mem pcxi fcx seen of paused e
@@ -153,11 +153,11 @@ module _ {image : ImageData} {plan : PlanData} {tasks : TasksData} {certs : ℕ 
   abbrev e2 : Event
   e2 = event_for m e p.shape
 
-  at : AtPoint (limits_in (view_plan_of plan tasks u) (certs u)) (view_image_of image tasks u) plan tasks u (seen_as m mem pcxi fcx) e p.state p.shape p.size
+  at : AtPoint (limits_of_cert (view_plan_of plan tasks u) (certs u)) (view_image_of image tasks u) plan tasks u (seen_as m mem pcxi fcx) e p.state p.shape p.size
   at = view_at_point wd.ok wd.are wd.fit own (certs u) (wd.judged u own) (view_few wd u own) v of.run k.running of.rom e
 
-  store_is : (shape : Shape) (size : ℕ) → AtPoint (limits_in (view_plan_of plan tasks u) (certs u)) (view_image_of image tasks u) plan tasks u (seen_as m mem pcxi fcx) e p.state shape size
-      → StoreIs wd.ok (view_ok wd u own) (IsKept plan tasks) is_kept m mem pcxi fcx b (limits_in (view_plan_of plan tasks u) (certs u)) p.state e shape
+  store_is : (shape : Shape) (size : ℕ) → AtPoint (limits_of_cert (view_plan_of plan tasks u) (certs u)) (view_image_of image tasks u) plan tasks u (seen_as m mem pcxi fcx) e p.state shape size
+      → StoreIs wd.ok (view_ok wd u own) (IsKept plan tasks) is_kept m mem pcxi fcx b (limits_of_cert (view_plan_of plan tasks u) (certs u)) p.state e shape
   store_is (Store src base offset width after) size h =
       λ none.
       let same = address-same m mem pcxi fcx e e base offset after in
@@ -184,7 +184,7 @@ module _ {image : ImageData} {plan : PlanData} {tasks : TasksData} {certs : ℕ 
         outside_step wd.ok (view_ok wd u own) (IsKept plan tasks) is_kept m mem pcxi fcx b limits p.state e p.shape p.size at same none
         (record { own_room = own_room wd m k mem pcxi fcx seen of paused e e2 fits2; all_room = room_for_all wd m k mem pcxi fcx seen of paused e e2 fits2 }) (store_is p.shape p.size at) (runs_too wd m k mem pcxi fcx seen of paused e e2 fits2)
 
-    next_by : AreFirst tasks (frames_left (frames_after (seen_as m mem pcxi fcx) e2 ((of.run).frame ∷ (of.run).behind)))
+    next_by : AreFirst tasks (frames_after_return (frames_after (seen_as m mem pcxi fcx) e2 ((of.run).frame ∷ (of.run).behind)))
         → NextRun image plan tasks u (step (seen_as m mem pcxi fcx) e2) (frames_after (seen_as m mem pcxi fcx) e2 ((of.run).frame ∷ (of.run).behind))
     next_by first = view_run_step wd.ok wd.are wd.fit own (certs u) (wd.judged u own) (view_few wd u own) v of.run k.running of.rom seen paused.view_free paused.view_links paused.view_areas e2 fits2 of.memory none first
 
@@ -240,7 +240,7 @@ module _ {image : ImageData} {plan : PlanData} {tasks : TasksData} {certs : ℕ 
         to_turn e2 fits2 alike next
         (switches (alike.view) (alike.view_pcxi) (alike.view_fcx) (alike.seen) 2 (omega arith) (omega arith) (of2 e2 fits2 alike next) (paused2 e2 fits2 alike next)
         (record {
-          pc = ap (λ (x : Machine). x.pc) next_is ∙ ap (λ x. machine_address_ahead x 4) place.0 ∙ (let f : (m.pc + 4) % 2 ^ 32 ≡ tasks.switch + 4 * 2 = omega arith in f);
+          pc = ap (λ (x : Machine). x.pc) next_is ∙ ap (λ x. wrapping_sum x 4) place.0 ∙ (let f : (m.pc + 4) % 2 ^ 32 ≡ tasks.switch + 4 * 2 = omega arith in f);
           off = ap (λ (x : Machine). x.ie) next_is ∙ place.1 ∙ off;
           high = λ a. absurd (omega arith);
           block = λ a. absurd (omega arith);
@@ -305,7 +305,7 @@ module _ {image : ImageData} {plan : PlanData} {tasks : TasksData} {certs : ℕ 
       by_end Running = refl
       by_end (Dead cause) = refl
 
-  store_by : (shape : Shape) (size : ℕ) → AtPoint (limits_in (view_plan_of plan tasks u) (certs u)) (view_image_of image tasks u) plan tasks u (seen_as m mem pcxi fcx) e p.state shape size → IfSome (store_of_fetched m e (Ok (shape, size))) (IsAllowedTaskStore plan tasks m.pc)
+  store_by : (shape : Shape) (size : ℕ) → AtPoint (limits_of_cert (view_plan_of plan tasks u) (certs u)) (view_image_of image tasks u) plan tasks u (seen_as m mem pcxi fcx) e p.state shape size → IfSome (store_of_fetched m e (Ok (shape, size))) (IsAllowedTaskStore plan tasks m.pc)
   store_by (Store src base offset width after) size h =
       let x = access_address m base offset after in
       let same = address-same m mem pcxi fcx e e base offset after in

@@ -11,7 +11,7 @@ use Rattle.tcd_base.specs.declared.core_version.Core.{Core}
 use Rattle.tcd_base.specs.declared.core_version.Core.TheVariants.{V13, V16}
 use Rattle.tcd_base.specs.Ranges.{IsInOneRange}
 use Rattle.tcd_plan.specs.declared.plans.Device.{Device}
-use Rattle.tcd_plan.specs.PlanData.{are_ranges_apart, are_all_ranges_apart, areas_range}
+use Rattle.tcd_plan.specs.PlanData.{are_ranges_disjoint, are_all_ranges_disjoint, areas_range}
 use Rattle.tcd_plan.proofs.ApartLaws.{all_apart-behind, all_apart-front}
 use Rattle.tc_machine.specs.PlanAreas.{first_link, area_link_or_zero}
 use Rattle.tc_machine.specs.Machine.{is_interrupt_stack_used}
@@ -69,13 +69,13 @@ or_cases false b e = inr e
 
 module _ (x n : ℕ) where
   -- ranges that share no byte with a range that has the bytes are below them or above
-  away_front : (r s : Range) → r.at ≤ x → x + n ≤ r.at + r.len → are_ranges_apart r s ≡ true → (s.at + s.len ≤ x) ⊎ (x + n ≤ s.at)
+  away_front : (r s : Range) → r.at ≤ x → x + n ≤ r.at + r.len → are_ranges_disjoint r s ≡ true → (s.at + s.len ≤ x) ⊎ (x + n ≤ s.at)
   away_front r s low high apart = elim (or_cases (nat_le (r.at + r.len) s.at) (nat_le (s.at + s.len) r.at) apart) [
     | inl above ↦ inr (let le = leb-true (r.at + r.len) s.at above in omega arith)
     | inr below ↦ inl (let le = leb-true (s.at + s.len) r.at below in omega arith)
   ]
 
-  away_behind : (r s : Range) → r.at ≤ x → x + n ≤ r.at + r.len → are_ranges_apart s r ≡ true → (s.at + s.len ≤ x) ⊎ (x + n ≤ s.at)
+  away_behind : (r s : Range) → r.at ≤ x → x + n ≤ r.at + r.len → are_ranges_disjoint s r ≡ true → (s.at + s.len ≤ x) ⊎ (x + n ≤ s.at)
   away_behind r s low high apart = elim (or_cases (nat_le (s.at + s.len) r.at) (nat_le (r.at + r.len) s.at) apart) [
     | inl below ↦ inl (let le = leb-true (s.at + s.len) r.at below in omega arith)
     | inr above ↦ inr (let le = leb-true (r.at + r.len) s.at above in omega arith)
@@ -85,25 +85,25 @@ module _ (x n : ℕ) where
   left_step : (s : Range) (rs : List Range) → length (cut_plan_ranges x n (s ∷ rs)) ≡ length (cut_range_parts x n s) + length (cut_plan_ranges x n rs)
   left_step s rs = length-append (cut_range_parts x n s) (cut_plan_ranges x n rs)
 
-  others_left : (r : Range) (rs : List Range) → r.at ≤ x → x + n ≤ r.at + r.len → list_all (are_ranges_apart r) rs ≡ true → length (cut_plan_ranges x n rs) ≤ length rs
+  others_left : (r : Range) (rs : List Range) → r.at ≤ x → x + n ≤ r.at + r.len → list_all (are_ranges_disjoint r) rs ≡ true → length (cut_plan_ranges x n rs) ≤ length rs
   others_left r [] low high apart = omega arith
   others_left r (s ∷ rs) low high apart =
-      let parts = and_parts (are_ranges_apart r s) (list_all (are_ranges_apart r) rs) apart in
+      let parts = and_parts (are_ranges_disjoint r s) (list_all (are_ranges_disjoint r) rs) apart in
       omega (arith, one_left x n s (away_front r s low high parts.0), others_left r rs low high parts.1, left_step s rs)
 
-  in_list : (s r : Range) (rs : List Range) (k : ℕ) → k < length rs → get_or rs k r ≡ r → list_all (are_ranges_apart s) rs ≡ true → are_ranges_apart s r ≡ true
+  in_list : (s r : Range) (rs : List Range) (k : ℕ) → k < length rs → get_or rs k r ≡ r → list_all (are_ranges_disjoint s) rs ≡ true → are_ranges_disjoint s r ≡ true
   in_list s r [] k lt at all = absurd (omega arith)
-  in_list s r (z ∷ zs) zero lt at all = ap (are_ranges_apart s) (sym at) ∙ (and_parts (are_ranges_apart s z) (list_all (are_ranges_apart s) zs) all).0
-  in_list s r (z ∷ zs) (suc k) lt at all = in_list s r zs k (omega arith) at (and_parts (are_ranges_apart s z) (list_all (are_ranges_apart s) zs) all).1
+  in_list s r (z ∷ zs) zero lt at all = ap (are_ranges_disjoint s) (sym at) ∙ (and_parts (are_ranges_disjoint s z) (list_all (are_ranges_disjoint s) zs) all).0
+  in_list s r (z ∷ zs) (suc k) lt at all = in_list s r zs k (omega arith) at (and_parts (are_ranges_disjoint s z) (list_all (are_ranges_disjoint s) zs) all).1
 
-  left_all : (rs : List Range) (r : Range) (k : ℕ) → r.at ≤ x → x + n ≤ r.at + r.len → k < length rs → get_or rs k r ≡ r → are_all_ranges_apart rs ≡ true → length (cut_plan_ranges x n rs) ≤ length rs + 1
+  left_all : (rs : List Range) (r : Range) (k : ℕ) → r.at ≤ x → x + n ≤ r.at + r.len → k < length rs → get_or rs k r ≡ r → are_all_ranges_disjoint rs ≡ true → length (cut_plan_ranges x n rs) ≤ length rs + 1
   left_all [] r k low high lt at apart = absurd (omega arith)
   left_all (s ∷ rs) r zero low high lt at apart =
-      let parts = and_parts (list_all (are_ranges_apart s) rs) (are_all_ranges_apart rs) apart in
+      let parts = and_parts (list_all (are_ranges_disjoint s) rs) (are_all_ranges_disjoint rs) apart in
       let two = two_left x n s in
       omega (arith, others_left s rs (subst (λ (z : Range). z.at ≤ x) (sym at) low) (subst (λ (z : Range). x + n ≤ z.at + z.len) (sym at) high) parts.0, left_step s rs)
   left_all (s ∷ rs) r (suc k) low high lt at apart =
-      let parts = and_parts (list_all (are_ranges_apart s) rs) (are_all_ranges_apart rs) apart in
+      let parts = and_parts (list_all (are_ranges_disjoint s) rs) (are_all_ranges_disjoint rs) apart in
       let one = one_left x n s (away_behind r s low high (in_list s r rs k (omega arith) at parts.0)) in
       let rest = left_all rs r k low high (omega arith) at parts.1 in
       omega (arith, left_step s rs)
@@ -117,7 +117,7 @@ pub every_fit : EveryPlanFits
 every_fit plan switch block list r ok has low high few own =
     let n = 4 * length list + 4 in
     let rest = map (λ (d : Device). d.range) plan.devices ++ areas_range plan ∷ [] in
-    let all : are_all_ranges_apart (plan.rom ++ (plan.ram ++ rest)) ≡ true = subst (λ l. are_all_ranges_apart l ≡ true) (append_assoc (plan.rom ++ plan.ram) (map (λ (d : Device). d.range) plan.devices) (areas_range plan ∷ []) ∙ append_assoc plan.rom plan.ram rest) ok.apart in
+    let all : are_all_ranges_disjoint (plan.rom ++ (plan.ram ++ rest)) ≡ true = subst (λ l. are_all_ranges_disjoint l ≡ true) (append_assoc (plan.rom ++ plan.ram) (map (λ (d : Device). d.range) plan.devices) (areas_range plan ∷ []) ∙ append_assoc plan.rom plan.ram rest) ok.apart in
     let left = left_all block n plan.ram r has.0 low high has.1 has.2 (all_apart-front plan.ram rest (all_apart-behind plan.rom (plan.ram ++ rest) all)) in
     record { in_ram = in_one_of block n plan.ram r has.0 low high has.1 has.2; room = omega (arith, length-devices plan.devices (cut_plan_ranges block n plan.ram)); own_stack = own }
 

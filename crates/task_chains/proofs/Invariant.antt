@@ -13,7 +13,7 @@ use Rattle.tc_machine.specs.Starting.{HasGlobals}
 use Rattle.tc_mem.specs.PlanMemory.{HoldsRom, IsPlanMemory}
 use Rattle.tc_machine.specs.PlanAreas.{first_link}
 use Rattle.task_chains.specs.Tasks.{TasksData, count, task_at}
-use Rattle.tc_isa.specs.NamedInstructions.{upper_half}
+use Rattle.tc_isa.specs.NamedInstructions.{adjusted_upper_half}
 use Rattle.task_chains.specs.Views.{view_image_of, view_plan_of}
 use Rattle.task_chains.specs.TaskStarts.{block_word, current_task, task_upper_area, task_lower_area, IsTaskReady}
 use Rattle.task_chains.specs.SwitchRoutine.{IsInRoutine}
@@ -48,7 +48,7 @@ pub data Waits (image : ImageData) (plan : PlanData) (tasks : TasksData) (u : �
 pub record InRoutine (tasks : TasksData) (m : Machine) (u i : ℕ) (word_of : ℕ → ℕ) : Type 0 where
   pub pc : m.pc ≡ tasks.switch + 4 * i
   pub off : m.ie ≡ false
-  pub high : i ≡ 3 → reg m 18 ≡ upper_half tasks.block * 2 ^ 16 % 2 ^ 32
+  pub high : i ≡ 3 → reg m 18 ≡ adjusted_upper_half tasks.block * 2 ^ 16 % 2 ^ 32
   pub block : 4 ≤ i → reg m 18 ≡ tasks.block
   pub own : 5 ≤ i → i ≤ 8 → reg m 0 ≡ u
   pub own_word : 6 ≤ i → i ≤ 7 → reg m 19 ≡ tasks.block + 4 * u

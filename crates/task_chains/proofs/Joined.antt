@@ -6,7 +6,7 @@ use Rattle.std.specs.FinMap as finite
 use Rattle.csa_chain.specs.MemoryBytes.{Memory, is_mapped}
 use Rattle.csa_chain.proofs.ChainLaws.{SameAreas}
 use Rattle.csa_chain.proofs.MemoryLaws.{word_at_agrees}
-use Rattle.csa_chain.specs.SeveralChains.{sum_over_chains}
+use Rattle.csa_chain.specs.SeveralChains.{sum_of_first}
 use Rattle.csa_chain.proofs.SeveralLaws.{sum_below-at}
 use Rattle.elf_image.specs.Images.{ImageData}
 use Rattle.tcd_base.specs.Ranges.{IsInOneRange}
@@ -51,7 +51,7 @@ pub record World (image : ImageData) (plan : PlanData) (tasks : TasksData) (cert
   pub judged : (w : ℕ) → w < count tasks → IsSoundTaskCert image plan tasks (certs w) w
   pub enough : (w : ℕ) → w < count tasks → certified_need (view_image_of image tasks w) (view_plan_of plan tasks w) (certs w) ≤ needs w
   pub two : (w : ℕ) → 1 ≤ w → w < count tasks → 2 ≤ needs w
-  pub sum : sum_over_chains (count tasks) needs ≤ plan.areas - plan.reserve
+  pub sum : sum_of_first (count tasks) needs ≤ plan.areas - plan.reserve
 
 pub in_or_out : (tasks : TasksData) (x : ℕ) → IsInRoutine tasks x ⊎ (IsInRoutine tasks x → ⊥)
 in_or_out tasks x =
@@ -157,7 +157,7 @@ module _ {image : ImageData} {plan : PlanData} {tasks : TasksData} {certs : ℕ 
       own_room = view_room wd.ok wd.are wd.fit own (certs u) (wd.judged u own) (view_few u own) v of.run k.running of.rom seen paused.view_free paused.view_links paused.view_areas e2 fits2
 
       pub room_for_all : (upper : Bool) → length seen < plan.areas - plan.reserve → (step (seen_as m mem pcxi fcx) e2).mem ≡ (with_context_saved (seen_as m mem pcxi fcx) upper).mem → (step (seen_as m mem pcxi fcx) e2).pcxi ≡ (with_context_saved (seen_as m mem pcxi fcx) upper).pcxi
-          → sum_over_chains (count tasks) (λ w. length (chain_of w)) < plan.areas - plan.reserve
+          → sum_of_first (count tasks) (λ w. length (chain_of w)) < plan.areas - plan.reserve
       room_for_all upper room mem_is pcxi_is =
           view_all_room wd.ok wd.are wd.fit own (certs u) (wd.judged u own) (view_few u own) v of.run k.running of.rom seen paused.view_free paused.view_links paused.view_areas e2 fits2 (count tasks) u chain_of needs own k.needs_kept
           (SameContexts-length m.mem mem m.pcxi pcxi (chain_of u) seen paused.same) (wd.enough u own) wd.sum upper room mem_is pcxi_is

@@ -13,10 +13,10 @@ use Rattle.tc_machine.specs.declared.events.Cause.{Cause}
 use Rattle.tc_machine.specs.declared.events.End.TheVariants.{Running}
 use Rattle.tc_machine.specs.declared.state.Machine.{Machine}
 use Rattle.tc_machine.specs.Machine.{reg, a11, if_running, IsMachine}
-use Rattle.tc_machine.specs.Instructions.{machine_address_ahead, with_pc_advanced, access_address, is_trapping_access, target_of, does, is_trapping_instruction}
-use Rattle.tc_machine.specs.Handlers.{at_handler_entry, interrupt}
-use Rattle.tc_machine.specs.Stepping.{is_interrupt_taken, after_found_instruction, machine_after_event, step}
-use Rattle.tc_machine.specs.SavesAndRestores.{with_context_saved, save, has_kind, with_context_restored, restore}
+use Rattle.tc_machine.specs.Instructions.{wrapping_sum, with_pc_advanced, access_address, is_trapping_access, target_of, does, is_trapping_instruction}
+use Rattle.tc_machine.specs.Handlers.{at_handler_entry, after_interrupt}
+use Rattle.tc_machine.specs.Stepping.{is_interrupt_taken, after_fetch_result, machine_after_event, step}
+use Rattle.tc_machine.specs.SavesAndRestores.{with_context_saved, save, is_last_context_of_kind, with_context_restored, restore}
 use Rattle.tc_machine.specs.Fetching.{fetched_instruction, fetched_size}
 use Rattle.tc_machine.proofs.Saves.{then_-running, restore-is}
 use Rattle.tc_machine.proofs.Steps.{with_event, step-is, step_does, done-is, does-call, does-ret}
@@ -67,12 +67,12 @@ module _ {plan : PlanData} (ok : IsPlan plan) (level : ℕ) (v : Machine) (words
   pub level_interrupt : is_interrupt_taken v e ≡ true → Next
   level_interrupt taken =
       let next : Machine → Machine = λ s. record (at_handler_entry v s v.pc (bit_or v.biv (e.irq * 2 ^ 5))) { ccpn = e.irq } in
-      let done_is : machine_after_event v e ≡ if_running (save v true) next = ap (λ t. cond t (interrupt v e.irq) (after_found_instruction v e (fetched_instruction v))) taken in
+      let done_is : machine_after_event v e ≡ if_running (save v true) next = ap (λ t. cond t (after_interrupt v e.irq) (after_fetch_result v e (fetched_instruction v))) taken in
       let runs2 : (if_running (save v true) next).end ≡ Running = sym (ap (λ (x : Machine). x.end) done_is) ∙ done_runs v e running runs in
       let is : machine_after_event v e ≡ next (with_context_saved v true) = done_is ∙ ap (λ s. if_running s next) (saves_on true next runs2) ∙ then_-running (with_context_saved v true) next running in
       let step_is : step v e ≡ with_event (next (with_context_saved v true)) e = step-is v e running (ap (λ (x : Machine). x.end) is ∙ running) ∙ ap (λ (x : Machine). with_event x e) is in
       let keys_are : keys_of (frames_after v e (f ∷ fs)) ≡ handler_key 2 (step v e).pc e.irq ∷ keys_of (f ∷ fs) =
-      ap (λ t. keys_of (frames_after_edge v.pc (machine_address_ahead v.pc (fetched_size (fetched_instruction v))) e.irq (cond t (irq (step v e).pc) (edge_way_in_fetch v e (fetched_instruction v) (step v e).pc)) (f ∷ fs))) taken
+      ap (λ t. keys_of (frames_after_edge v.pc (wrapping_sum v.pc (fetched_size (fetched_instruction v))) e.irq (cond t (irq (step v e).pc) (edge_way_in_fetch v e (fetched_instruction v) (step v e).pc)) (f ∷ fs))) taken
       in
       subst (λ (x : Machine). Leveled level x (frames_after v e (f ∷ fs))) (sym step_is)
       (leveled_upper ok level v words running f fs l free areas e (room_on true next runs2) (with_event (next (with_context_saved v true)) e) (frames_after v e (f ∷ fs)) (handler_key 2 (step v e).pc e.irq) refl refl refl keys_are
@@ -83,10 +83,10 @@ module _ {plan : PlanData} (ok : IsPlan plan) (level : ℕ) (v : Machine) (words
     abbrev way : EdgeWay
     way = edge_way_by_trap v e shape (step v e).pc
 
-    keys_are : keys_of (frames_after v e (f ∷ fs)) ≡ keys_of (frames_after_edge v.pc (machine_address_ahead v.pc (fetched_size (fetched_instruction v))) e.irq way (f ∷ fs))
+    keys_are : keys_of (frames_after v e (f ∷ fs)) ≡ keys_of (frames_after_edge v.pc (wrapping_sum v.pc (fetched_size (fetched_instruction v))) e.irq way (f ∷ fs))
     keys_are =
-        ap (λ t. keys_of (frames_after_edge v.pc (machine_address_ahead v.pc (fetched_size (fetched_instruction v))) e.irq (cond t (irq (step v e).pc) (edge_way_in_fetch v e (fetched_instruction v) (step v e).pc)) (f ∷ fs))) none
-        ∙ ap (λ (r : Result (Shape × ℕ) Cause). keys_of (frames_after_edge v.pc (machine_address_ahead v.pc (fetched_size (fetched_instruction v))) e.irq (edge_way_in_fetch v e r (step v e).pc) (f ∷ fs))) at
+        ap (λ t. keys_of (frames_after_edge v.pc (wrapping_sum v.pc (fetched_size (fetched_instruction v))) e.irq (cond t (irq (step v e).pc) (edge_way_in_fetch v e (fetched_instruction v) (step v e).pc)) (f ∷ fs))) none
+        ∙ ap (λ (r : Result (Shape × ℕ) Cause). keys_of (frames_after_edge v.pc (wrapping_sum v.pc (fetched_size (fetched_instruction v))) e.irq (edge_way_in_fetch v e r (step v e).pc) (f ∷ fs))) at
 
     does_runs : (does v e shape size).end ≡ Running
     does_runs = sym (ap (λ (x : Machine). x.end) (done-is v e shape size none at)) ∙ done_runs v e running runs
@@ -98,7 +98,7 @@ module _ {plan : PlanData} (ok : IsPlan plan) (level : ℕ) (v : Machine) (words
     to_step x is h = subst (λ (y : Machine). Leveled level y (frames_after v e (f ∷ fs))) (sym (step_is x is)) h
 
     -- instructions that stay in their frame
-    plain_on : (mem : Memory) → mem ≡ v.mem → Plainly v v (does v e shape size) (does v e shape size) mem v.mem → keys_of (frames_after_edge v.pc (machine_address_ahead v.pc (fetched_size (fetched_instruction v))) e.irq way (f ∷ fs)) ≡ keys_of (f ∷ fs) → Next
+    plain_on : (mem : Memory) → mem ≡ v.mem → Plainly v v (does v e shape size) (does v e shape size) mem v.mem → keys_of (frames_after_edge v.pc (wrapping_sum v.pc (fetched_size (fetched_instruction v))) e.irq way (f ∷ fs)) ≡ keys_of (f ∷ fs) → Next
     plain_on mem same p stay =
         to_step (changed v p.d p.a p.pc p.ie mem) p.is
         (leveled_plain ok level v words running f fs l free areas e (with_event (changed v p.d p.a p.pc p.ie mem) e) (frames_after v e (f ∷ fs))
@@ -112,13 +112,13 @@ module _ {plan : PlanData} (ok : IsPlan plan) (level : ℕ) (v : Machine) (words
 
     -- instructions that restore
     back : (upper : Bool) (next : Machine → Machine) → does v e shape size ≡ if_running (restore v upper) next
-        → ((j : ℕ) (rest : List ℕ) → l.seen ≡ j ∷ rest → has_kind v upper ≡ true → Leveled level (with_event (next (with_context_restored v upper)) e) (frames_after v e (f ∷ fs))) → Next
+        → ((j : ℕ) (rest : List ℕ) → l.seen ≡ j ∷ rest → is_last_context_of_kind v upper ≡ true → Leveled level (with_event (next (with_context_restored v upper)) e) (frames_after v e (f ∷ fs))) → Next
     back upper next is h =
         let r = restores_from v upper (back_runs v upper next (sym (ap (λ (x : Machine). x.end) is) ∙ does_runs)) in
         let done_is : does v e shape size ≡ next (with_context_restored v upper) = is ∙ ap (λ s. if_running s next) (restore-is v upper r.some r.kind r.area) ∙ then_-running (with_context_restored v upper) next (restored_end v upper ∙ running) in
         to_step (next (with_context_restored v upper)) done_is (by_list l.seen refl r.some r.kind)
       where
-        by_list : (ls : List ℕ) → l.seen ≡ ls → link_in v.pcxi ≢ 0 → has_kind v upper ≡ true → Leveled level (with_event (next (with_context_restored v upper)) e) (frames_after v e (f ∷ fs))
+        by_list : (ls : List ℕ) → l.seen ≡ ls → link_in v.pcxi ≢ 0 → is_last_context_of_kind v upper ≡ true → Leveled level (with_event (next (with_context_restored v upper)) e) (frames_after v e (f ∷ fs))
         by_list [] is_l some kind = absurd (some (subst (Links v.mem v.pcxi) is_l l.links))
         by_list (j ∷ rest) is_l some kind = h j rest is_l kind
 
@@ -126,16 +126,16 @@ module _ {plan : PlanData} (ok : IsPlan plan) (level : ℕ) (v : Machine) (words
   trapped : (shape : Shape) (size : ℕ) → is_interrupt_taken v e ≡ false → fetched_instruction v ≡ Ok (shape, size) → is_trapping_instruction v e shape ≡ true → Next
   trapped shape size none at traps_is =
       let next : Machine → Machine = λ s. record (at_handler_entry v s v.pc (bit_or v.btv (2 * 2 ^ 5))) { d = set s.d 15 4 } in
-      let stay : keys_of (frames_after_edge v.pc (machine_address_ahead v.pc (fetched_size (fetched_instruction v))) e.irq (edge_way_by_trap v e shape (step v e).pc) (f ∷ fs)) ≡ handler_key 4 (step v e).pc (f.key).prio ∷ keys_of (f ∷ fs) =
-      ap (λ t. keys_of (frames_after_edge v.pc (machine_address_ahead v.pc (fetched_size (fetched_instruction v))) e.irq (cond t (aln (step v e).pc) (edge_way_of_shape shape (step v e).pc)) (f ∷ fs))) traps_is
+      let stay : keys_of (frames_after_edge v.pc (wrapping_sum v.pc (fetched_size (fetched_instruction v))) e.irq (edge_way_by_trap v e shape (step v e).pc) (f ∷ fs)) ≡ handler_key 4 (step v e).pc (f.key).prio ∷ keys_of (f ∷ fs) =
+      ap (λ t. keys_of (frames_after_edge v.pc (wrapping_sum v.pc (fetched_size (fetched_instruction v))) e.irq (cond t (aln (step v e).pc) (edge_way_of_shape shape (step v e).pc)) (f ∷ fs))) traps_is
       in
       forth shape size none at true next (does-trapped v e size shape traps_is) (λ _. refl)
       (λ room. leveled_upper ok level v words running f fs l free areas e room (with_event (next (with_context_saved v true)) e) (frames_after v e (f ∷ fs)) (handler_key 4 (step v e).pc (f.key).prio) refl refl refl
       (keys_are shape size none at ∙ stay) (λ k. absurd (let t : 4 ≡ 1 = k in omega arith)) (λ base. absurd (not_base 4 (step v e).pc (f.key).prio base)))
 
-  not_trapped : (shape : Shape) → is_trapping_instruction v e shape ≡ false → keys_of (frames_after_edge v.pc (machine_address_ahead v.pc (fetched_size (fetched_instruction v))) e.irq (edge_way_of_shape shape (step v e).pc) (f ∷ fs)) ≡ keys_of (f ∷ fs)
-      → keys_of (frames_after_edge v.pc (machine_address_ahead v.pc (fetched_size (fetched_instruction v))) e.irq (edge_way_by_trap v e shape (step v e).pc) (f ∷ fs)) ≡ keys_of (f ∷ fs)
-  not_trapped shape no_trap stay = ap (λ t. keys_of (frames_after_edge v.pc (machine_address_ahead v.pc (fetched_size (fetched_instruction v))) e.irq (cond t (aln (step v e).pc) (edge_way_of_shape shape (step v e).pc)) (f ∷ fs))) no_trap ∙ stay
+  not_trapped : (shape : Shape) → is_trapping_instruction v e shape ≡ false → keys_of (frames_after_edge v.pc (wrapping_sum v.pc (fetched_size (fetched_instruction v))) e.irq (edge_way_of_shape shape (step v e).pc) (f ∷ fs)) ≡ keys_of (f ∷ fs)
+      → keys_of (frames_after_edge v.pc (wrapping_sum v.pc (fetched_size (fetched_instruction v))) e.irq (edge_way_by_trap v e shape (step v e).pc) (f ∷ fs)) ≡ keys_of (f ∷ fs)
+  not_trapped shape no_trap stay = ap (λ t. keys_of (frames_after_edge v.pc (wrapping_sum v.pc (fetched_size (fetched_instruction v))) e.irq (cond t (aln (step v e).pc) (edge_way_of_shape shape (step v e).pc)) (f ∷ fs))) no_trap ∙ stay
 
   pub level_step : (shape : Shape) (size : ℕ) → is_interrupt_taken v e ≡ false → fetched_instruction v ≡ Ok (shape, size) → WritesNoFixedRegister shape → EndsBy f.key shape → (IsBase f.key → IsNoBisr shape) → StoresNothing v e shape → Next
   level_step (Compute op dst x y) size none at writes ends no_bisr stores = plain_on (Compute op dst x y) size none at v.mem refl (plain-compute v v.mem v.pcxi v.fcx e e op dst x y size) refl
@@ -155,7 +155,7 @@ module _ {plan : PlanData} (ok : IsPlan plan) (level : ℕ) (v : Machine) (words
   level_step (Branch test x y by lowers) size none at writes ends no_bisr stores = plain_on (Branch test x y by lowers) size none at v.mem refl (plain-branch v v.mem v.pcxi v.fcx e e test x y by lowers size) refl
   level_step (Jump target) size none at writes ends no_bisr stores = plain_on (Jump target) size none at v.mem refl (plain-jump v v.mem v.pcxi v.fcx e e target size) refl
   level_step (Call target) size none at writes ends no_bisr stores =
-      let next : Machine → Machine = λ s. record s { a = set s.a 11 (machine_address_ahead v.pc size); pc = target_of v target } in
+      let next : Machine → Machine = λ s. record s { a = set s.a 11 (wrapping_sum v.pc size); pc = target_of v target } in
       forth (Call target) size none at true next (does-call v e target size) (λ _. refl)
       (λ room. leveled_upper ok level v words running f fs l free areas e room (with_event (next (with_context_saved v true)) e) (frames_after v e (f ∷ fs)) (call_key f.key (step v e).pc) refl refl refl (keys_are (Call target) size none at)
       (λ k base. base) (λ base. (refl, base)))
@@ -180,7 +180,7 @@ module _ {plan : PlanData} (ok : IsPlan plan) (level : ℕ) (v : Machine) (words
   level_step Enable size none at writes ends no_bisr stores = plain_on Enable size none at v.mem refl (plain-enable v v.mem v.pcxi v.fcx e e size) refl
   level_step Disable size none at writes ends no_bisr stores = plain_on Disable size none at v.mem refl (plain-disable v v.mem v.pcxi v.fcx e e size) refl
   level_step (Syscall tin) size none at writes ends no_bisr stores =
-      let next : Machine → Machine = λ s. record (at_handler_entry v s (machine_address_ahead v.pc size) (bit_or v.btv (6 * 2 ^ 5))) { d = set s.d 15 tin } in
+      let next : Machine → Machine = λ s. record (at_handler_entry v s (wrapping_sum v.pc size) (bit_or v.btv (6 * 2 ^ 5))) { d = set s.d 15 tin } in
       forth (Syscall tin) size none at true next (does-syscall v e size tin) (λ _. refl)
       (λ room. leveled_upper ok level v words running f fs l free areas e room (with_event (next (with_context_saved v true)) e) (frames_after v e (f ∷ fs)) (handler_key 3 (step v e).pc (f.key).prio) refl refl refl (keys_are (Syscall tin) size none at)
       (λ k. absurd (let t : 3 ≡ 1 = k in omega arith)) (λ base. absurd (not_base 3 (step v e).pc (f.key).prio base)))

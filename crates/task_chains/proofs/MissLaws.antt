@@ -8,7 +8,7 @@ use Rattle.value_domain.specs.Sets.{Among}
 use Rattle.value_domain.specs.Values.{IsMember, IsWellFormed}
 use Rattle.value_domain.proofs.CoverLaws.{step_cases, in_units, from_units}
 use Rattle.store_ranges.specs.Accesses.{IsAccessSize}
-use Rattle.task_chains.specs.Rule17.{AreAccessesApart, HasAccessBetween}
+use Rattle.task_chains.specs.Rule17.{AreAccessesOutside, HasAccessBetween}
 use Rattle.value_domain.proofs.WordLaws.{among_place}
 use Rattle.value_domain.proofs.Loops.{among_get}
 
@@ -73,7 +73,7 @@ size_some n (inr (inr e)) = (omega arith, omega arith)
 
 module _ (v : Val) (n from len low last : ℕ) (well : IsWellFormed v) (size : IsAccessSize n) (some : 0 < len) (word : from < 2 ^ 32) (lowest : low ≡ from - (n - 1)) (end : last ≡ min (from + (len - 1)) (2 ^ 32 - 1)) where
   -- an access from between them touches the range
-  touched : HasAccessBetween v low last → AreAccessesApart v n from len → ⊥
+  touched : HasAccessBetween v low last → AreAccessesOutside v n from len → ⊥
   touched (x, member, above, below) all =
       let s = size_some n size in
       let s0 = s.0 in
@@ -87,7 +87,7 @@ module _ (v : Val) (n from len low last : ℕ) (well : IsWellFormed v) (size : I
       ]
 
   -- so does an access from the last addresses, if the range is among the first ones
-  wrapped : (first : ℕ) → from < n - 1 → first ≡ (from + (2 ^ 32 - (n - 1))) % 2 ^ 32 → HasAccessBetween v first (2 ^ 32 - 1) → AreAccessesApart v n from len → ⊥
+  wrapped : (first : ℕ) → from < n - 1 → first ≡ (from + (2 ^ 32 - (n - 1))) % 2 ^ 32 → HasAccessBetween v first (2 ^ 32 - 1) → AreAccessesOutside v n from len → ⊥
   wrapped first near is (x, member, above, below) all =
       let s = size_some n size in
       let s0 = s.0 in
@@ -100,7 +100,7 @@ module _ (v : Val) (n from len low last : ℕ) (well : IsWellFormed v) (size : I
       ]
 
   -- no other access touches the range
-  missed : (first : ℕ) → (HasAccessBetween v low last → ⊥) → (n - 1 ≤ from) ⊎ ((first ≡ (from + (2 ^ 32 - (n - 1))) % 2 ^ 32) × (HasAccessBetween v first (2 ^ 32 - 1) → ⊥)) → AreAccessesApart v n from len
+  missed : (first : ℕ) → (HasAccessBetween v low last → ⊥) → (n - 1 ≤ from) ⊎ ((first ≡ (from + (2 ^ 32 - (n - 1))) % 2 ^ 32) × (HasAccessBetween v first (2 ^ 32 - 1) → ⊥)) → AreAccessesOutside v n from len
   missed first none other x member i lt =
       let s = size_some n size in
       let s0 = s.0 in
@@ -126,13 +126,13 @@ module _ (v : Val) (n from len low last : ℕ) (well : IsWellFormed v) (size : I
         ]
       ]
 
-  pub touches_then : HasAccessBetween v low last → (IsTrue false → AreAccessesApart v n from len) × (AreAccessesApart v n from len → IsTrue false)
+  pub touches_then : HasAccessBetween v low last → (IsTrue false → AreAccessesOutside v n from len) × (AreAccessesOutside v n from len → IsTrue false)
   touches_then has = (λ t. absurd (let f : false ≡ true = t in cc), λ all. absurd (touched has all))
 
-  pub misses_then : (HasAccessBetween v low last → ⊥) → n - 1 ≤ from → (IsTrue true → AreAccessesApart v n from len) × (AreAccessesApart v n from len → IsTrue true)
+  pub misses_then : (HasAccessBetween v low last → ⊥) → n - 1 ≤ from → (IsTrue true → AreAccessesOutside v n from len) × (AreAccessesOutside v n from len → IsTrue true)
   misses_then none far = (λ t. missed 0 none (inl far), λ all. refl)
 
   pub misses_else : (first : ℕ) (r : Bool) → (HasAccessBetween v low last → ⊥) → from < n - 1 → first ≡ (from + (2 ^ 32 - (n - 1))) % 2 ^ 32 → (IsTrue r → HasAccessBetween v first (2 ^ 32 - 1)) × (HasAccessBetween v first (2 ^ 32 - 1) → IsTrue r)
-      → (IsTrue (not r) → AreAccessesApart v n from len) × (AreAccessesApart v n from len → IsTrue (not r))
+      → (IsTrue (not r) → AreAccessesOutside v n from len) × (AreAccessesOutside v n from len → IsTrue (not r))
   misses_else first true none near is both = (λ t. absurd (let f : false ≡ true = t in cc), λ all. absurd (wrapped first near is (both.0 refl) all))
   misses_else first false none near is both = (λ t. missed first none (inr (is, λ has. let f : false ≡ true = both.1 has in absurd (let g : false ≡ true = f in cc))), λ all. refl)

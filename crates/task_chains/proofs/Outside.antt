@@ -21,10 +21,10 @@ use Rattle.tc_machine.specs.declared.events.End.{End}
 use Rattle.tc_machine.specs.declared.events.End.TheVariants.{Running, Dead}
 use Rattle.tc_machine.specs.declared.state.Machine.{Machine}
 use Rattle.tc_machine.specs.Machine.{reg, a11, if_running, if_end_running, IsMachine, core_register}
-use Rattle.tc_machine.specs.Instructions.{machine_address_ahead, with_pc_advanced, access_address, is_trapping_access, target_of, does, is_trapping_instruction}
-use Rattle.tc_machine.specs.Handlers.{at_handler_entry, interrupt}
-use Rattle.tc_machine.specs.Stepping.{is_interrupt_taken, after_found_instruction, machine_after_event, step}
-use Rattle.tc_machine.specs.SavesAndRestores.{has_kind, restore, with_context_saved, save}
+use Rattle.tc_machine.specs.Instructions.{wrapping_sum, with_pc_advanced, access_address, is_trapping_access, target_of, does, is_trapping_instruction}
+use Rattle.tc_machine.specs.Handlers.{at_handler_entry, after_interrupt}
+use Rattle.tc_machine.specs.Stepping.{is_interrupt_taken, after_fetch_result, machine_after_event, step}
+use Rattle.tc_machine.specs.SavesAndRestores.{is_last_context_of_kind, restore, with_context_saved, save}
 use Rattle.tc_machine.specs.Fetching.{fetched_instruction}
 use Rattle.tcd_plan.specs.MappedAddresses.{IsInAreas, IsStoreInRange}
 use Rattle.tc_mem.specs.PlanMemory.{HoldsRom, IsPlanMemory}
@@ -39,11 +39,11 @@ use Rattle.cfg_recover.specs.Code.{IsCode}
 use Rattle.cfg_recover.proofs.Points.{does-rfe, does-svlcx, does-rslcx, does-bisr, does-syscall, does-trapped}
 use Rattle.cfg_recover.proofs.Writes.{store_keeps_areas}
 use Rattle.csa_chain.proofs.MemoryLaws.{is_mapped-with_bytes}
-use Rattle.csa_chain.specs.SeveralChains.{sum_over_chains}
+use Rattle.csa_chain.specs.SeveralChains.{sum_of_first}
 use Rattle.task_chains.specs.Tasks.{TasksData}
 use Rattle.task_chains.specs.SwitchRoutine.{routine_size}
 use Rattle.task_chains.specs.Views.{view_plan_of}
-use Rattle.task_chains.specs.Rule17.{IsAccessApart, LoadMissesAreasAndRoutine, ReadsNoContextRegister}
+use Rattle.task_chains.specs.Rule17.{IsAccessOutside, LoadMissesAreasAndRoutine, ReadsNoContextRegister}
 use Rattle.task_chains.proofs.Twins.{Twins, SameContexts-length}
 use Rattle.task_chains.proofs.Alike.{seen_as, Alike, Alike-interrupt, Alike-call}
 use Rattle.task_chains.proofs.Backs.{restores_from, Alike-ret, Alike-rfe, Alike-rslcx}
@@ -122,7 +122,7 @@ module _ {image view : ImageData} {plan : PlanData} (ok : IsPlan plan) {tasks : 
 
   -- ---- loads
   -- a byte that a load reaches: it is in no save area and not in the routine
-  byte_agrees : (x i size : ℕ) → i < size → IsAccessApart x size plan.csa_at (64 * plan.areas) → IsAccessApart x size tasks.switch routine_size → Agrees mem m.mem ((x + i) % 2 ^ 32)
+  byte_agrees : (x i size : ℕ) → i < size → IsAccessOutside x size plan.csa_at (64 * plan.areas) → IsAccessOutside x size tasks.switch routine_size → Agrees mem m.mem ((x + i) % 2 ^ 32)
   byte_agrees x i size lt areas routine =
       let y = (x + i) % 2 ^ 32 in
       elim (cases_Bool (is_mapped mem y)) [
@@ -139,7 +139,7 @@ module _ {image view : ImageData} {plan : PlanData} (ok : IsPlan plan) {tasks : 
       unmapped (Some c) g = absurd (false≢true (sym g))
 
   module _ (dst : ℕ) (base : Arg) (offset size : ℕ) (signed after : Bool) (len : ℕ) (at : AtPoint b view plan tasks u v e s (Load dst base offset size signed after) len) where
-    load_misses : IsAccessApart (access_address v base offset after) size plan.csa_at (64 * plan.areas) × IsAccessApart (access_address v base offset after) size tasks.switch routine_size
+    load_misses : IsAccessOutside (access_address v base offset after) size plan.csa_at (64 * plan.areas) × IsAccessOutside (access_address v base offset after) size tasks.switch routine_size
     load_misses = ((at.loads).0 (access_address v base offset after) at.load_at, (at.loads).1 (access_address v base offset after) at.load_at)
 
     pub same_load : access_address m base offset after < 2 ^ 32 → loaded_number mem (loaded_number m.mem e.input (access_address m base offset after) size) (access_address m base offset after) size ≡ loaded_number m.mem e.input (access_address m base offset after) size
@@ -168,7 +168,7 @@ module _ {image view : ImageData} {plan : PlanData} (ok : IsPlan plan) {tasks : 
   -- does, so have all tasks
   pub record Rooms (e2 : Event) : Type 0 where
     pub own_room : (upper : Bool) → (save v upper).end ≡ Running → length seen < plan.areas - plan.reserve
-    pub all_room : (upper : Bool) → length seen < plan.areas - plan.reserve → (step v e2).mem ≡ (with_context_saved v upper).mem → (step v e2).pcxi ≡ (with_context_saved v upper).pcxi → sum_over_chains n (λ w. length (chain_of w)) < plan.areas - plan.reserve
+    pub all_room : (upper : Bool) → length seen < plan.areas - plan.reserve → (step v e2).mem ≡ (with_context_saved v upper).mem → (step v e2).pcxi ≡ (with_context_saved v upper).pcxi → sum_of_first n (λ w. length (chain_of w)) < plan.areas - plan.reserve
 
   view_stands : (upper : Bool) → length seen < plan.areas - plan.reserve → save v upper ≡ with_context_saved v upper
   view_stands upper room =
@@ -186,7 +186,7 @@ module _ {image view : ImageData} {plan : PlanData} (ok : IsPlan plan) {tasks : 
   interrupt_step taken e2 same_irq same_status rooms runs =
       let next : Machine → Machine = λ s. record (at_handler_entry v s v.pc (bit_or v.biv (e2.irq * 2 ^ 5))) { ccpn = e2.irq } in
       let view_taken : is_interrupt_taken v e2 ≡ true = ap (λ q. is_interrupt_taken m (record e { irq = q })) same_irq ∙ taken in
-      let done_is : machine_after_event v e2 ≡ if_running (save v true) next = ap (λ t. cond t (interrupt v e2.irq) (after_found_instruction v e2 (fetched_instruction v))) view_taken in
+      let done_is : machine_after_event v e2 ≡ if_running (save v true) next = ap (λ t. cond t (after_interrupt v e2.irq) (after_fetch_result v e2 (fetched_instruction v))) view_taken in
       let room = rooms.own_room true (save_runs true next (sym (ap (λ (x : Machine). x.end) done_is) ∙ done_runs v e2 k.running runs)) in
       let is : machine_after_event v e2 ≡ next (with_context_saved v true) = done_is ∙ ap (λ s. if_running s next) (view_stands true room) ∙ then_-running (with_context_saved v true) next k.running in
       let step_at : step v e2 ≡ with_event (next (with_context_saved v true)) e2 = step-is v e2 k.running (ap (λ (x : Machine). x.end) is ∙ k.running) ∙ ap (λ (x : Machine). with_event x e2) is in
@@ -217,7 +217,7 @@ module _ {image view : ImageData} {plan : PlanData} (ok : IsPlan plan) {tasks : 
     same_memory p = plainly m.mem (λ x at. refl) (λ x. refl) p (λ x is. refl)
 
     rooms_for : Rooms e2 → (upper : Bool) (next : Machine → Machine) → does v e2 shape size ≡ if_running (save v upper) next → (next (with_context_saved v upper)).mem ≡ (with_context_saved v upper).mem → (next (with_context_saved v upper)).pcxi ≡ (with_context_saved v upper).pcxi → (step v e2).end ≡ Running
-        → (sum_over_chains n (λ w. length (chain_of w)) < plan.areas - plan.reserve) × (length seen < plan.areas - plan.reserve)
+        → (sum_of_first n (λ w. length (chain_of w)) < plan.areas - plan.reserve) × (length seen < plan.areas - plan.reserve)
     rooms_for rooms upper next is mem_is pcxi_is runs =
         let room = rooms.own_room upper (save_runs upper next (sym (ap (λ (x : Machine). x.end) is) ∙ runs_on runs)) in
         let does_is : does v e2 shape size ≡ next (with_context_saved v upper) = is ∙ ap (λ s. if_running s next) (view_stands upper room) ∙ then_-running (with_context_saved v upper) next k.running in
@@ -227,12 +227,12 @@ module _ {image view : ImageData} {plan : PlanData} (ok : IsPlan plan) {tasks : 
     -- ---- restores
     -- the view restores a context, so both have one
     with_context : (upper : Bool) (next : Machine → Machine) → does v e2 shape size ≡ if_running (restore v upper) next → (step v e2).end ≡ Running
-        → ((l : ℕ) (used : List ℕ) → chain_of u ≡ l ∷ used → (j : ℕ) (seen2 : List ℕ) → Twins plan n u word_of chain_of (j ∷ seen2) m.mem m.pcxi m.fcx m.lcx mem pcxi fcx → has_kind v upper ≡ true → AlikeStep e2) → AlikeStep e2
+        → ((l : ℕ) (used : List ℕ) → chain_of u ≡ l ∷ used → (j : ℕ) (seen2 : List ℕ) → Twins plan n u word_of chain_of (j ∷ seen2) m.mem m.pcxi m.fcx m.lcx mem pcxi fcx → is_last_context_of_kind v upper ≡ true → AlikeStep e2) → AlikeStep e2
     with_context upper next is runs step_of =
         let r = restores_from v upper (back_runs v upper next (sym (ap (λ (x : Machine). x.end) is) ∙ runs_on runs)) in
         by_lists (chain_of u) refl seen refl r.some r.kind
       where
-        by_lists : (links : List ℕ) → chain_of u ≡ links → (sees : List ℕ) → seen ≡ sees → link_in pcxi ≢ 0 → has_kind v upper ≡ true → AlikeStep e2
+        by_lists : (links : List ℕ) → chain_of u ≡ links → (sees : List ℕ) → seen ≡ sees → link_in pcxi ≢ 0 → is_last_context_of_kind v upper ≡ true → AlikeStep e2
         by_lists links is_l [] is_s some kind = absurd (some (subst (Links mem pcxi) is_s (k.twins).view_links))
         by_lists [] is_l (j ∷ seen2) is_s some kind =
             absurd (let long = SameContexts-length m.mem mem m.pcxi pcxi (chain_of u) seen (k.twins).same in let l0 : length (chain_of u) ≡ 0 = ap length is_l in let l1 : length seen ≡ suc (length seen2) = ap length is_s in omega arith)
@@ -276,7 +276,7 @@ module _ {image view : ImageData} {plan : PlanData} (ok : IsPlan plan) {tasks : 
   outside_step (Branch test x y by lowers) size at same none rooms store runs = same_memory (Branch test x y by lowers) size at same none (plain-branch m mem pcxi fcx e e test x y by lowers size)
   outside_step (Jump to) size at same none rooms store runs = same_memory (Jump to) size at same none (plain-jump m mem pcxi fcx e e to size)
   outside_step (Call to) size at same none rooms store runs =
-      let r = rooms_for (Call to) size at same none rooms true (λ s. record s { a = set s.a 11 (machine_address_ahead v.pc size); pc = target_of v to }) (does-call v e to size) refl refl runs in
+      let r = rooms_for (Call to) size at same none rooms true (λ s. record s { a = set s.a 11 (wrapping_sum v.pc size); pc = target_of v to }) (does-call v e to size) refl refl runs in
       Alike-call ok Kept kept m mem pcxi fcx k.words k.view_words k.running k.twins r.0 r.1 e e to size none refl refl (here (Call to) size at same none) (there (Call to) size at same none)
   outside_step Ret size at same none rooms store runs =
       with_context Ret size at same none true (λ r. record r { pc = a11 v / 2 * 2 }) (does-ret v e size) runs
@@ -296,7 +296,7 @@ module _ {image view : ImageData} {plan : PlanData} (ok : IsPlan plan) {tasks : 
   outside_step Enable size at same none rooms store runs = same_memory Enable size at same none (plain-enable m mem pcxi fcx e e size)
   outside_step Disable size at same none rooms store runs = same_memory Disable size at same none (plain-disable m mem pcxi fcx e e size)
   outside_step (Syscall tin) size at same none rooms store runs =
-      let r = rooms_for (Syscall tin) size at same none rooms true (λ s. record (at_handler_entry v s (machine_address_ahead v.pc size) (bit_or v.btv (6 * 2 ^ 5))) { d = set s.d 15 tin }) (does-syscall v e size tin) refl refl runs in
+      let r = rooms_for (Syscall tin) size at same none rooms true (λ s. record (at_handler_entry v s (wrapping_sum v.pc size) (bit_or v.btv (6 * 2 ^ 5))) { d = set s.d 15 tin }) (does-syscall v e size tin) refl refl runs in
       Alike-syscall ok Kept kept m mem pcxi fcx k.words k.view_words k.running k.twins r.0 r.1 e e none refl refl tin size (here (Syscall tin) size at same none) (there (Syscall tin) size at same none)
   outside_step (Mfcr dst number) size at same none rooms store runs = same_memory (Mfcr dst number) size at same none (plain-mfcr m mem pcxi fcx e e dst number size (core_same number at.links))
   outside_step (Mtcr src number) size at same none rooms store runs = absurd at.writes

@@ -2,7 +2,7 @@
 -- context.
 use Rattle.std.proofs.Common.{◌≡◌, ℕ, ◌+◌, ◌-◌, ◌*◌, ◌^◌, ◌<◌, ◌≤◌, Bool, true, false, cond, List, [], ◌∷◌, set, Ok, refl, sym, ap, ◌∙◌, subst, arith, ltb}
 use Rattle.std.specs.FinMap as map
-use Rattle.csa_chain.specs.MemoryBytes.{Memory, is_mapped, loaded_number, extend_loaded_bytes, with_bytes}
+use Rattle.csa_chain.specs.MemoryBytes.{Memory, is_mapped, loaded_number, load_result, with_bytes}
 use Rattle.csa_chain.specs.Chain.{link_address}
 use Rattle.csa_chain.proofs.ChainLaws.{SameAreas, Links-same}
 use Rattle.tcd_plan.specs.PlanData.{PlanData, IsPlan}
@@ -19,7 +19,7 @@ use Rattle.tc_machine.specs.declared.events.Event.{Event}
 use Rattle.tc_machine.specs.declared.events.End.TheVariants.{Running}
 use Rattle.tc_machine.specs.declared.state.Machine.{Machine}
 use Rattle.tc_machine.specs.Machine.{reg, with_reg, core_register}
-use Rattle.tc_machine.specs.Instructions.{machine_address_ahead, operand_value, with_pc_advanced, access_address, with_base_incremented, is_trapping_access, misaligned_access_trap, target_of, does}
+use Rattle.tc_machine.specs.Instructions.{wrapping_sum, operand_value, with_pc_advanced, access_address, with_base_incremented, is_trapping_access, misaligned_access_trap, target_of, does}
 use Rattle.tc_machine.specs.Fetching.{fetched_instruction}
 use Rattle.tc_machine.specs.Stepping.{is_interrupt_taken, step}
 use Rattle.tcd_plan.specs.MappedAddresses.{IsInAreas}
@@ -27,7 +27,7 @@ use Rattle.tc_machine.specs.PlanAreas.{first_link, plan_areas}
 use Rattle.tc_machine.proofs.Steps.{with_event, step_does}
 use Rattle.tc_machine.proofs.PlanLaws.{link_address-area}
 use Rattle.cfg_recover.proofs.Went.{changed}
-use Rattle.csa_chain.specs.SeveralChains.{times_in_list}
+use Rattle.csa_chain.specs.SeveralChains.{occurrences_of}
 use Rattle.csa_chain.proofs.SeveralLaws.{times-first, sum_below-at}
 use Rattle.task_chains.proofs.Twins.{Twins, SameContexts-kept}
 use Rattle.task_chains.proofs.Alike.{seen_as, Alike, area_at}
@@ -64,14 +64,14 @@ module _ (m : Machine) (view : Memory) (pcxi fcx : ℕ) (e e2 : Event) where
   arg-same (Word w) = refl
 
   pub address-same : (base : Arg) (offset : ℕ) (after : Bool) → access_address v base offset after ≡ access_address m base offset after
-  address-same base offset after = ap (λ x. cond after x (machine_address_ahead x offset)) (arg-same base)
+  address-same base offset after = ap (λ x. cond after x (wrapping_sum x offset)) (arg-same base)
 
   -- registers of m with one set
   pub set_one : (k r w w2 : ℕ) → w2 ≡ w → Plainly m v (with_pc_advanced k (with_reg m r w)) (with_pc_advanced k (with_reg v r w2)) m.mem view
   set_one k r w w2 same = record {
     d = d_with m.d r w;
     a = a_with m.a r w;
-    pc = machine_address_ahead m.pc k;
+    pc = wrapping_sum m.pc k;
     ie = m.ie;
     is = ap (with_pc_advanced k) (with_reg-is m r w);
     view_is = ap (with_pc_advanced k) (ap (with_reg v r) same ∙ with_reg-is v r w);
@@ -83,7 +83,7 @@ module _ (m : Machine) (view : Memory) (pcxi fcx : ℕ) (e e2 : Event) where
 
   pub plain-scaled : (dst base index j k : ℕ) → Plainly m v (does m e (Scaled dst base index j) k) (does v e2 (Scaled dst base index j) k) m.mem view
   unfolding does
-  plain-scaled dst base index j k = set_one k dst (machine_address_ahead (reg m base) (reg m index * 2 ^ j)) _ refl
+  plain-scaled dst base index j k = set_one k dst (wrapping_sum (reg m base) (reg m index * 2 ^ j)) _ refl
 
   pub plain-mfcr : (dst number k : ℕ) → core_register v e2 number ≡ core_register m e number → Plainly m v (does m e (Mfcr dst number) k) (does v e2 (Mfcr dst number) k) m.mem view
   unfolding does
@@ -91,15 +91,15 @@ module _ (m : Machine) (view : Memory) (pcxi fcx : ℕ) (e e2 : Event) where
 
   pub plain-enable : (k : ℕ) → Plainly m v (does m e Enable k) (does v e2 Enable k) m.mem view
   unfolding does
-  plain-enable k = record { d = m.d; a = m.a; pc = machine_address_ahead m.pc k; ie = true; is = refl; view_is = refl }
+  plain-enable k = record { d = m.d; a = m.a; pc = wrapping_sum m.pc k; ie = true; is = refl; view_is = refl }
 
   pub plain-disable : (k : ℕ) → Plainly m v (does m e Disable k) (does v e2 Disable k) m.mem view
   unfolding does
-  plain-disable k = record { d = m.d; a = m.a; pc = machine_address_ahead m.pc k; ie = false; is = refl; view_is = refl }
+  plain-disable k = record { d = m.d; a = m.a; pc = wrapping_sum m.pc k; ie = false; is = refl; view_is = refl }
 
   pub plain-nothing : (k : ℕ) → Plainly m v (does m e Nothing k) (does v e2 Nothing k) m.mem view
   unfolding does
-  plain-nothing k = record { d = m.d; a = m.a; pc = machine_address_ahead m.pc k; ie = m.ie; is = refl; view_is = refl }
+  plain-nothing k = record { d = m.d; a = m.a; pc = wrapping_sum m.pc k; ie = m.ie; is = refl; view_is = refl }
 
   target_same : (to : Target) → target_of v to ≡ target_of m to
   target_same (target.Rel by) = refl
@@ -115,19 +115,19 @@ module _ (m : Machine) (view : Memory) (pcxi fcx : ℕ) (e e2 : Event) where
   plain-branch test x y by false k = record {
     d = m.d;
     a = m.a;
-    pc = cond (taken_of test (reg m x) (operand_value m y)) (machine_address_ahead m.pc by) (machine_address_ahead m.pc k);
+    pc = cond (taken_of test (reg m x) (operand_value m y)) (wrapping_sum m.pc by) (wrapping_sum m.pc k);
     ie = m.ie;
     is = refl;
-    view_is = λ i. record v { pc = cond (taken_of test (reg m x) (arg-same y i)) (machine_address_ahead m.pc by) (machine_address_ahead m.pc k) };
+    view_is = λ i. record v { pc = cond (taken_of test (reg m x) (arg-same y i)) (wrapping_sum m.pc by) (wrapping_sum m.pc k) };
   }
   plain-branch test x y by true k = record {
-    d = d_with m.d x (machine_address_ahead (reg m x) (2 ^ 32 - 1));
-    a = a_with m.a x (machine_address_ahead (reg m x) (2 ^ 32 - 1));
-    pc = cond (taken_of test (reg m x) (operand_value m y)) (machine_address_ahead m.pc by) (machine_address_ahead m.pc k);
+    d = d_with m.d x (wrapping_sum (reg m x) (2 ^ 32 - 1));
+    a = a_with m.a x (wrapping_sum (reg m x) (2 ^ 32 - 1));
+    pc = cond (taken_of test (reg m x) (operand_value m y)) (wrapping_sum m.pc by) (wrapping_sum m.pc k);
     ie = m.ie;
-    is = ap (λ (b : Machine). record b { pc = cond (taken_of test (reg m x) (operand_value m y)) (machine_address_ahead m.pc by) (machine_address_ahead m.pc k) }) (with_reg-is m x (machine_address_ahead (reg m x) (2 ^ 32 - 1)));
-    view_is = (λ i. record (with_reg v x (machine_address_ahead (reg v x) (2 ^ 32 - 1))) { pc = cond (taken_of test (reg m x) (arg-same y i)) (machine_address_ahead m.pc by) (machine_address_ahead m.pc k) })
-        ∙ ap (λ (b : Machine). record b { pc = cond (taken_of test (reg m x) (operand_value m y)) (machine_address_ahead m.pc by) (machine_address_ahead m.pc k) }) (with_reg-is v x (machine_address_ahead (reg m x) (2 ^ 32 - 1)));
+    is = ap (λ (b : Machine). record b { pc = cond (taken_of test (reg m x) (operand_value m y)) (wrapping_sum m.pc by) (wrapping_sum m.pc k) }) (with_reg-is m x (wrapping_sum (reg m x) (2 ^ 32 - 1)));
+    view_is = (λ i. record (with_reg v x (wrapping_sum (reg v x) (2 ^ 32 - 1))) { pc = cond (taken_of test (reg m x) (arg-same y i)) (wrapping_sum m.pc by) (wrapping_sum m.pc k) })
+        ∙ ap (λ (b : Machine). record b { pc = cond (taken_of test (reg m x) (operand_value m y)) (wrapping_sum m.pc by) (wrapping_sum m.pc k) }) (with_reg-is v x (wrapping_sum (reg m x) (2 ^ 32 - 1)));
   }
 
   -- ---- accesses
@@ -141,24 +141,24 @@ module _ (m : Machine) (view : Memory) (pcxi fcx : ℕ) (e e2 : Event) where
   based : (base : Arg) (offset : ℕ) (after : Bool) → Based (with_base_incremented m base offset after) (with_base_incremented v base offset after)
   based (Word w) offset after = record { d = m.d; a = m.a; is = refl; view_is = refl }
   based (Reg r) offset false = record { d = m.d; a = m.a; is = refl; view_is = refl }
-  based (Reg r) offset true = record { d = d_with m.d r (machine_address_ahead (reg m r) offset); a = a_with m.a r (machine_address_ahead (reg m r) offset); is = with_reg-is m r _; view_is = with_reg-is v r _ }
+  based (Reg r) offset true = record { d = d_with m.d r (wrapping_sum (reg m r) offset); a = a_with m.a r (wrapping_sum (reg m r) offset); is = with_reg-is m r _; view_is = with_reg-is v r _ }
 
   pub plain-load : (dst : ℕ) (base : Arg) (offset size : ℕ) (signed after : Bool) (k : ℕ) → is_trapping_access e (access_address m base offset after) size ≡ false → e2.aln ≡ e.aln
       → loaded_number view e2.input (access_address m base offset after) size ≡ loaded_number m.mem e.input (access_address m base offset after) size
       → Plainly m v (does m e (Load dst base offset size signed after) k) (does v e2 (Load dst base offset size signed after) k) m.mem view
   unfolding does
   plain-load dst base offset size signed after k none same_aln same =
-      let w = extend_loaded_bytes signed size (loaded_number m.mem e.input (access_address m base offset after) size) in
+      let w = load_result signed size (loaded_number m.mem e.input (access_address m base offset after) size) in
       let b = based base offset after in
       let view_none : is_trapping_access e2 (access_address v base offset after) size ≡ false = (λ i. is_trapping_access (record e { aln = same_aln i }) (address-same base offset after i) size) ∙ none in
-      let value : extend_loaded_bytes signed size (loaded_number view e2.input (access_address v base offset after) size) ≡ w = ap (λ y. extend_loaded_bytes signed size (loaded_number view e2.input y size)) (address-same base offset after) ∙ ap (extend_loaded_bytes signed size) same in
+      let value : load_result signed size (loaded_number view e2.input (access_address v base offset after) size) ≡ w = ap (λ y. load_result signed size (loaded_number view e2.input y size)) (address-same base offset after) ∙ ap (load_result signed size) same in
       record {
         d = d_with b.d dst w;
         a = a_with b.a dst w;
-        pc = machine_address_ahead m.pc k;
+        pc = wrapping_sum m.pc k;
         ie = m.ie;
         is = ap (λ t. cond t (misaligned_access_trap m) (with_pc_advanced k (with_reg (with_base_incremented m base offset after) dst w))) none ∙ ap (λ (y : Machine). with_pc_advanced k (with_reg y dst w)) b.is ∙ ap (with_pc_advanced k) (with_reg-is (record m { d = b.d; a = b.a }) dst w);
-        view_is = ap (λ t. cond t (misaligned_access_trap v) (with_pc_advanced k (with_reg (with_base_incremented v base offset after) dst (extend_loaded_bytes signed size (loaded_number view e2.input (access_address v base offset after) size))))) view_none
+        view_is = ap (λ t. cond t (misaligned_access_trap v) (with_pc_advanced k (with_reg (with_base_incremented v base offset after) dst (load_result signed size (loaded_number view e2.input (access_address v base offset after) size))))) view_none
             ∙ ap (λ (y : ℕ). with_pc_advanced k (with_reg (with_base_incremented v base offset after) dst y)) value ∙ ap (λ (y : Machine). with_pc_advanced k (with_reg y dst w)) b.view_is ∙ ap (with_pc_advanced k) (with_reg-is (record v { d = b.d; a = b.a }) dst w);
       }
 
@@ -174,7 +174,7 @@ module _ (m : Machine) (view : Memory) (pcxi fcx : ℕ) (e e2 : Event) where
       record {
         d = b.d;
         a = b.a;
-        pc = machine_address_ahead m.pc k;
+        pc = wrapping_sum m.pc k;
         ie = m.ie;
         is = ap (λ t. cond t (misaligned_access_trap m) (with_pc_advanced k (record (with_base_incremented m base offset after) { mem = with_bytes m.mem x (reg m src) size }))) none
             ∙ ap (λ (y : Machine). with_pc_advanced k (record y { mem = with_bytes m.mem x (reg m src) size })) b.is;
@@ -184,7 +184,7 @@ module _ (m : Machine) (view : Memory) (pcxi fcx : ℕ) (e e2 : Event) where
 
 -- ---- what they share stays
 -- links of the plan's areas keep their bytes if the areas' bytes are unchanged
-pub SameAreas-inside : {plan : PlanData} → IsPlan plan → (old new : Memory) → ((x : ℕ) → IsInAreas plan x → map.get new x ≡ map.get old x) → (ls : List ℕ) → ((l : ℕ) → times_in_list l ls ≤ times_in_list l (plan_areas plan)) → SameAreas old new ls
+pub SameAreas-inside : {plan : PlanData} → IsPlan plan → (old new : Memory) → ((x : ℕ) → IsInAreas plan x → map.get new x ≡ map.get old x) → (ls : List ℕ) → ((l : ℕ) → occurrences_of l ls ≤ occurrences_of l (plan_areas plan)) → SameAreas old new ls
 SameAreas-inside ok old new same [] few = tt
 SameAreas-inside {plan = plan} ok old new same (l ∷ ls) few =
     let first = times-first l ls in
@@ -199,10 +199,10 @@ SameAreas-inside {plan = plan} ok old new same (l ∷ ls) few =
 module _ {plan : PlanData} (ok : IsPlan plan) (Kept : ℕ → Type 0) {n u : ℕ} {word_of : ℕ → ℕ} {chain_of : ℕ → List ℕ} {seen : List ℕ} (m : Machine) (view : Memory) (pcxi fcx : ℕ) (running : m.end ≡ Running)
     (t : Twins plan n u word_of chain_of seen m.mem m.pcxi m.fcx m.lcx view pcxi fcx) where
   -- each chain's links are areas
-  pub chain_in_areas : (w : ℕ) → w < n → (l : ℕ) → times_in_list l (chain_of w) ≤ times_in_list l (plan_areas plan)
-  chain_in_areas w lt l = omega (arith, (t.share).each l, sum_below-at n (λ u. times_in_list l (chain_of u)) w lt)
+  pub chain_in_areas : (w : ℕ) → w < n → (l : ℕ) → occurrences_of l (chain_of w) ≤ occurrences_of l (plan_areas plan)
+  chain_in_areas w lt l = omega (arith, (t.share).each l, sum_below-at n (λ u. occurrences_of l (chain_of u)) w lt)
 
-  free_in_areas : (l : ℕ) → times_in_list l t.free ≤ times_in_list l (plan_areas plan)
+  free_in_areas : (l : ℕ) → occurrences_of l t.free ≤ occurrences_of l (plan_areas plan)
   free_in_areas l = let all = (t.share).each l in omega arith
 
   SameAreas-refl : (mem : Memory) (ls : List ℕ) → SameAreas mem mem ls

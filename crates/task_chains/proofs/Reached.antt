@@ -18,10 +18,10 @@ use Rattle.tcd_plan.specs.MappedAddresses.{IsStoreInRange}
 use Rattle.tc_machine.proofs.Stays.{stays_run}
 use Rattle.value_domain.specs.declared.states.State.{State}
 use Rattle.value_domain.specs.Limits.{Limits}
-use Rattle.value_domain.specs.State.{AreValues}
+use Rattle.value_domain.specs.State.{AreInLattice}
 use Rattle.value_domain.specs.Values.{IsMember}
-use Rattle.vd_transfer.specs.EffectsOnStates.{address_of}
-use Rattle.vd_transfer.specs.Soundness.{IsSoundSetting}
+use Rattle.vd_transfer.specs.EffectsOnStates.{address_of_access}
+use Rattle.vd_transfer.specs.Soundness.{MeetSoundnessPremises}
 use Rattle.vd_transfer.proofs.HoldLaws.{address_holds}
 use Rattle.depth_cert.specs.declared.keys.Key.{Key}
 use Rattle.depth_cert.specs.declared.points.Point.{Point}
@@ -31,11 +31,11 @@ use Rattle.depth_cert.specs.Nodes.{NodeData, IsNode, find_node}
 use Rattle.depth_cert.specs.Certs.{CertData, IsCert}
 use Rattle.cfg_recover.specs.Code.{IsCode, HasCode}
 use Rattle.cfg_recover.specs.Entries.{start_key}
-use Rattle.cfg_recover.specs.LocalRules.{LocalRule}
+use Rattle.cfg_recover.specs.LocalRules.{LocalRuleHolds}
 use Rattle.cfg_recover.specs.LocalFaults.{IsFaultless}
-use Rattle.cfg_recover.specs.RulesHoldOrFail.{limits_in, RuleHolds, HoldsAtNode, Accepts}
+use Rattle.cfg_recover.specs.RulesHoldOrFail.{limits_of_cert, RuleHolds, RulesHoldAtNode, Accepts}
 use Rattle.cfg_recover.specs.MovesAreOwed.{IsInState}
-use Rattle.cfg_recover.specs.Frames.{RunFrame, frames_after, frames_from, frames, HoldFrames}
+use Rattle.cfg_recover.specs.Frames.{RunFrame, frames_after, frames_from, frames, AreAllFramesHeld}
 use Rattle.cfg_recover.specs.EdgeAndFrameLaws.{FramesHeld}
 use Rattle.depth_cert.proofs.KeyLaws.{found_in}
 use Rattle.cfg_recover.proofs.CodeLaws.{IsCode-bounded}
@@ -82,7 +82,7 @@ Reached-step image plan v fs e r fits = record {
 -- ---- what is at a point
 -- the address of a load is one of its value's
 abbrev pub LoadsAt : Limits → PlanData → State → Machine → Shape → Type 0
-LoadsAt b plan s m (Load dst base offset size signed after) = IsMember (access_address m base offset after) (address_of b plan (Load dst base offset size signed after) s)
+LoadsAt b plan s m (Load dst base offset size signed after) = IsMember (access_address m base offset after) (address_of_access b plan (Load dst base offset size signed after) s)
 LoadsAt b plan s m _ = Unit {0}
 
 -- a store that doesn't trap is in range
@@ -98,30 +98,30 @@ pub record PointOf (plan : PlanData) (image : ImageData) (cert : CertData) (task
   pub shape : Shape
   pub size : ℕ
   pub code : IsCode image plan v.pc shape size
-  pub own : (r : ℕ) → LocalRule (limits_in plan cert) plan node.key v.pc state shape r
-  pub apart : KeepsRule17ByShape (limits_in plan cert) plan tasks node.key v.pc state shape
+  pub own : (r : ℕ) → LocalRuleHolds (limits_of_cert plan cert) plan node.key v.pc state shape r
+  pub apart : KeepsRule17ByShape (limits_of_cert plan cert) plan tasks node.key v.pc state shape
   pub inside : IsInState plan v state
-  pub load_at : LoadsAt (limits_in plan cert) plan state v shape
+  pub load_at : LoadsAt (limits_of_cert plan cert) plan state v shape
   pub same_key : number_of_key node.key ≡ number_of_key key
   pub is_key : IsKey node.key
 
 module _ (image : ImageData) (plan : PlanData) (ok : IsPlan plan) (cert : CertData) (is_cert : IsCert cert) (accepted : Accepts image plan cert) (tasks : TasksData) (apart : KeepsRule17 image plan tasks cert) where
-  load_at : (v : Machine) (s : State) (shape : Shape) (size : ℕ) → IsCode image plan v.pc shape size → length s.regs ≡ 27 → AreValues (limits_in plan cert) s.regs → IsInState plan v s → LoadsAt (limits_in plan cert) plan s v shape
+  load_at : (v : Machine) (s : State) (shape : Shape) (size : ℕ) → IsCode image plan v.pc shape size → length s.regs ≡ 27 → AreInLattice (limits_of_cert plan cert) s.regs → IsInState plan v s → LoadsAt (limits_of_cert plan cert) plan s v shape
   load_at v s (Load dst base offset size signed after) n code regs values inside =
       let bounded = IsCode-bounded image plan v.pc (Load dst base offset size signed after) n code in
-      let setting : IsSoundSetting (limits_in plan cert) plan s = record { limits = limits_are plan cert.version; plan = ok; regs = regs; values = values } in
-      rw (address-is v base offset after) (address_holds.load (limits_in plan cert) plan dst base offset size signed after s (reg v) v.ie v.ccpn setting bounded.1 bounded.2 inside)
+      let setting : MeetSoundnessPremises (limits_of_cert plan cert) plan s = record { limits = limits_are plan cert.version; plan = ok; regs = regs; values = values } in
+      rw (address-is v base offset after) (address_holds.load (limits_of_cert plan cert) plan dst base offset size signed after s (reg v) v.ie v.ccpn setting bounded.1 bounded.2 inside)
   load_at v s _ n code regs values inside = tt
 
   by_point : (v : Machine) (key : Key) (node : NodeData) (point : Point) → find_node key cert.nodes ≡ Some node → find_point v.pc node.points ≡ Some point → IsInState plan v point.state → PointOf plan image cert tasks v key
   by_point v key node point found at inside =
       let there = found_in (λ n. number_of_key n.key == number_of_key key) cert.nodes node found in
-      let holds = All-contains (HoldsAtNode image plan cert) cert.nodes node accepted.nodes there.0 in
+      let holds = All-contains (RulesHoldAtNode image plan cert) cert.nodes node accepted.nodes there.0 in
       let here = found_in (λ p. p.addr == v.pc) node.points point at in
       let addr : point.addr ≡ v.pc = eqb-true _ _ here.1 in
       let all : (r : ℕ) → RuleHolds image plan cert node point r = All-contains (λ p. (r : ℕ) → RuleHolds image plan cert node p r) node.points point holds.points here.0 in
-      let values : AreValues (limits_in plan cert) (point.state).regs = (all 2).values refl in
-      let faultless : IsFaultless (limits_in plan cert) image plan node.key point.addr point.state = λ r. (all r).own values in
+      let values : AreInLattice (limits_of_cert plan cert) (point.state).regs = (all 2).values refl in
+      let faultless : IsFaultless (limits_of_cert plan cert) image plan node.key point.addr point.state = λ r. (all r).own values in
       let has : HasCode image plan point.addr = (faultless 3).code refl in
       let is_node = All-contains (IsNode cert.version) cert.nodes node is_cert.nodes there.0 in
       let keeps : KeepsRule17AtCertPoint image plan tasks cert node point = All-contains (KeepsRule17AtCertPoint image plan tasks cert node) node.points point (All-contains (λ n. All (KeepsRule17AtCertPoint image plan tasks cert n) n.points) cert.nodes node apart there.0) here.0 in
@@ -133,8 +133,8 @@ module _ (image : ImageData) (plan : PlanData) (ok : IsPlan plan) (cert : CertDa
         shape = has.shape;
         size = has.size;
         code = code;
-        own = λ r. subst (λ x. LocalRule (limits_in plan cert) plan node.key x point.state has.shape r) addr ((faultless r).own has.shape has.size has.code);
-        apart = subst (λ x. KeepsRule17ByShape (limits_in plan cert) plan tasks node.key x point.state has.shape) addr (keeps has.shape has.size has.code);
+        own = λ r. subst (λ x. LocalRuleHolds (limits_of_cert plan cert) plan node.key x point.state has.shape r) addr ((faultless r).own has.shape has.size has.code);
+        apart = subst (λ x. KeepsRule17ByShape (limits_of_cert plan cert) plan tasks node.key x point.state has.shape) addr (keeps has.shape has.size has.code);
         inside = inside;
         load_at = load_at v point.state has.shape has.size code ((All-contains (IsPoint cert.version) node.points point is_node.points here.0).state).regs values inside;
         same_key = eqb-true _ _ there.1;
@@ -149,7 +149,7 @@ module _ (image : ImageData) (plan : PlanData) (ok : IsPlan plan) (cert : CertDa
   pub point_of : (v : Machine) (f : RunFrame) (fs : List RunFrame) → FramesHeld image plan cert → Reached image plan v (f ∷ fs) → PointOf plan image cert tasks v f.key
   point_of v f fs held r =
       let h0 = held r.from r.events r.starts r.fit in
-      let h : HoldFrames plan cert v (f ∷ fs) = subst (λ (x : Machine). HoldFrames plan cert x (f ∷ fs)) (sym r.is) (subst (HoldFrames plan cert (run r.from r.events)) (sym r.frames_are) h0) in
+      let h : AreAllFramesHeld plan cert v (f ∷ fs) = subst (λ (x : Machine). AreAllFramesHeld plan cert x (f ∷ fs)) (sym r.is) (subst (AreAllFramesHeld plan cert (run r.from r.events)) (sym r.frames_are) h0) in
       let node = some_and (find_node f.key cert.nodes) (λ n. IsSomeAnd (find_point f.at n.points) (λ p. IsInState plan v p.state)) h.point in
       let point = some_and (find_point f.at (node.0).points) (λ p. IsInState plan v p.state) node.2 in
       by_point v f.key node.0 point.0 node.1 (ap (λ x. find_point x (node.0).points) (sym h.at) ∙ point.1) point.2
@@ -158,13 +158,13 @@ module _ (image : ImageData) (plan : PlanData) (ok : IsPlan plan) (cert : CertDa
   pub frame_at : (v : Machine) (f : RunFrame) (fs : List RunFrame) → FramesHeld image plan cert → Reached image plan v (f ∷ fs) → f.at ≡ v.pc
   frame_at v f fs held r =
       let h0 = held r.from r.events r.starts r.fit in
-      (subst (λ (x : Machine). HoldFrames plan cert x (f ∷ fs)) (sym r.is) (subst (HoldFrames plan cert (run r.from r.events)) (sym r.frames_are) h0)).at
+      (subst (λ (x : Machine). AreAllFramesHeld plan cert x (f ∷ fs)) (sym r.is) (subst (AreAllFramesHeld plan cert (run r.from r.events)) (sym r.frames_are) h0)).at
 
   -- there is one
   pub some_frame : (v : Machine) (fs : List RunFrame) → FramesHeld image plan cert → Reached image plan v fs → (f : RunFrame) × (gs : List RunFrame) × (fs ≡ f ∷ gs)
   some_frame v [] held r =
       let h0 = held r.from r.events r.starts r.fit in
-      absurd (subst (λ (x : Machine). HoldFrames plan cert x []) (sym r.is) (subst (HoldFrames plan cert (run r.from r.events)) (sym r.frames_are) h0))
+      absurd (subst (λ (x : Machine). AreAllFramesHeld plan cert x []) (sym r.is) (subst (AreAllFramesHeld plan cert (run r.from r.events)) (sym r.frames_are) h0))
   some_frame v (f ∷ fs) held r = (f, fs, refl)
 
   pub safe_at : (most : ℕ) (v : Machine) (fs : List RunFrame) (e : Event) → Safe image plan most → Reached image plan v fs → Fits plan v e → IsSafeAt image plan most v e

@@ -9,7 +9,7 @@ use Rattle.task_chains.specs.declared.task_lists.Task.{Task}
 use Rattle.task_chains.specs.declared.task_lists.TasksErr.{TasksErr}
 use Rattle.task_chains.specs.declared.task_lists.TasksErr.TheVariants.{BadLine, TooMany, TooFew, NotRam, NoRoom, OnIsp, Count}
 use Rattle.task_chains.specs.Tasks.{TasksData, count}
-use Rattle.task_chains.specs.TaskListText.{switch_places_of, task_of, nonempty_task_lines, AreNamedTasks, BreaksTaskForm, IsFirstBadTaskLine, IsBadTaskLine, IsEighthTaskLine, IsTaskErr, IsErrOfTaskText, IsResultOfTaskText, TaskTextHasOneResult}
+use Rattle.task_chains.specs.TaskListText.{switch_addresses_of, task_of, nonempty_task_lines, LinesNameTasks, BreaksTaskForm, IsFirstBadTaskLine, IsBadTaskLine, IsEighthTaskLine, IsTaskErr, IsErrOfTaskText, IsResultOfTaskText, TaskTextHasOneResult}
 use Rattle.tcd_text.specs.Lines.{is_nonempty_line}
 
 abbrev some_task : Task → Option Task
@@ -65,12 +65,12 @@ named_at (x ∷ xs) ys line (t ∷ ts) e =
     (rest.0, omega (arith, rest.1))
 
 -- lines name one list of tasks
-said_one : (lines : List (List ℕ)) (t s : TasksData) → AreNamedTasks lines t → AreNamedTasks lines s → t ≡ s
+said_one : (lines : List (List ℕ)) (t s : TasksData) → LinesNameTasks lines t → LinesNameTasks lines s → t ≡ s
 said_one lines t s a b =
     let e = sym a.split ∙ b.split in
     let first = front_same a.first b.first a.behind b.behind e in
     let behind = rest_same a.first b.first a.behind b.behind e in
-    let places = sym a.places ∙ ap switch_places_of first ∙ b.places in
+    let places = sym a.places ∙ ap switch_addresses_of first ∙ b.places in
     let same = places_same (record { switch = t.switch; block = t.block }) (record { switch = s.switch; block = s.block }) places in
     let switch : t.switch ≡ s.switch = ap (λ (r : Places). r.switch) same in
     let block : t.block ≡ s.block = ap (λ (r : Places). r.block) same in
@@ -79,30 +79,30 @@ said_one lines t s a b =
     places_same : (p q : Places) → Some p ≡ Some q → p ≡ q
     places_same p q e = cc
 
-module _ (before behind : List (List ℕ)) (line : List ℕ) (some : line ≢ []) (t : TasksData) (said : AreNamedTasks (before ++ line ∷ behind) t) where
+module _ (before behind : List (List ℕ)) (line : List ℕ) (some : line ≢ []) (t : TasksData) (said : LinesNameTasks (before ++ line ∷ behind) t) where
   -- the lines after the first, if the lines before this one name tasks
-  behind_is : (s : TasksData) (front : AreNamedTasks before s) → said.behind ≡ front.behind ++ line ∷ nonempty_task_lines behind
+  behind_is : (s : TasksData) (front : LinesNameTasks before s) → said.behind ≡ front.behind ++ line ∷ nonempty_task_lines behind
   behind_is s front =
       rest_same said.first front.first said.behind (front.behind ++ line ∷ nonempty_task_lines behind)
       (sym said.split ∙ written_split before behind line some ∙ ap (λ l. l ++ line ∷ nonempty_task_lines behind) front.split)
 
-  named_here : (s : TasksData) (front : AreNamedTasks before s) → (task_of line ≡ None → ⊥) × (length front.behind < length t.list)
+  named_here : (s : TasksData) (front : LinesNameTasks before s) → (task_of line ≡ None → ⊥) × (length front.behind < length t.list)
   named_here s front = named_at front.behind (nonempty_task_lines behind) line t.list (ap (λ (l : List (List ℕ)). map task_of l) (sym (behind_is s front)) ∙ said.named)
 
-  good_front : ((nonempty_task_lines before ≡ []) × (switch_places_of line ≡ None)) ⊎ (((s : TasksData) × AreNamedTasks before s) × (task_of line ≡ None)) → ⊥
+  good_front : ((nonempty_task_lines before ≡ []) × (switch_addresses_of line ≡ None)) ⊎ (((s : TasksData) × LinesNameTasks before s) × (task_of line ≡ None)) → ⊥
   good_front (inl (none, bad)) =
       let first = front_same said.first line said.behind (nonempty_task_lines behind) (sym said.split ∙ written_split before behind line some ∙ ap (λ l. l ++ line ∷ nonempty_task_lines behind) none) in
-      absurd (let f : None ≡ Some (record { switch = t.switch; block = t.block }) = sym bad ∙ ap switch_places_of (sym first) ∙ said.places in cc)
+      absurd (let f : None ≡ Some (record { switch = t.switch; block = t.block }) = sym bad ∙ ap switch_addresses_of (sym first) ∙ said.places in cc)
   good_front (inr ((s, front), bad)) = (named_here s front).0 bad
 
-  eight_said : (s : TasksData) → AreNamedTasks before s → count s ≡ 7 → 8 ≤ count t
+  eight_said : (s : TasksData) → LinesNameTasks before s → count s ≡ 7 → 8 ≤ count t
   eight_said s front seven =
       omega (arith, (named_here s front).1, ap (λ (l : List (Option Task)). length l) front.named, length-map front.behind task_of, length-map s.list some_task)
 
 -- ---- one bad line
-said_or_bad : (lines : List (List ℕ)) (t : TasksData) (n : ℕ) → AreNamedTasks lines t → IsBadTaskLine lines n → ⊥
+said_or_bad : (lines : List (List ℕ)) (t : TasksData) (n : ℕ) → LinesNameTasks lines t → IsBadTaskLine lines n → ⊥
 said_or_bad lines t n said (inl (none, at)) = absurd (let f : said.first ∷ said.behind ≡ [] = sym said.split ∙ none in cc)
-said_or_bad lines t n said (inr bad) = good_front bad.before bad.behind bad.line (bad.breaks).0 t (subst (λ l. AreNamedTasks l t) bad.split said) (bad.breaks).1
+said_or_bad lines t n said (inr bad) = good_front bad.before bad.behind bad.line (bad.breaks).0 t (subst (λ l. LinesNameTasks l t) bad.split said) (bad.breaks).1
 
 -- lines that are of the right form so far
 not_before : (before mid : List (List ℕ)) (line other : List ℕ) → BreaksTaskForm (before ++ line ∷ mid) other → BreaksTaskForm before line → ⊥
@@ -131,13 +131,13 @@ bad_one lines n m (inr a) (inr b) = first_one lines n m a b
 
 -- ---- one thing against tasks
 module _ (lines : List (List ℕ)) where
-  many : (t : TasksData) (n : ℕ) → AreNamedTasks lines t → IsEighthTaskLine lines n → 8 ≤ count t
-  many t n said e = eight_said e.before e.behind e.line e.some t (subst (λ l. AreNamedTasks l t) e.split said) e.seven e.said e.many
+  many : (t : TasksData) (n : ℕ) → LinesNameTasks lines t → IsEighthTaskLine lines n → 8 ≤ count t
+  many t n said e = eight_said e.before e.behind e.line e.some t (subst (λ l. LinesNameTasks l t) e.split said) e.seven e.said e.many
 
   longer : (n m : ℕ) (a : IsEighthTaskLine lines n) (b : IsEighthTaskLine lines m) → length a.before < length b.before → ⊥
   longer n m a b less =
       let c = cut a.before b.before a.behind b.behind a.line b.line (sym a.split ∙ b.split) less in
-      absurd (omega (arith, eight_said a.before c.0 a.line a.some b.seven (subst (λ l. AreNamedTasks l b.seven) c.1 b.said) a.seven a.said a.many, b.many))
+      absurd (omega (arith, eight_said a.before c.0 a.line a.some b.seven (subst (λ l. LinesNameTasks l b.seven) c.1 b.said) a.seven a.said a.many, b.many))
 
   eighth_one : (n m : ℕ) → IsEighthTaskLine lines n → IsEighthTaskLine lines m → n ≡ m
   eighth_one n m a b =
@@ -149,7 +149,7 @@ module _ (lines : List (List ℕ)) where
         ]
       ]
 
-module _ (plan : PlanData) (lines : List (List ℕ)) (t : TasksData) (said : AreNamedTasks lines t) where
+module _ (plan : PlanData) (lines : List (List ℕ)) (t : TasksData) (said : LinesNameTasks lines t) where
   many_few : (n : ℕ) → IsEighthTaskLine lines n → count t ≤ 7 → ⊥
   many_few n e few = let le = many lines t n said e in absurd (omega arith)
 
@@ -194,7 +194,7 @@ module _ (plan : PlanData) (lines : List (List ℕ)) (t : TasksData) (said : Are
 
 -- ---- one answer
 module _ (plan : PlanData) (lines : List (List ℕ)) where
-  refusal : (e : TasksErr) → IsErrOfTaskText plan lines e → ((n : ℕ) × (e ≡ BadLine n) × IsBadTaskLine lines n) ⊎ ((t : TasksData) × AreNamedTasks lines t × IsTaskErr plan lines t e)
+  refusal : (e : TasksErr) → IsErrOfTaskText plan lines e → ((n : ℕ) × (e ≡ BadLine n) × IsBadTaskLine lines n) ⊎ ((t : TasksData) × LinesNameTasks lines t × IsTaskErr plan lines t e)
   refusal (BadLine n) bad = inl (n, refl, bad)
   refusal _ bad = inr bad
 

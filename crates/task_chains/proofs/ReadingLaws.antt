@@ -9,17 +9,17 @@ use Rattle.task_chains.specs.declared.task_lists.TasksErr.{TasksErr}
 use Rattle.task_chains.specs.declared.task_lists.TasksErr.TheVariants.{BadLine, NotRam, NoRoom, OnIsp, Count}
 use Rattle.task_chains.specs.Tasks.{TasksData, AreTasks, count}
 use Rattle.task_chains.specs.Views.{FitPlan}
-use Rattle.task_chains.specs.TaskListText.{AreNamedTasks, IsBlockInRam, HasRoomForViews, IsTaskErr, IsResultOfTaskText, tasks_with, HasFirstSevenTasks, IsTasksDraftOfParts}
+use Rattle.task_chains.specs.TaskListText.{LinesNameTasks, IsBlockInRam, HasRoomForViews, IsTaskErr, IsResultOfTaskText, tasks_with, HasFirstSevenTasks, IsTasksDraftOfParts}
 
 -- ---- what a draft says
 module _ (plan : PlanData) (lines : List (List ℕ)) where
-  pub all_said : (p : Places) (list : List Task) → HasFirstSevenTasks lines p list None → AreNamedTasks lines (tasks_with p list)
-  all_said p list k = subst (λ l. AreNamedTasks lines (tasks_with p l)) (sym (k.seven ∙ take_all 7 k.all (let few : length k.all ≤ 7 = k.more in omega arith))) k.said
+  pub all_said : (p : Places) (list : List Task) → HasFirstSevenTasks lines p list None → LinesNameTasks lines (tasks_with p list)
+  all_said p list k = subst (λ l. LinesNameTasks lines (tasks_with p l)) (sym (k.seven ∙ take_all 7 k.all (let few : length k.all ≤ 7 = k.more in omega arith))) k.said
 
-  pub drafted_said : (places : Option Places) (p : Places) (list : List Task) (eighth : Option ℕ) → IsTasksDraftOfParts lines places list eighth → places ≡ Some p → eighth ≡ None → AreNamedTasks lines (tasks_with p list)
+  pub drafted_said : (places : Option Places) (p : Places) (list : List Task) (eighth : Option ℕ) → IsTasksDraftOfParts lines places list eighth → places ≡ Some p → eighth ≡ None → LinesNameTasks lines (tasks_with p list)
   drafted_said places p list eighth d is none = all_said p list (subst (λ o. IsTasksDraftOfParts lines (Some p) list o) none (subst (λ o. IsTasksDraftOfParts lines o list eighth) is d))
 
-  pub against : (tasks : TasksData) (e : TasksErr) → AreNamedTasks lines tasks → IsTaskErr plan lines tasks e → IsResultOfTaskText plan lines (Err e)
+  pub against : (tasks : TasksData) (e : TasksErr) → LinesNameTasks lines tasks → IsTaskErr plan lines tasks e → IsResultOfTaskText plan lines (Err e)
   against tasks (BadLine n) said bad = absurd bad
   against tasks Count said bad = absurd bad
   against tasks _ said bad = (tasks, said, bad)

@@ -3,8 +3,8 @@ use Rattle.std.proofs.Common.{◌≡◌, ℕ, ◌+◌, ◌*◌, ◌/◌, ◌%◌
 use Rattle.std.specs.List.{flat_map}
 use Rattle.tc_isa.specs.Spelling.{word_by_form}
 use Rattle.tcd_base.specs.Bytes.{four_bytes}
-use Rattle.tc_isa.specs.NamedInstructions.{upper_half, lower_half}
-use Rattle.task_chains.specs.SwitchRoutine.{switch_routine_of, view_routine_of, bytes_of_routine}
+use Rattle.tc_isa.specs.NamedInstructions.{adjusted_upper_half, lower_half}
+use Rattle.task_chains.specs.SwitchRoutine.{switch_routine_of, view_routine_of, bytes_of_instructions}
 
 -- the bits of a 16-bit offset
 abbrev pub offset : ℕ → ℕ
@@ -54,7 +54,7 @@ by_view_words a b d =
 
 module _ (n b : ℕ) where
   abbrev first_of : ℕ
-  first_of = 2 * 2 ^ 28 + upper_half b * 2 ^ 12 + 0 * 2 ^ 8 + 145
+  first_of = 2 * 2 ^ 28 + adjusted_upper_half b * 2 ^ 12 + 0 * 2 ^ 8 + 145
 
   abbrev second_of : ℕ
   second_of = lower_half b / 64 % 16 * 2 ^ 28 + lower_half b / 1024 * 2 ^ 22 + lower_half b % 64 * 2 ^ 16 + 2 * 2 ^ 12 + 2 * 2 ^ 8 + 217
@@ -68,32 +68,32 @@ module _ (n b : ℕ) where
   abbrev fifth_of : ℕ
   fifth_of = 4 * n / 64 % 16 * 2 ^ 28 + 4 * n / 1024 * 2 ^ 22 + 4 * n % 64 * 2 ^ 16 + 2 * 2 ^ 12 + 0 * 2 ^ 8 + 89
 
-  spelled : bytes_of_routine (switch_routine_of n b) ≡ by_words first_of second_of third_of fourth_of fifth_of
+  spelled : bytes_of_instructions (switch_routine_of n b) ≡ by_words first_of second_of third_of fourth_of fifth_of
   unfolding word_by_form
   spelled = refl
 
-  pub routine_by_words : by_words (movh_word (upper_half b)) (lea_word (lower_half b)) (load_word (4 * n)) (jne_word n) (store_word (4 * n)) ≡ bytes_of_routine (switch_routine_of n b)
+  pub routine_by_words : by_words (movh_word (adjusted_upper_half b)) (lea_word (lower_half b)) (load_word (4 * n)) (jne_word n) (store_word (4 * n)) ≡ bytes_of_instructions (switch_routine_of n b)
   routine_by_words =
-      sym (spelled ∙ ap (λ x. by_words x second_of third_of fourth_of fifth_of) (movh_is (upper_half b)) ∙ ap (λ x. by_words (movh_word (upper_half b)) x third_of fourth_of fifth_of) (lea_is (lower_half b))
-      ∙ ap (λ x. by_words (movh_word (upper_half b)) (lea_word (lower_half b)) x fourth_of fifth_of) (load_is (4 * n)) ∙ ap (λ x. by_words (movh_word (upper_half b)) (lea_word (lower_half b)) (load_word (4 * n)) x fifth_of) (jne_is n)
-      ∙ ap (λ x. by_words (movh_word (upper_half b)) (lea_word (lower_half b)) (load_word (4 * n)) (jne_word n) x) (store_is (4 * n)))
+      sym (spelled ∙ ap (λ x. by_words x second_of third_of fourth_of fifth_of) (movh_is (adjusted_upper_half b)) ∙ ap (λ x. by_words (movh_word (adjusted_upper_half b)) x third_of fourth_of fifth_of) (lea_is (lower_half b))
+      ∙ ap (λ x. by_words (movh_word (adjusted_upper_half b)) (lea_word (lower_half b)) x fourth_of fifth_of) (load_is (4 * n)) ∙ ap (λ x. by_words (movh_word (adjusted_upper_half b)) (lea_word (lower_half b)) (load_word (4 * n)) x fifth_of) (jne_is n)
+      ∙ ap (λ x. by_words (movh_word (adjusted_upper_half b)) (lea_word (lower_half b)) (load_word (4 * n)) (jne_word n) x) (store_is (4 * n)))
 
-  view_spelled : bytes_of_routine (view_routine_of n b) ≡ by_view_words first_of second_of fourth_of
+  view_spelled : bytes_of_instructions (view_routine_of n b) ≡ by_view_words first_of second_of fourth_of
   unfolding word_by_form
   view_spelled = refl
 
-  pub view_by_words : by_view_words (movh_word (upper_half b)) (lea_word (lower_half b)) (jne_word n) ≡ bytes_of_routine (view_routine_of n b)
+  pub view_by_words : by_view_words (movh_word (adjusted_upper_half b)) (lea_word (lower_half b)) (jne_word n) ≡ bytes_of_instructions (view_routine_of n b)
   view_by_words =
-      sym (view_spelled ∙ ap (λ x. by_view_words x second_of fourth_of) (movh_is (upper_half b)) ∙ ap (λ x. by_view_words (movh_word (upper_half b)) x fourth_of) (lea_is (lower_half b))
-      ∙ ap (λ x. by_view_words (movh_word (upper_half b)) (lea_word (lower_half b)) x) (jne_is n))
+      sym (view_spelled ∙ ap (λ x. by_view_words x second_of fourth_of) (movh_is (adjusted_upper_half b)) ∙ ap (λ x. by_view_words (movh_word (adjusted_upper_half b)) x fourth_of) (lea_is (lower_half b))
+      ∙ ap (λ x. by_view_words (movh_word (adjusted_upper_half b)) (lea_word (lower_half b)) x) (jne_is n))
 
-  pub routine_words_are : (u l k : ℕ) → u ≡ upper_half b → l ≡ offset (lower_half b) → k ≡ offset (4 * n) → by_words (0x20000091 + u * 4096) (0x22d9 + l) (0x2019 + k) (0x800400df + n * 4096) (0x2059 + k) ≡ bytes_of_routine (switch_routine_of n b)
+  pub routine_words_are : (u l k : ℕ) → u ≡ adjusted_upper_half b → l ≡ offset (lower_half b) → k ≡ offset (4 * n) → by_words (0x20000091 + u * 4096) (0x22d9 + l) (0x2019 + k) (0x800400df + n * 4096) (0x2059 + k) ≡ bytes_of_instructions (switch_routine_of n b)
   routine_words_are u l k is low count =
       ap (λ x. by_words (0x20000091 + x * 4096) (0x22d9 + l) (0x2019 + k) (0x800400df + n * 4096) (0x2059 + k)) is
-      ∙ ap (λ x. by_words (movh_word (upper_half b)) (0x22d9 + x) (0x2019 + k) (0x800400df + n * 4096) (0x2059 + k)) low
-      ∙ ap (λ x. by_words (movh_word (upper_half b)) (lea_word (lower_half b)) (0x2019 + x) (0x800400df + n * 4096) (0x2059 + x)) count ∙ routine_by_words
+      ∙ ap (λ x. by_words (movh_word (adjusted_upper_half b)) (0x22d9 + x) (0x2019 + k) (0x800400df + n * 4096) (0x2059 + k)) low
+      ∙ ap (λ x. by_words (movh_word (adjusted_upper_half b)) (lea_word (lower_half b)) (0x2019 + x) (0x800400df + n * 4096) (0x2059 + x)) count ∙ routine_by_words
 
-  pub view_words_are : (u l : ℕ) → u ≡ upper_half b → l ≡ offset (lower_half b) → by_view_words (0x20000091 + u * 4096) (0x22d9 + l) (0x800400df + n * 4096) ≡ bytes_of_routine (view_routine_of n b)
+  pub view_words_are : (u l : ℕ) → u ≡ adjusted_upper_half b → l ≡ offset (lower_half b) → by_view_words (0x20000091 + u * 4096) (0x22d9 + l) (0x800400df + n * 4096) ≡ bytes_of_instructions (view_routine_of n b)
   view_words_are u l is low =
       ap (λ x. by_view_words (0x20000091 + x * 4096) (0x22d9 + l) (0x800400df + n * 4096)) is
-      ∙ ap (λ x. by_view_words (movh_word (upper_half b)) (0x22d9 + x) (0x800400df + n * 4096)) low ∙ view_by_words
+      ∙ ap (λ x. by_view_words (movh_word (adjusted_upper_half b)) (0x22d9 + x) (0x800400df + n * 4096)) low ∙ view_by_words

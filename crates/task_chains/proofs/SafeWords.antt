@@ -13,7 +13,7 @@ use Rattle.tcd_base.specs.declared.range.Range.{Range}
 use Rattle.tcd_base.specs.Ranges.{IsInOneRange}
 use Rattle.tcd_base.proofs.RangeLaws.{IsInOne-front, IsInOne-behind}
 use Rattle.tcd_plan.specs.declared.plans.Device.{Device}
-use Rattle.tcd_plan.specs.PlanData.{PlanData, IsPlan, are_ranges_apart, are_all_ranges_apart, areas_range}
+use Rattle.tcd_plan.specs.PlanData.{PlanData, IsPlan, are_ranges_disjoint, are_all_ranges_disjoint, areas_range}
 use Rattle.tcd_plan.specs.MappedAddresses.{IsInDevice, IsStoreInRange}
 use Rattle.tc_machine.specs.declared.events.Event.{Event}
 use Rattle.tc_machine.specs.declared.state.Machine.{Machine}
@@ -26,7 +26,7 @@ use Rattle.tc_machine.proofs.PlanLaws.{length-links_up}
 use Rattle.task_chains.specs.declared.task_lists.Task.{Task}
 use Rattle.task_chains.specs.Tasks.{TasksData}
 use Rattle.task_chains.specs.TaskStarts.{block_word, current_task}
-use Rattle.task_chains.specs.SafeTasks.{task_before, owner, chain_word, IsAllowedTaskStore, AreTasksSafeAt}
+use Rattle.task_chains.specs.SafeTasks.{previous_task, owner, chain_word, IsAllowedTaskStore, AreTasksSafeAt}
 use Rattle.task_chains.specs.SafeTasksInWords.{OwnsChain, IsSafeTaskStore, HasSafeTaskParts, SafeTasksSay, TaskPartsAreSafe}
 use Rattle.task_chains.proofs.Places.{sum_below-less, place_of, among, one_place, area_times, area_of, each_of}
 use Rattle.task_chains.proofs.Together.{owner_now, place_here}
@@ -64,14 +64,14 @@ in_device_at (d ∷ ds) x n (inl h) = inl h
 in_device_at (d ∷ ds) x n (inr h) = inr (in_device_at ds x n h)
 
 -- addresses inside one range are below each range that is apart from it, or above
-beside : (x n : ℕ) (r s : Range) → are_ranges_apart r s ≡ true → r.at ≤ x → x + n ≤ r.at + r.len → (x + n ≤ s.at) ⊎ (s.at + s.len ≤ x)
+beside : (x n : ℕ) (r s : Range) → are_ranges_disjoint r s ≡ true → r.at ≤ x → x + n ≤ r.at + r.len → (x + n ≤ s.at) ⊎ (s.at + s.len ≤ x)
 beside x n r s apart low high =
     elim (or_cases (nat_le (r.at + r.len) s.at) (nat_le (s.at + s.len) r.at) apart) [
       | inl below ↦ inl (let le = leb-true (r.at + r.len) s.at below in omega arith)
       | inr above ↦ inr (let le = leb-true (s.at + s.len) r.at above in omega arith)
     ]
 
-beside_other : (x n : ℕ) (r s : Range) → are_ranges_apart s r ≡ true → r.at ≤ x → x + n ≤ r.at + r.len → (x + n ≤ s.at) ⊎ (s.at + s.len ≤ x)
+beside_other : (x n : ℕ) (r s : Range) → are_ranges_disjoint s r ≡ true → r.at ≤ x → x + n ≤ r.at + r.len → (x + n ≤ s.at) ⊎ (s.at + s.len ≤ x)
 beside_other x n r s apart low high =
     elim (or_cases (nat_le (s.at + s.len) r.at) (nat_le (r.at + r.len) s.at) apart) [
       | inl above ↦ inr (let le = leb-true (s.at + s.len) r.at above in omega arith)
@@ -79,29 +79,29 @@ beside_other x n r s apart low high =
     ]
 
 -- addresses inside one of the first ranges, compared with the last one
-beside_last : (x n : ℕ) (rs : List Range) (s : Range) → are_all_ranges_apart (rs ++ s ∷ []) ≡ true → IsInOneRange x n rs → (x + n ≤ s.at) ⊎ (s.at + s.len ≤ x)
+beside_last : (x n : ℕ) (rs : List Range) (s : Range) → are_all_ranges_disjoint (rs ++ s ∷ []) ≡ true → IsInOneRange x n rs → (x + n ≤ s.at) ⊎ (s.at + s.len ≤ x)
 beside_last x n [] s apart h = absurd h
 beside_last x n (r ∷ rs) s apart (inl h) =
-    let each = (and_parts (list_all (are_ranges_apart r) (rs ++ s ∷ [])) (are_all_ranges_apart (rs ++ s ∷ [])) apart).0 in
-    let last = (and_parts (list_all (are_ranges_apart r) rs) (list_all (are_ranges_apart r) (s ∷ [])) (sym (list_all-append (are_ranges_apart r) rs (s ∷ [])) ∙ each)).1 in
-    beside x n r s (and_parts (are_ranges_apart r s) true last).0 h.0 h.1
-beside_last x n (r ∷ rs) s apart (inr h) = beside_last x n rs s (and_parts (list_all (are_ranges_apart r) (rs ++ s ∷ [])) (are_all_ranges_apart (rs ++ s ∷ [])) apart).1 h
+    let each = (and_parts (list_all (are_ranges_disjoint r) (rs ++ s ∷ [])) (are_all_ranges_disjoint (rs ++ s ∷ [])) apart).0 in
+    let last = (and_parts (list_all (are_ranges_disjoint r) rs) (list_all (are_ranges_disjoint r) (s ∷ [])) (sym (list_all-append (are_ranges_disjoint r) rs (s ∷ [])) ∙ each)).1 in
+    beside x n r s (and_parts (are_ranges_disjoint r s) true last).0 h.0 h.1
+beside_last x n (r ∷ rs) s apart (inr h) = beside_last x n rs s (and_parts (list_all (are_ranges_disjoint r) (rs ++ s ∷ [])) (are_all_ranges_disjoint (rs ++ s ∷ [])) apart).1 h
 
 -- addresses inside one of several ranges, compared with one that is apart from them all
-beside_each : (x n : ℕ) (s : Range) (rs : List Range) → list_all (are_ranges_apart s) rs ≡ true → IsInOneRange x n rs → (x + n ≤ s.at) ⊎ (s.at + s.len ≤ x)
+beside_each : (x n : ℕ) (s : Range) (rs : List Range) → list_all (are_ranges_disjoint s) rs ≡ true → IsInOneRange x n rs → (x + n ≤ s.at) ⊎ (s.at + s.len ≤ x)
 beside_each x n s [] apart h = absurd h
-beside_each x n s (r ∷ rs) apart (inl h) = beside_other x n r s (and_parts (are_ranges_apart s r) (list_all (are_ranges_apart s) rs) apart).0 h.0 h.1
-beside_each x n s (r ∷ rs) apart (inr h) = beside_each x n s rs (and_parts (are_ranges_apart s r) (list_all (are_ranges_apart s) rs) apart).1 h
+beside_each x n s (r ∷ rs) apart (inl h) = beside_other x n r s (and_parts (are_ranges_disjoint s r) (list_all (are_ranges_disjoint s) rs) apart).0 h.0 h.1
+beside_each x n s (r ∷ rs) apart (inr h) = beside_each x n s rs (and_parts (are_ranges_disjoint s r) (list_all (are_ranges_disjoint s) rs) apart).1 h
 
 -- addresses inside one of the later ranges, compared with each of the first ones
-beside_first : (x n : ℕ) (rs ss : List Range) (k : ℕ) (s : Range) → are_all_ranges_apart (rs ++ ss) ≡ true → slice_get rs k ≡ Some s → IsInOneRange x n ss → (x + n ≤ s.at) ⊎ (s.at + s.len ≤ x)
+beside_first : (x n : ℕ) (rs ss : List Range) (k : ℕ) (s : Range) → are_all_ranges_disjoint (rs ++ ss) ≡ true → slice_get rs k ≡ Some s → IsInOneRange x n ss → (x + n ≤ s.at) ⊎ (s.at + s.len ≤ x)
 beside_first x n [] ss k s apart is h = absurd (let none : let o : Option Range = None in o ≡ Some s = is in cc)
 beside_first x n (r ∷ rs) ss zero s apart is h =
     let same : r ≡ s = cc in
-    let each = (and_parts (list_all (are_ranges_apart r) (rs ++ ss)) (are_all_ranges_apart (rs ++ ss)) apart).0 in
-    let rest = (and_parts (list_all (are_ranges_apart r) rs) (list_all (are_ranges_apart r) ss) (sym (list_all-append (are_ranges_apart r) rs ss) ∙ each)).1 in
-    beside_each x n s ss (subst (λ (z : Range). list_all (are_ranges_apart z) ss ≡ true) same rest) h
-beside_first x n (r ∷ rs) ss (suc k) s apart is h = beside_first x n rs ss k s (and_parts (list_all (are_ranges_apart r) (rs ++ ss)) (are_all_ranges_apart (rs ++ ss)) apart).1 is h
+    let each = (and_parts (list_all (are_ranges_disjoint r) (rs ++ ss)) (are_all_ranges_disjoint (rs ++ ss)) apart).0 in
+    let rest = (and_parts (list_all (are_ranges_disjoint r) rs) (list_all (are_ranges_disjoint r) ss) (sym (list_all-append (are_ranges_disjoint r) rs ss) ∙ each)).1 in
+    beside_each x n s ss (subst (λ (z : Range). list_all (are_ranges_disjoint z) ss ≡ true) same rest) h
+beside_first x n (r ∷ rs) ss (suc k) s apart is h = beside_first x n rs ss k s (and_parts (list_all (are_ranges_disjoint r) (rs ++ ss)) (are_all_ranges_disjoint (rs ++ ss)) apart).1 is h
 
 module _ {plan : PlanData} (ok : IsPlan plan) (x n : ℕ) (at : IsStoreInRange plan (x, n)) where
   abbrev devices : List Range
@@ -121,9 +121,9 @@ module _ {plan : PlanData} (ok : IsPlan plan) (x n : ℕ) (at : IsStoreInRange p
         | inr device ↦ inr (lies_in devices x n (ranges_of plan.devices x n device))
       ]
 
-  whole : are_all_ranges_apart (plan.rom ++ ((plan.ram ++ devices) ++ areas_range plan ∷ [])) ≡ true
+  whole : are_all_ranges_disjoint (plan.rom ++ ((plan.ram ++ devices) ++ areas_range plan ∷ [])) ≡ true
   whole =
-      subst (λ l. are_all_ranges_apart l ≡ true)
+      subst (λ l. are_all_ranges_disjoint l ≡ true)
       (ap (λ (l : List Range). l ++ areas_range plan ∷ []) (append_assoc plan.rom plan.ram devices) ∙ append_assoc plan.rom (plan.ram ++ devices) (areas_range plan ∷ [])) ok.apart
 
   off_areas_range : (x + n ≤ plan.csa_at) ⊎ (plan.csa_at + 64 * plan.areas ≤ x)
@@ -136,11 +136,11 @@ module _ {plan : PlanData} (ok : IsPlan plan) (x n : ℕ) (at : IsStoreInRange p
       beside_first x n plan.rom ((plan.ram ++ devices) ++ areas_range plan ∷ []) place r whole is (IsInOne-front x n (plan.ram ++ devices) (areas_range plan ∷ []) in_behind)
 
 -- ---- the owner
-before_of : (n c u : ℕ) → task_before n c ≡ u → u < n → (c ≡ u + 1) ⊎ ((u + 1 ≡ n) × (c ≡ 0))
+before_of : (n c u : ℕ) → previous_task n c ≡ u → u < n → (c ≡ u + 1) ⊎ ((u + 1 ≡ n) × (c ≡ 0))
 before_of n zero u e lt = inr (let is : n - 1 ≡ u = e in omega arith, refl)
 before_of n (suc c) u e lt = inl (let is : suc c - 1 ≡ u = sym (cond_other (suc c) 0 (n - 1) (suc c - 1) (λ z. omega arith)) ∙ e in omega arith)
 
-before_is : (n c u : ℕ) → (c ≡ u + 1) ⊎ ((u + 1 ≡ n) × (c ≡ 0)) → task_before n c ≡ u
+before_is : (n c u : ℕ) → (c ≡ u + 1) ⊎ ((u + 1 ≡ n) × (c ≡ 0)) → previous_task n c ≡ u
 before_is n c u (inl next) = cond_other c 0 (n - 1) (c - 1) (λ e. omega arith) ∙ (omega arith)
 before_is n c u (inr round) = let last = round.0 in let none = round.1 in cond_same c 0 (n - 1) (c - 1) none ∙ (omega arith)
 
@@ -148,8 +148,8 @@ module _ (switch block : ℕ) (list : List Task) (m : Machine) where
   abbrev tasks : TasksData
   tasks = record { switch = switch; block = block; list = list }
 
-  owner_late : (m.pc ≡ switch + 48) ⊎ ((m.pc ≡ switch + 52) ⊎ (m.pc ≡ switch + 56)) → owner tasks m ≡ task_before (length list) (current_task tasks m.mem)
-  owner_late at = ap (λ t. cond t (task_before (length list) (current_task tasks m.mem)) (current_task tasks m.mem)) (place_here m.pc switch at)
+  owner_late : (m.pc ≡ switch + 48) ⊎ ((m.pc ≡ switch + 52) ⊎ (m.pc ≡ switch + 56)) → owner tasks m ≡ previous_task (length list) (current_task tasks m.mem)
+  owner_late at = ap (λ t. cond t (previous_task (length list) (current_task tasks m.mem)) (current_task tasks m.mem)) (place_here m.pc switch at)
 
   owns : owner tasks m < length list → OwnsChain switch block (length list) m (owner tasks m)
   owns lt = record {

@@ -6,7 +6,7 @@ use Rattle.tcd_plan.specs.PlanData.{PlanData, IsPlan}
 use Rattle.tc_machine.specs.declared.state.Machine.{Machine}
 use Rattle.tc_machine.specs.PlanAreas.{consecutive_links, first_link, plan_areas}
 use Rattle.tc_machine.proofs.PlanLaws.{length-links_up}
-use Rattle.csa_chain.specs.SeveralChains.{sum_over_chains, ChainsShareAreas}
+use Rattle.csa_chain.specs.SeveralChains.{sum_of_first, ChainsPartitionAreas}
 use Rattle.task_chains.specs.Tasks.{TasksData, count}
 use Rattle.task_chains.specs.SafeTasks.{chain_word, AreAreasPartitioned}
 use Rattle.csa_chain.proofs.SeveralLaws.{sum_below-at, first_avoids_rest}
@@ -17,7 +17,7 @@ module _ {plan : PlanData} (ok : IsPlan plan) (tasks : TasksData) (m : Machine) 
   abbrev n : ℕ
   n = count tasks
 
-  all : sum_over_chains n (λ w. length (chain_of w)) + length (s.free) ≡ plan.areas
+  all : sum_of_first n (λ w. length (chain_of w)) + length (s.free) ≡ plan.areas
   all = (s.share).count ∙ length-links_up (first_link plan) plan.areas
 
   -- the first links of a list are at no later place
@@ -33,7 +33,7 @@ module _ {plan : PlanData} (ok : IsPlan plan) (tasks : TasksData) (m : Machine) 
   limit = first_link plan + (plan.areas - plan.reserve)
 
   -- if all areas except the reserve are in use, FCX is at the limit
-  to_limit : (front : List ℕ) → s.free ≡ front ++ reserve_of plan → sum_over_chains n (λ w. length (chain_of w)) ≡ plan.areas - plan.reserve → link_in m.fcx ≡ link_in m.lcx
+  to_limit : (front : List ℕ) → s.free ≡ front ++ reserve_of plan → sum_of_first n (λ w. length (chain_of w)) ≡ plan.areas - plan.reserve → link_in m.fcx ≡ link_in m.lcx
   to_limit [] is full =
       by_reserve plan.reserve (first_link plan + (plan.areas - plan.reserve)) ((ok.areas).reserved) (subst (Links m.mem m.fcx) is s.free_links) ∙ sym s.lcx_is
     where
@@ -45,12 +45,12 @@ module _ {plan : PlanData} (ok : IsPlan plan) (tasks : TasksData) (m : Machine) 
       absurd (omega (arith, all, length-links_up (first_link plan + (plan.areas - plan.reserve)) plan.reserve, (ok.areas).reserve_within))
 
   -- FCX is at the limit only then
-  from_limit : (front : List ℕ) → s.free ≡ front ++ reserve_of plan → link_in m.fcx ≡ link_in m.lcx → sum_over_chains n (λ w. length (chain_of w)) ≡ plan.areas - plan.reserve
+  from_limit : (front : List ℕ) → s.free ≡ front ++ reserve_of plan → link_in m.fcx ≡ link_in m.lcx → sum_of_first n (λ w. length (chain_of w)) ≡ plan.areas - plan.reserve
   from_limit [] is at =
       omega (arith, all, ap length is ∙ length-links_up (first_link plan + (plan.areas - plan.reserve)) plan.reserve, (ok.areas).reserve_within)
   from_limit (f ∷ front) is at =
       let l : Links m.mem m.fcx (f ∷ front ++ reserve_of plan) = subst (Links m.mem m.fcx) is s.free_links in
-      let share : ChainsShareAreas n chain_of (f ∷ front ++ reserve_of plan) (plan_areas plan) = subst (λ ls. ChainsShareAreas n chain_of ls (plan_areas plan)) is s.share in
+      let share : ChainsPartitionAreas n chain_of (f ∷ front ++ reserve_of plan) (plan_areas plan) = subst (λ ls. ChainsPartitionAreas n chain_of ls (plan_areas plan)) is s.share in
       let avoids = first_avoids_rest n chain_of f (front ++ reserve_of plan) (plan_areas plan) share (areas_once plan) in
       absurd (head_of plan.reserve (first_link plan + (plan.areas - plan.reserve)) f ((ok.areas).reserved) (behind f front (reserve_of plan) avoids) (sym l.1 ∙ at ∙ s.lcx_is))
 

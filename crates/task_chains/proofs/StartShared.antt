@@ -9,14 +9,14 @@ use Rattle.tcd_plan.specs.PlanData.{PlanData, IsPlan}
 use Rattle.tc_machine.specs.declared.state.Machine.{Machine}
 use Rattle.tc_machine.specs.PlanAreas.{consecutive_links, first_link, plan_areas, area_link_or_zero}
 use Rattle.tc_machine.proofs.PlanLaws.{length-links_up, link_address-area, some_link, link_lt}
-use Rattle.csa_chain.specs.SeveralChains.{times_in_list, sum_over_chains, ChainsShareAreas}
+use Rattle.csa_chain.specs.SeveralChains.{occurrences_of, sum_of_first, ChainsPartitionAreas}
 use Rattle.task_chains.specs.Tasks.{TasksData, AreTasks, count}
 use Rattle.task_chains.specs.TaskStarts.{block_word, task_upper_area, task_lower_area, areas_held_at_start, TasksStart}
 use Rattle.csa_chain.proofs.SeveralLaws.{cond_same, cond_other, AllLinks}
 use Rattle.task_chains.proofs.Switch.{Shared}
 
 -- ---- lists of links
-times-append : (l : ℕ) (xs ys : List ℕ) → times_in_list l (xs ++ ys) ≡ times_in_list l xs + times_in_list l ys
+times-append : (l : ℕ) (xs ys : List ℕ) → occurrences_of l (xs ++ ys) ≡ occurrences_of l xs + occurrences_of l ys
 times-append l [] ys = omega arith
 times-append l (x ∷ xs) ys = let rest = times-append l xs ys in omega arith
 
@@ -49,14 +49,14 @@ module _ (plan : PlanData) where
       low : first_link plan + 2 * k + 1 ≡ first_link plan + (2 * (suc k - 1) + 1)
       low = omega arith
 
-  times_held : (l k : ℕ) → sum_over_chains (suc k) (λ w. times_in_list l (start_chain plan w)) ≡ times_in_list l (consecutive_links (first_link plan) (2 * k))
+  times_held : (l k : ℕ) → sum_of_first (suc k) (λ w. occurrences_of l (start_chain plan w)) ≡ occurrences_of l (consecutive_links (first_link plan) (2 * k))
   times_held l zero = refl
   times_held l (suc k) =
-      let here : times_in_list l (start_chain plan (suc k)) ≡ times_in_list l (task_lower_area plan (suc k) ∷ task_upper_area plan (suc k) ∷ []) = ap (times_in_list l) (cond_other (suc k) 0 [] (task_lower_area plan (suc k) ∷ task_upper_area plan (suc k) ∷ []) (λ e. omega arith)) in
-      let more = ap (times_in_list l) (two_more k) ∙ times-append l (consecutive_links (first_link plan) (2 * k)) (task_upper_area plan (suc k) ∷ task_lower_area plan (suc k) ∷ []) in
+      let here : occurrences_of l (start_chain plan (suc k)) ≡ occurrences_of l (task_lower_area plan (suc k) ∷ task_upper_area plan (suc k) ∷ []) = ap (occurrences_of l) (cond_other (suc k) 0 [] (task_lower_area plan (suc k) ∷ task_upper_area plan (suc k) ∷ []) (λ e. omega arith)) in
+      let more = ap (occurrences_of l) (two_more k) ∙ times-append l (consecutive_links (first_link plan) (2 * k)) (task_upper_area plan (suc k) ∷ task_lower_area plan (suc k) ∷ []) in
       omega (arith, times_held l k)
 
-  length_held : (k : ℕ) → sum_over_chains (suc k) (λ w. length (start_chain plan w)) ≡ 2 * k
+  length_held : (k : ℕ) → sum_of_first (suc k) (λ w. length (start_chain plan w)) ≡ 2 * k
   length_held zero = refl
   length_held (suc k) =
       let here : length (start_chain plan (suc k)) ≡ 2 = ap length (cond_other (suc k) 0 [] (task_lower_area plan (suc k) ∷ task_upper_area plan (suc k) ∷ []) (λ e. omega arith)) in
@@ -120,16 +120,16 @@ module _ (image : ImageData) (plan : PlanData) (ok : IsPlan plan) (tasks : Tasks
       free_from held (plan.areas - held) m.fcx (omega arith) (omega arith)
       (ap link_in start.fcx ∙ small_link (nat_lt held plan.areas) (first_link plan + held) (λ b. link_lt ok held (ltb-true held plan.areas b)))
 
-  round : (k : ℕ) → suc k ≡ n → ChainsShareAreas n (start_chain plan) free (plan_areas plan)
+  round : (k : ℕ) → suc k ≡ n → ChainsPartitionAreas n (start_chain plan) free (plan_areas plan)
   round k is =
       let held_is : held ≡ 2 * k = omega arith in
       let whole : consecutive_links (first_link plan) plan.areas ≡ consecutive_links (first_link plan) held ++ free = ap (consecutive_links (first_link plan)) (let e : plan.areas ≡ held + (plan.areas - held) = omega arith in e) ∙ links_up-append (first_link plan) held (plan.areas - held) in
       record {
         each = λ l.
-            let t = ap (λ j. sum_over_chains j (λ w. times_in_list l (start_chain plan w))) (sym is) ∙ times_held plan l k ∙ ap (λ j. times_in_list l (consecutive_links (first_link plan) j)) (sym held_is) in
-            omega (arith, ap (times_in_list l) whole ∙ times-append l (consecutive_links (first_link plan) held) free);
+            let t = ap (λ j. sum_of_first j (λ w. occurrences_of l (start_chain plan w))) (sym is) ∙ times_held plan l k ∙ ap (λ j. occurrences_of l (consecutive_links (first_link plan) j)) (sym held_is) in
+            omega (arith, ap (occurrences_of l) whole ∙ times-append l (consecutive_links (first_link plan) held) free);
         count =
-            let t = ap (λ j. sum_over_chains j (λ w. length (start_chain plan w))) (sym is) ∙ length_held plan k in
+            let t = ap (λ j. sum_of_first j (λ w. length (start_chain plan w))) (sym is) ∙ length_held plan k in
             omega (arith, length-links_up (first_link plan + held) (plan.areas - held), length-links_up (first_link plan) plan.areas);
       }
 

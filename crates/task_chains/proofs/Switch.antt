@@ -12,14 +12,14 @@ use Rattle.tc_machine.specs.declared.events.End.TheVariants.{Running}
 use Rattle.tc_machine.specs.declared.state.Machine.{Machine}
 use Rattle.tc_machine.specs.Machine.{reg, a11, if_running, IsMachine}
 use Rattle.tc_machine.specs.Instructions.{with_pc_advanced, does}
-use Rattle.tc_machine.specs.SavesAndRestores.{has_kind, last_context, with_area_released, with_context_restored, restore}
+use Rattle.tc_machine.specs.SavesAndRestores.{is_last_context_of_kind, last_context, with_area_released, with_context_restored, restore}
 use Rattle.tc_machine.specs.Fetching.{fetched_instruction}
 use Rattle.tc_machine.specs.Stepping.{is_interrupt_taken, step}
 use Rattle.tc_machine.proofs.Saves.{restore-is, then_-running}
 use Rattle.tc_machine.proofs.Steps.{with_event, step_does, does-ret}
 use Rattle.tc_machine.proofs.Areas.{Areas}
 use Rattle.tc_machine.specs.PlanAreas.{first_link, plan_areas}
-use Rattle.csa_chain.specs.SeveralChains.{ChainsShareAreas}
+use Rattle.csa_chain.specs.SeveralChains.{ChainsPartitionAreas}
 use Rattle.csa_chain.proofs.SeveralLaws.{AllLinks}
 use Rattle.task_chains.proofs.Twins.{SameContexts, SameBehindFirst, reserve_of, Twins, same_before, links_before, named}
 use Rattle.task_chains.proofs.Alike.{seen_as}
@@ -41,7 +41,7 @@ pub record Shared (plan : PlanData) (n u : ℕ) (word_of : ℕ → ℕ) (chain_o
   pub links : AllLinks n mem word_of chain_of
   pub free : List ℕ
   pub free_links : Links mem fcx free
-  pub share : ChainsShareAreas n chain_of free (plan_areas plan)
+  pub share : ChainsPartitionAreas n chain_of free (plan_areas plan)
   pub front : List ℕ
   pub reserved : free ≡ front ++ reserve_of plan
   pub lcx_is : link_in lcx ≡ first_link plan + (plan.areas - plan.reserve)
@@ -143,16 +143,16 @@ module _ {plan : PlanData} (ok : IsPlan plan) {n u : ℕ} {word_of : ℕ → ℕ
   there : link_in v.pcxi ≡ k
   there = (t.view_links).1
 
-  kind_from : (upper : Bool) → has_kind v upper ≡ true → has_kind m upper ≡ true
+  kind_from : (upper : Bool) → is_last_context_of_kind v upper ≡ true → is_last_context_of_kind m upper ≡ true
   kind_from true kind = same_ul m.core m.pcxi v.pcxi own.0 ∙ ap (λ c. ul_of c v.pcxi) (sym beside.core) ∙ kind
   kind_from false kind = ap not (same_ul m.core m.pcxi v.pcxi own.0 ∙ ap (λ c. ul_of c v.pcxi) (sym beside.core)) ∙ kind
 
-  pub comes_back : (upper : Bool) → has_kind v upper ≡ true → restore m upper ≡ with_context_restored m upper
+  pub comes_back : (upper : Bool) → is_last_context_of_kind v upper ≡ true → restore m upper ≡ with_context_restored m upper
   comes_back upper kind =
       let ls = links_before ok l used is words.bytes view_words.bytes t in
       restore-is m upper (λ e. ls.0 (sym here ∙ e)) (kind_from upper kind) (ap (is_area m.mem) here ∙ ls.2)
 
-  pub view_comes_back : (upper : Bool) → has_kind v upper ≡ true → restore v upper ≡ with_context_restored v upper
+  pub view_comes_back : (upper : Bool) → is_last_context_of_kind v upper ≡ true → restore v upper ≡ with_context_restored v upper
   view_comes_back upper kind = restore-is v upper (λ e. (t.view_links).0 (sym there ∙ e)) kind (ap (is_area v.mem) there ∙ (t.view_links).2)
 
   behind : SameBehindFirst (last_context m) (last_context v)
@@ -180,7 +180,7 @@ module _ {plan : PlanData} (ok : IsPlan plan) {n u : ℕ} {word_of : ℕ → ℕ
   }
 
   -- the return: both go to the same address, and the view and the machine are alike
-  pub switched_back : SameLower m v → has_kind v true ≡ true → (e e2 : Event) → is_interrupt_taken m e ≡ false → e2.irq ≡ e.irq → e2.status ≡ e.status → (size : ℕ) → fetched_instruction m ≡ Ok (Ret, size) → fetched_instruction v ≡ Ok (Ret, size)
+  pub switched_back : SameLower m v → is_last_context_of_kind v true ≡ true → (e e2 : Event) → is_interrupt_taken m e ≡ false → e2.irq ≡ e.irq → e2.status ≡ e.status → (size : ℕ) → fetched_instruction m ≡ Ok (Ret, size) → fetched_instruction v ≡ Ok (Ret, size)
       → step v e2 ≡ seen_as (step m e) (with_area_released v).mem (with_area_released v).pcxi (with_area_released v).fcx
   switched_back s kind e e2 none same_irq same_status size at view_at =
       let view_none : is_interrupt_taken v e2 ≡ false = (λ i. is_interrupt_taken (record m { ie = beside.ie i; ccpn = beside.ccpn i }) (record e { irq = same_irq i })) ∙ none in

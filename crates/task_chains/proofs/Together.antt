@@ -2,7 +2,7 @@
 use Rattle.std.proofs.Common.{◌≡◌, ◌≢◌, ℕ, zero, suc, ◌+◌, ◌-◌, ◌*◌, ◌<◌, ◌≤◌, ◌⊎◌, inl, inr, true, false, ◌||◌, cond, max, List, [], ◌∷◌, length, refl, sym, ap, ◌∙◌, subst, arith, ◌==◌}
 use Rattle.std.proofs.lemmas.Bool.{cases_eq, cond_both, eq-eqb, ne_eqb, or_left, or_right}
 use Rattle.std.specs.Prelude.{IfSome}
-use Rattle.csa_chain.specs.SeveralChains.{sum_over_chains}
+use Rattle.csa_chain.specs.SeveralChains.{sum_of_first}
 use Rattle.csa_chain.proofs.SeveralLaws.{cond_same, cond_other}
 use Rattle.elf_image.specs.Images.{ImageData}
 use Rattle.tcd_plan.specs.PlanData.{PlanData}
@@ -20,7 +20,7 @@ use Rattle.cfg_recover.specs.RulesHoldOrFail.{certified_need}
 use Rattle.task_chains.specs.Tasks.{TasksData, count}
 use Rattle.task_chains.specs.Views.{view_image_of, view_plan_of}
 use Rattle.task_chains.specs.TaskStarts.{block_word, current_task, task_upper_area, task_lower_area, IsTaskReady, TasksStart}
-use Rattle.task_chains.specs.SafeTasks.{task_before, owner, IsAllowedTaskStore, AreTasksSafeAt, need_of_task, TasksAreSafe}
+use Rattle.task_chains.specs.SafeTasks.{previous_task, owner, IsAllowedTaskStore, AreTasksSafeAt, need_of_task, TasksAreSafe}
 use Rattle.task_chains.proofs.Alike.{seen_as}
 use Rattle.task_chains.proofs.Beginning.{start_memory, start_is, start_turn, begins_on, begins_lower, begins_home}
 use Rattle.task_chains.proofs.Coming.{goes_switch, comes_on, comes_lower, comes_home}
@@ -37,7 +37,7 @@ place_test : (x y : ℕ) → x ≢ y + 48 → x ≢ y + 52 → x ≢ y + 56 → 
 place_test x y a b c = (λ i. ne_eqb x (y + 48) a i || ne_eqb x (y + 52) b i || ne_eqb x (y + 56) c i)
 
 pub owner_now : (tasks : TasksData) (m : Machine) → m.pc ≢ tasks.switch + 48 → m.pc ≢ tasks.switch + 52 → m.pc ≢ tasks.switch + 56 → owner tasks m ≡ current_task tasks m.mem
-owner_now tasks m a b c = ap (λ t. cond t (task_before (count tasks) (current_task tasks m.mem)) (current_task tasks m.mem)) (place_test m.pc tasks.switch a b c)
+owner_now tasks m a b c = ap (λ t. cond t (previous_task (count tasks) (current_task tasks m.mem)) (current_task tasks m.mem)) (place_test m.pc tasks.switch a b c)
 
 -- one of the three places
 pub place_here : (x y : ℕ) → (x ≡ y + 48) ⊎ ((x ≡ y + 52) ⊎ (x ≡ y + 56)) → (x == y + 48 || x == y + 52 || x == y + 56) ≡ true
@@ -45,14 +45,14 @@ place_here x y (inl a) = or_left (x == y + 48 || x == y + 52) (x == y + 56) (or_
 place_here x y (inr (inl b)) = or_left (x == y + 48 || x == y + 52) (x == y + 56) (or_right (x == y + 48) (x == y + 52) (eq-eqb x (y + 52) b))
 place_here x y (inr (inr c)) = or_right (x == y + 48 || x == y + 52) (x == y + 56) (eq-eqb x (y + 56) c)
 
-before_after : (n u : ℕ) → u < n → task_before n (after n u) ≡ u
+before_after : (n u : ℕ) → u < n → previous_task n (after n u) ≡ u
 before_after n u lt =
     elim (cases_eq (suc u) n) [
       | inl last ↦
-          ap (task_before n) (cond_same (suc u) n 0 (suc u) last) ∙ cond_same 0 0 (n - 1) (0 - 1) refl ∙ (let f : n - 1 ≡ u = omega arith in f)
+          ap (previous_task n) (cond_same (suc u) n 0 (suc u) last) ∙ cond_same 0 0 (n - 1) (0 - 1) refl ∙ (let f : n - 1 ≡ u = omega arith in f)
       | inr more ↦
           let is : after n u ≡ suc u = cond_other (suc u) n 0 (suc u) more in
-          ap (task_before n) is ∙ cond_other (suc u) 0 (n - 1) (suc u - 1) (λ e. omega arith) ∙ (let f : suc u - 1 ≡ u = omega arith in f)
+          ap (previous_task n) is ∙ cond_other (suc u) 0 (n - 1) (suc u - 1) (λ e. omega arith) ∙ (let f : suc u - 1 ≡ u = omega arith in f)
     ]
 
 module _ {image : ImageData} {plan : PlanData} {tasks : TasksData} {certs : ℕ → CertData} {needs : ℕ → ℕ} (wd : World image plan tasks certs needs) where
@@ -113,7 +113,7 @@ module _ {image : ImageData} {plan : PlanData} {tasks : TasksData} {certs : ℕ 
       where
         given : current_task tasks m.mem ≡ after (count tasks) u → (m.pc ≡ tasks.switch + 48) ⊎ ((m.pc ≡ tasks.switch + 52) ⊎ (m.pc ≡ tasks.switch + 56)) → owner tasks m ≡ u
         given now at =
-            ap (λ t. cond t (task_before (count tasks) (current_task tasks m.mem)) (current_task tasks m.mem)) (place_here m.pc tasks.switch at) ∙ ap (task_before (count tasks)) now ∙ before_after (count tasks) u (k.shared).own
+            ap (λ t. cond t (previous_task (count tasks) (current_task tasks m.mem)) (current_task tasks m.mem)) (place_here m.pc tasks.switch at) ∙ ap (previous_task (count tasks)) now ∙ before_after (count tasks) u (k.shared).own
     owner_by (comes_back v seen i some most pc off of beside low pause now) = away i pc (inr some) ∙ now
     owner_by (begins i some most pc off level later early late now) = away i pc (inr some) ∙ now
 
@@ -166,7 +166,7 @@ module _ {image : ImageData} {plan : PlanData} {tasks : TasksData} {certs : ℕ 
   goes_run m k (e ∷ es) all = let g = goes_on m k e all.0 in goes_run (step m e) g.kept es all.1
 
   -- ---- the start
-  two_each : (n : ℕ) → 1 ≤ n → ((w : ℕ) → 1 ≤ w → w < n → 2 ≤ needs w) → 2 * (n - 1) ≤ sum_over_chains n needs
+  two_each : (n : ℕ) → 1 ≤ n → ((w : ℕ) → 1 ≤ w → w < n → 2 ≤ needs w) → 2 * (n - 1) ≤ sum_of_first n needs
   two_each zero some two = absurd (omega arith)
   two_each (suc zero) some two = omega arith
   two_each (suc (suc n)) some two =

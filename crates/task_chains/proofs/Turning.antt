@@ -11,7 +11,7 @@ use Rattle.tcd_base.specs.declared.range.Range.{Range}
 use Rattle.tcd_base.specs.Ranges.{IsInOneRange}
 use Rattle.tcd_base.proofs.RangeLaws.{IsInOne-front}
 use Rattle.tcd_plan.specs.PlanData.{PlanData, areas_range}
-use Rattle.tcd_plan.specs.MappedAddresses.{IsInAreas, IsStoreInRange, AnswersLoad}
+use Rattle.tcd_plan.specs.MappedAddresses.{IsInAreas, IsStoreInRange, MayAnswerLoad}
 use Rattle.tcd_plan.proofs.ApartLaws.{IsInOne-fits, all_apart-before, rom_fits}
 use Rattle.tc_isa.specs.Arithmetic.{sign_extended}
 use Rattle.tc_isa.specs.declared.shapes.Arg.TheVariants.{Reg, Word}
@@ -23,7 +23,7 @@ use Rattle.tc_machine.specs.declared.events.Cause.{Cause}
 use Rattle.tc_machine.specs.declared.events.Event.{Event}
 use Rattle.tc_machine.specs.declared.state.Machine.{Machine}
 use Rattle.tc_machine.specs.Machine.{reg}
-use Rattle.tc_machine.specs.Instructions.{machine_address_ahead, is_trapping_access, does}
+use Rattle.tc_machine.specs.Instructions.{wrapping_sum, is_trapping_access, does}
 use Rattle.tc_machine.specs.Fetching.{fetched_instruction}
 use Rattle.std.specs.Prelude.{IfSome}
 use Rattle.tc_machine.specs.Stepping.{is_interrupt_taken, load_of_fetched, store_of_fetched, stored, step}
@@ -38,7 +38,7 @@ use Rattle.cfg_recover.specs.Code.{IsCode}
 use Rattle.cfg_recover.specs.StepEdges.{to, edge_way_by_trap}
 use Rattle.cfg_recover.proofs.Writes.{store_keeps_areas}
 use Rattle.task_chains.specs.Tasks.{TasksData, count, block_size}
-use Rattle.tc_isa.specs.NamedInstructions.{upper_half, lower_half}
+use Rattle.tc_isa.specs.NamedInstructions.{adjusted_upper_half, lower_half}
 use Rattle.task_chains.specs.Views.{view_image_of, view_plan_of}
 use Rattle.task_chains.specs.TaskStarts.{block_word}
 use Rattle.task_chains.proofs.Alike.{seen_as, Alike}
@@ -139,7 +139,7 @@ module _ {image : ImageData} {plan : PlanData} {tasks : TasksData} {certs : ℕ 
       there = fetched_code (view_image_of image tasks u) (view_plan_of plan tasks u) v shape2 4 (view_ok wd u own) of.rom (code_to (view_image_of image tasks u) plan tasks u m.pc shape2 4 code2)
 
       -- both are alike again, and the machine is at the routine's next instruction
-      turns : (j : ℕ) → 1 ≤ j → j ≤ 14 → AnswersLoad (view_plan_of plan tasks u) input (load_of_fetched (seen_as m mem pcxi fcx) (Ok (shape2, 4))) → ((q : ℕ) → edge_way_by_trap (seen_as m mem pcxi fcx) (record e { input = input }) shape2 q ≡ to q)
+      turns : (j : ℕ) → 1 ≤ j → j ≤ 14 → MayAnswerLoad (view_plan_of plan tasks u) input (load_of_fetched (seen_as m mem pcxi fcx) (Ok (shape2, 4))) → ((q : ℕ) → edge_way_by_trap (seen_as m mem pcxi fcx) (record e { input = input }) shape2 q ≡ to q)
           → (mem2 : Memory) → Plainly m (seen_as m mem pcxi fcx) (does m e shape 4) (does (seen_as m mem pcxi fcx) (record e { input = input }) shape2 4) mem2 mem
           → ((x : ℕ) → IsInAreas plan x → finite.get mem2 x ≡ finite.get m.mem x) → ((x : ℕ) → is_mapped mem2 x ≡ is_mapped m.mem x) → ((x : ℕ) → IsInOneRange x 1 plan.rom → finite.get mem2 x ≡ finite.get m.mem x)
           → ((w : ℕ) → w < count tasks → w ≢ u → block_word tasks mem2 w ≡ block_word tasks m.mem w)
@@ -151,7 +151,7 @@ module _ {image : ImageData} {plan : PlanData} {tasks : TasksData} {certs : ℕ 
             irq = fits.irq;
             input = small;
             status = fits.status;
-            answers = λ _. subst (λ (r : Result (Shape × ℕ) Cause). AnswersLoad (view_plan_of plan tasks u) input (load_of_fetched v r)) (sym there) answers;
+            answers = λ _. subst (λ (r : Result (Shape × ℕ) Cause). MayAnswerLoad (view_plan_of plan tasks u) input (load_of_fetched v r)) (sym there) answers;
           }
           in
           let a : Alike plan (count tasks) u word_of chain_of (λ x. IsInOneRange x 1 plan.rom) mem m (step m e) (step v e2) =
@@ -203,24 +203,24 @@ module _ {image : ImageData} {plan : PlanData} {tasks : TasksData} {certs : ℕ 
 
       -- an instruction that both have, and that doesn't change memory
       same_turn : (j : ℕ) → 1 ≤ j → j ≤ 14 → (shape : Shape) → IsCode image plan (tasks.switch + 4 * i) shape 4 → IsCode (view_image_of image tasks u) plan (tasks.switch + 4 * i) shape 4
-          → AnswersLoad (view_plan_of plan tasks u) e.input (load_of_fetched (seen_as m mem pcxi fcx) (Ok (shape, 4))) → ((q : ℕ) → edge_way_by_trap (seen_as m mem pcxi fcx) e shape q ≡ to q)
+          → MayAnswerLoad (view_plan_of plan tasks u) e.input (load_of_fetched (seen_as m mem pcxi fcx) (Ok (shape, 4))) → ((q : ℕ) → edge_way_by_trap (seen_as m mem pcxi fcx) e shape q ≡ to q)
           → Plainly m (seen_as m mem pcxi fcx) (does m e shape 4) (does (seen_as m mem pcxi fcx) e shape 4) m.mem mem → InRoutine tasks (step m e) u j word_of → Goes image plan tasks needs (step m e)
       same_turn j some most shape c c2 answers way p next =
           turns r.off shape shape e.input fits.input (at_here shape c) (view_here shape c2) j some most answers way m.mem p (λ x at. refl) (λ x. refl) (λ x at. refl) (λ w lt apart. refl) next
 
       -- an instruction that stores to the block; the view does nothing
       put_turn : (j : ℕ) → 1 ≤ j → j ≤ 14 → (src base offset at : ℕ) → IsCode image plan (tasks.switch + 4 * i) (Store src (Reg base) offset 4 false) 4 → IsCode (view_image_of image tasks u) plan (tasks.switch + 4 * i) Nothing 4
-          → machine_address_ahead (reg m base) offset ≡ tasks.block + 4 * at → at ≤ count tasks → ((w : ℕ) → w < count tasks → w ≢ u → w ≢ at) → is_trapping_access e (machine_address_ahead (reg m base) offset) 4 ≡ false → InRoutine tasks (step m e) u j word_of → Goes image plan tasks needs (step m e)
+          → wrapping_sum (reg m base) offset ≡ tasks.block + 4 * at → at ≤ count tasks → ((w : ℕ) → w < count tasks → w ≢ u → w ≢ at) → is_trapping_access e (wrapping_sum (reg m base) offset) 4 ≡ false → InRoutine tasks (step m e) u j word_of → Goes image plan tasks needs (step m e)
       put_turn j some most src base offset at c c2 place le others no_trap_here next =
-          let s = block_stored m.mem block_here (machine_address_ahead (reg m base) offset) at (reg m src) place le in
-          turns r.off (Store src (Reg base) offset 4 false) Nothing e.input fits.input (at_here (Store src (Reg base) offset 4 false) c) (view_here Nothing c2) j some most tt (λ q. refl) (with_bytes m.mem (machine_address_ahead (reg m base) offset) (reg m src) 4)
+          let s = block_stored m.mem block_here (wrapping_sum (reg m base) offset) at (reg m src) place le in
+          turns r.off (Store src (Reg base) offset 4 false) Nothing e.input fits.input (at_here (Store src (Reg base) offset 4 false) c) (view_here Nothing c2) j some most tt (λ q. refl) (with_bytes m.mem (wrapping_sum (reg m base) offset) (reg m src) 4)
           (plain-put m mem pcxi fcx e e src base offset 4 no_trap_here) s.areas s.mapped s.rom (λ w lt apart. s.blocks w (others w lt apart)) next
 
       -- an instruction that reads what is an input in the view
       get_turn : (j : ℕ) → 1 ≤ j → j ≤ 14 → (dst base offset : ℕ) → IsCode image plan (tasks.switch + 4 * i) (Load dst (Reg base) offset 4 false false) 4 → IsCode (view_image_of image tasks u) plan (tasks.switch + 4 * i) (Mfcr dst 0) 4
-          → is_trapping_access e (machine_address_ahead (reg m base) offset) 4 ≡ false → InRoutine tasks (step m e) u j word_of → Goes image plan tasks needs (step m e)
+          → is_trapping_access e (wrapping_sum (reg m base) offset) 4 ≡ false → InRoutine tasks (step m e) u j word_of → Goes image plan tasks needs (step m e)
       get_turn j some most dst base offset c c2 no_trap_here next =
-          let x = machine_address_ahead (reg m base) offset in
+          let x = wrapping_sum (reg m base) offset in
           let w = loaded_number m.mem e.input x 4 in
           turns r.off (Load dst (Reg base) offset 4 false false) (Mfcr dst 0) w (load_lt m.mem (k.words).bytes false e.input x 4 (inr (inr refl))) (at_here (Load dst (Reg base) offset 4 false false) c) (view_here (Mfcr dst 0) c2) j some most tt (λ q. refl) m.mem
           (plain-taken m mem pcxi fcx e (record e { input = w }) dst base offset 0 4 no_trap_here refl) (λ x at. refl) (λ x. refl) (λ x at. refl) (λ w lt apart. refl) next
@@ -234,9 +234,9 @@ module _ {image : ImageData} {plan : PlanData} {tasks : TasksData} {certs : ℕ 
 
     turn_2 : InRoutine tasks m u 2 word_of → Goes image plan tasks needs (step m e)
     turn_2 r =
-        let shape = Compute Second 18 (Word 0) (Word (upper_half tasks.block * 2 ^ 16 % 2 ^ 32)) in
+        let shape = Compute Second 18 (Word 0) (Word (adjusted_upper_half tasks.block * 2 ^ 16 % 2 ^ 32)) in
         let c = code_2 image plan tasks wd.are wd.has in
-        same_turn 2 r 3 (omega arith) (omega arith) shape c (view_code_2 image plan tasks wd.are wd.has u) tt (λ q. refl) (plain-compute m mem pcxi fcx e e Second 18 (Word 0) (Word (upper_half tasks.block * 2 ^ 16 % 2 ^ 32)) 4)
+        same_turn 2 r 3 (omega arith) (omega arith) shape c (view_code_2 image plan tasks wd.are wd.has u) tt (λ q. refl) (plain-compute m mem pcxi fcx e e Second 18 (Word 0) (Word (adjusted_upper_half tasks.block * 2 ^ 16 % 2 ^ 32)) 4)
         (next_2 tasks wd.are block_fits routine_fits m e u word_of k.running dl al block_here own (k.words).pcxi r (fetched_here 2 r shape c))
 
     turn_3 : InRoutine tasks m u 3 word_of → Goes image plan tasks needs (step m e)
@@ -255,7 +255,7 @@ module _ {image : ImageData} {plan : PlanData} {tasks : TasksData} {certs : ℕ 
         let shape = Load 0 (Reg 18) offset 4 false false in
         let c = code_4 image plan tasks wd.are wd.has in
         let place = block_place tasks wd.are block_fits routine_fits m e u word_of k.running dl al block_here own (k.words).pcxi (reg m 18) (r.block (omega arith)) in
-        get_turn 4 r 5 (omega arith) (omega arith) 0 18 offset c (view_code_4 image plan tasks wd.are wd.has u) (no_trap_at (machine_address_ahead (reg m 18) offset) n place)
+        get_turn 4 r 5 (omega arith) (omega arith) 0 18 offset c (view_code_4 image plan tasks wd.are wd.has u) (no_trap_at (wrapping_sum (reg m 18) offset) n place)
         (next_4 tasks wd.are block_fits routine_fits m e u word_of k.running dl al block_here own (k.words).pcxi r (fetched_here 4 r shape c))
 
     turn_5 : InRoutine tasks m u 5 word_of → Goes image plan tasks needs (step m e)
@@ -275,7 +275,7 @@ module _ {image : ImageData} {plan : PlanData} {tasks : TasksData} {certs : ℕ 
     turn_7 r =
         let c = code_7 image plan tasks wd.are wd.has in
         let place = zero_place tasks wd.are block_fits routine_fits m e u word_of k.running dl al block_here own (k.words).pcxi (reg m 19) u (r.own_word (omega arith) (omega arith)) (omega arith) in
-        put_turn 7 r 8 (omega arith) (omega arith) 1 19 0 u c (view_code_7 image plan tasks wd.are wd.has u) place (omega arith) (λ w lt apart. apart) (no_trap_at (machine_address_ahead (reg m 19) 0) u place)
+        put_turn 7 r 8 (omega arith) (omega arith) 1 19 0 u c (view_code_7 image plan tasks wd.are wd.has u) place (omega arith) (λ w lt apart. apart) (no_trap_at (wrapping_sum (reg m 19) 0) u place)
         (next_7 tasks wd.are block_fits routine_fits m e u word_of k.running dl al block_here own (k.words).pcxi r (fetched_here 7 r (Store 1 (Reg 19) 0 4 false) c))
 
     turn_8 : InRoutine tasks m u 8 word_of → Goes image plan tasks needs (step m e)
@@ -309,7 +309,7 @@ module _ {image : ImageData} {plan : PlanData} {tasks : TasksData} {certs : ℕ 
         let offset = sign_extended 16 (4 * n % 2 ^ 16) in
         let c = code_11 image plan tasks wd.are wd.has in
         let place = block_place tasks wd.are block_fits routine_fits m e u word_of k.running dl al block_here own (k.words).pcxi (reg m 18) (r.block (omega arith)) in
-        put_turn 11 r 12 (omega arith) (omega arith) 0 18 offset n c (view_code_11 image plan tasks wd.are wd.has u) place (omega arith) (λ w lt apart is. omega arith) (no_trap_at (machine_address_ahead (reg m 18) offset) n place)
+        put_turn 11 r 12 (omega arith) (omega arith) 0 18 offset n c (view_code_11 image plan tasks wd.are wd.has u) place (omega arith) (λ w lt apart is. omega arith) (no_trap_at (wrapping_sum (reg m 18) offset) n place)
         (next_11 tasks wd.are block_fits routine_fits m e u word_of k.running dl al block_here own (k.words).pcxi r (fetched_here 11 r (Store 0 (Reg 18) offset 4 false) c))
 
     turn_12 : InRoutine tasks m u 12 word_of → Goes image plan tasks needs (step m e)
@@ -324,7 +324,7 @@ module _ {image : ImageData} {plan : PlanData} {tasks : TasksData} {certs : ℕ 
         let beyond = after_below n u (wd.are).some own in
         let place = zero_place tasks wd.are block_fits routine_fits m e u word_of k.running dl al block_here own (k.words).pcxi (reg m 19) (after n u) (r.next_word refl) (let lt = beyond.0 in omega arith) in
         let waits = k.waits (after n u) beyond.0 beyond.1 in
-        get_turn 13 r 14 (omega arith) (omega arith) 1 19 0 c (view_code_13 image plan tasks wd.are wd.has u) (no_trap_at (machine_address_ahead (reg m 19) 0) (after n u) place)
+        get_turn 13 r 14 (omega arith) (omega arith) 1 19 0 c (view_code_13 image plan tasks wd.are wd.has u) (no_trap_at (wrapping_sum (reg m 19) 0) (after n u) place)
         (next_13 tasks wd.are block_fits routine_fits m e u word_of k.running dl al block_here own (k.words).pcxi waits.0 r (fetched_here 13 r (Load 1 (Reg 19) 0 4 false false) c))
 
     -- all of them
@@ -349,16 +349,16 @@ module _ {image : ImageData} {plan : PlanData} {tasks : TasksData} {certs : ℕ 
     not_out : (i : ℕ) → i < 18 → m.pc ≡ tasks.switch + 4 * i → IsInRoutine tasks m.pc
     not_out i lt pc = (omega arith, omega arith)
 
-    block_store : (i : ℕ) → i < 18 → m.pc ≡ tasks.switch + 4 * i → m.ie ≡ false → (src base offset j : ℕ) → IsCode image plan (tasks.switch + 4 * i) (Store src (Reg base) offset 4 false) 4 → machine_address_ahead (reg m base) offset ≡ tasks.block + 4 * j → j ≤ count tasks
+    block_store : (i : ℕ) → i < 18 → m.pc ≡ tasks.switch + 4 * i → m.ie ≡ false → (src base offset j : ℕ) → IsCode image plan (tasks.switch + 4 * i) (Store src (Reg base) offset 4 false) 4 → wrapping_sum (reg m base) offset ≡ tasks.block + 4 * j → j ≤ count tasks
         → IfSome (stored m e) (IsAllowedTaskStore plan tasks m.pc)
     block_store i lt pc off src base offset j c place le =
         let shape = Store src (Reg base) offset 4 false in
         let at : fetched_instruction m ≡ Ok (Store src (Reg base) offset 4 false, 4) = fetched_code image plan m shape 4 wd.ok k.rom (subst (λ x. IsCode image plan x shape 4) (sym pc) c) in
-        let free : is_trapping_access e (machine_address_ahead (reg m base) offset) 4 ≡ false = no_trap_at (machine_address_ahead (reg m base) offset) j place in
-        let range : IsStoreInRange plan (machine_address_ahead (reg m base) offset, 4) = subst (λ y. IsStoreInRange plan (y, 4)) (sym place) (block_range j le) in
+        let free : is_trapping_access e (wrapping_sum (reg m base) offset) 4 ≡ false = no_trap_at (wrapping_sum (reg m base) offset) j place in
+        let range : IsStoreInRange plan (wrapping_sum (reg m base) offset, 4) = subst (λ y. IsStoreInRange plan (y, 4)) (sym place) (block_range j le) in
         let inside = not_out i lt pc in
         subst (λ o. IfSome o (IsAllowedTaskStore plan tasks m.pc)) (sym (stored-is m e (Ok (shape, 4)) k.running (none_when_off m e off) at))
-        (subst (λ t. IfSome (cond t None (Some (machine_address_ahead (reg m base) offset, 4))) (IsAllowedTaskStore plan tasks m.pc)) (sym free) (range, λ out. absurd (out inside)))
+        (subst (λ t. IfSome (cond t None (Some (wrapping_sum (reg m base) offset, 4))) (IsAllowedTaskStore plan tasks m.pc)) (sym free) (range, λ out. absurd (out inside)))
 
     pub turning_store : (i : ℕ) → 1 ≤ i → i ≤ 14 → InRoutine tasks m u i word_of → IfSome (stored m e) (IsAllowedTaskStore plan tasks m.pc)
     turning_store zero some most r = absurd (omega arith)

@@ -2,10 +2,10 @@
 -- are the same, at whatever addresses.
 use Rattle.std.proofs.Common.{◌≡◌, ◌≢◌, ℕ, zero, suc, ◌+◌, ◌-◌, ◌/◌, ◌^◌, ◌<◌, ◌≤◌, Bool, true, false, List, [], ◌∷◌, ◌++◌, length, get_or, refl, sym, ap, ◌∙◌, subst, arith, inl, inr}
 use Rattle.std.proofs.lemmas.Bool.{cases_eq}
-use Rattle.csa_chain.specs.MemoryBytes.{Memory, with_words, HasBytes}
+use Rattle.csa_chain.specs.MemoryBytes.{Memory, with_words, HasOnlyBytes}
 use Rattle.csa_chain.specs.Chain.{link_in, link_address, is_area, area_word, word_with_link}
 use Rattle.csa_chain.specs.ContextWords.{pcxi_word_of}
-use Rattle.csa_chain.specs.ContextWordLaws.{HasContextWords}
+use Rattle.csa_chain.specs.ContextWordLaws.{IsListOfWords}
 use Rattle.csa_chain.proofs.WordLaws.{area_word-lt}
 use Rattle.csa_chain.proofs.ChainLaws.{Links, SameAreas, Avoids, Distinct, area_word_same, SameAreas-written, area_word-written, used_after_save, used_after_restore}
 use Rattle.csa_chain.proofs.ContextLaws.{link_in-with_link, with_link-lt, link_in-lt, link_in-pcxi_word, pcxi_word-lt}
@@ -15,7 +15,7 @@ use Rattle.tcd_plan.specs.PlanData.{PlanData, IsPlan}
 use Rattle.tc_machine.specs.PlanAreas.{consecutive_links, first_link, plan_areas}
 use Rattle.tc_machine.proofs.PlanLaws.{length-links_up, Distinct-links_up}
 use Rattle.tc_machine.proofs.Areas.{Areas, HasFree, has_free, Areas-saved, is_freed, Areas-restored}
-use Rattle.csa_chain.specs.SeveralChains.{times_in_list, sum_over_chains, with_chain, with_chain_word, ChainsShareAreas, AreLinksOnce}
+use Rattle.csa_chain.specs.SeveralChains.{occurrences_of, sum_of_first, with_chain, with_chain_word, ChainsPartitionAreas, AreLinksDistinct}
 use Rattle.csa_chain.proofs.SeveralLaws.{cond_same, AllLinks, first_avoids, first_avoids_rest, Share-saved, saved_links, saved_free, times-there, times-other, owned_avoids_rest, Share-restored, restored_links, restored_free}
 
 -- ---- contexts
@@ -66,11 +66,11 @@ first_of_reserve : (reserve x f : ℕ) → 1 ≤ reserve → Avoids f (consecuti
 first_of_reserve zero x f some h = absurd (omega arith)
 first_of_reserve (suc r) x f some h = λ e. h.0 (sym e)
 
-times-Avoids : (l : ℕ) (ls : List ℕ) → Avoids l ls → times_in_list l ls ≡ 0
+times-Avoids : (l : ℕ) (ls : List ℕ) → Avoids l ls → occurrences_of l ls ≡ 0
 times-Avoids l [] h = refl
 times-Avoids l (k ∷ ks) h = let rest = times-Avoids l ks h.1 in let first = times-other l k ks h.0 in omega arith
 
-pub AreOnce-Distinct : (ls : List ℕ) → Distinct ls → AreLinksOnce ls
+pub AreOnce-Distinct : (ls : List ℕ) → Distinct ls → AreLinksDistinct ls
 AreOnce-Distinct [] h l = omega arith
 AreOnce-Distinct (k ∷ ks) h l =
     elim (cases_eq k l) [
@@ -78,7 +78,7 @@ AreOnce-Distinct (k ∷ ks) h l =
       | inr apart ↦ let rest = AreOnce-Distinct ks h.1 l in let first = times-other l k ks apart in omega arith
     ]
 
-pub areas_once : (plan : PlanData) → AreLinksOnce (plan_areas plan)
+pub areas_once : (plan : PlanData) → AreLinksDistinct (plan_areas plan)
 areas_once plan = AreOnce-Distinct (plan_areas plan) (Distinct-links_up (first_link plan) plan.areas)
 
 -- the links of the reserve
@@ -92,7 +92,7 @@ pub record Twins (plan : PlanData) (n u : ℕ) (word_of : ℕ → ℕ) (chain_of
   pub links : AllLinks n mem word_of chain_of
   pub free : List ℕ
   pub free_links : Links mem fcx free
-  pub share : ChainsShareAreas n chain_of free (plan_areas plan)
+  pub share : ChainsPartitionAreas n chain_of free (plan_areas plan)
   pub front : List ℕ
   pub reserved : free ≡ front ++ reserve_of plan
   pub lcx_is : link_in lcx ≡ first_link plan + (plan.areas - plan.reserve)
@@ -115,34 +115,34 @@ pub record HasShared (plan : PlanData) (n : ℕ) (chain_of : ℕ → List ℕ) (
   pub area : is_area mem (link_in fcx) ≡ true
   pub not_last : link_in fcx ≢ link_in lcx
   pub links : Links mem fcx (link_in fcx ∷ front ++ reserve_of plan)
-  pub share : ChainsShareAreas n chain_of (link_in fcx ∷ front ++ reserve_of plan) (plan_areas plan)
+  pub share : ChainsPartitionAreas n chain_of (link_in fcx ∷ front ++ reserve_of plan) (plan_areas plan)
 
 module _ {plan : PlanData} (ok : IsPlan plan) {n u : ℕ} {word_of : ℕ → ℕ} {chain_of : ℕ → List ℕ} {seen : List ℕ} {mem : Memory} {pcxi fcx lcx : ℕ} {view : Memory} {view_pcxi view_fcx : ℕ}
     (t : Twins plan n u word_of chain_of seen mem pcxi fcx lcx view view_pcxi view_fcx) where
   not_reserved : (f : ℕ) (front : List ℕ) → Avoids f (front ++ reserve_of plan) → f ≢ first_link plan + (plan.areas - plan.reserve)
   not_reserved f front h = first_of_reserve plan.reserve (first_link plan + (plan.areas - plan.reserve)) f ((ok.areas).reserved) (Avoids-behind f front (reserve_of plan) h)
 
-  shared_from : (free front : List ℕ) → free ≡ front ++ reserve_of plan → Links mem fcx free → ChainsShareAreas n chain_of free (plan_areas plan) → sum_over_chains n (λ w. length (chain_of w)) < plan.areas - plan.reserve
+  shared_from : (free front : List ℕ) → free ≡ front ++ reserve_of plan → Links mem fcx free → ChainsPartitionAreas n chain_of free (plan_areas plan) → sum_of_first n (λ w. length (chain_of w)) < plan.areas - plan.reserve
       → HasShared plan n chain_of mem fcx lcx
   shared_from free [] is links share room =
       absurd (omega (arith, share.count, ap length is ∙ length-links_up _ plan.reserve, length-links_up (first_link plan) plan.areas, (ok.areas).reserve_within))
   shared_from free (f ∷ front) is links share room =
       let l : Links mem fcx (f ∷ front ++ reserve_of plan) = subst (Links mem fcx) is links in
-      let s : ChainsShareAreas n chain_of (f ∷ front ++ reserve_of plan) (plan_areas plan) = subst (λ ls. ChainsShareAreas n chain_of ls (plan_areas plan)) is share in
+      let s : ChainsPartitionAreas n chain_of (f ∷ front ++ reserve_of plan) (plan_areas plan) = subst (λ ls. ChainsPartitionAreas n chain_of ls (plan_areas plan)) is share in
       record {
         front = front;
         some = rw l.1 l.0;
         area = rw l.1 l.2;
         not_last = λ e. not_reserved f front (first_avoids_rest n chain_of f (front ++ reserve_of plan) (plan_areas plan) s (areas_once plan)) (sym l.1 ∙ e ∙ t.lcx_is);
         links = subst (λ x. Links mem fcx (x ∷ front ++ reserve_of plan)) (sym l.1) l;
-        share = subst (λ x. ChainsShareAreas n chain_of (x ∷ front ++ reserve_of plan) (plan_areas plan)) (sym l.1) s;
+        share = subst (λ x. ChainsPartitionAreas n chain_of (x ∷ front ++ reserve_of plan) (plan_areas plan)) (sym l.1) s;
       }
 
-  pub has_shared : sum_over_chains n (λ w. length (chain_of w)) < plan.areas - plan.reserve → HasShared plan n chain_of mem fcx lcx
+  pub has_shared : sum_of_first n (λ w. length (chain_of w)) < plan.areas - plan.reserve → HasShared plan n chain_of mem fcx lcx
   has_shared room = shared_from t.free t.front t.reserved t.free_links t.share room
 
   -- after a save of the same context on both sides
-  module _ (room : sum_over_chains n (λ w. length (chain_of w)) < plan.areas - plan.reserve) (view_room : length seen < plan.areas - plan.reserve) (context context2 : List ℕ) (are : HasContextWords 16 context) (are2 : HasContextWords 16 context2)
+  module _ (room : sum_of_first n (λ w. length (chain_of w)) < plan.areas - plan.reserve) (view_room : length seen < plan.areas - plan.reserve) (context context2 : List ℕ) (are : IsListOfWords 16 context) (are2 : IsListOfWords 16 context2)
       (is : get_or context 0 0 ≡ pcxi) (is2 : get_or context2 0 0 ≡ view_pcxi) (alike : SameBehindFirst context context2) (core : Core) (ccpn : ℕ) (ie upper : Bool) (small : ccpn < 2 ^ 8) where
     h : HasShared plan n chain_of mem fcx lcx
     h = has_shared room
@@ -151,7 +151,7 @@ module _ {plan : PlanData} (ok : IsPlan plan) {n u : ℕ} {word_of : ℕ → ℕ
     v = has_free ok (plan.areas - plan.reserve) (omega arith) view view_fcx lcx seen t.view_free t.view_areas view_room
 
     -- a word of the context that was saved
-    saved_word : (m : Memory) (l i : ℕ) (ws : List ℕ) → HasContextWords 16 ws → is_area m l ≡ true → i < 16 → area_word (with_words m (link_address l) ws) l i ≡ get_or ws i 0
+    saved_word : (m : Memory) (l i : ℕ) (ws : List ℕ) → IsListOfWords 16 ws → is_area m l ≡ true → i < 16 → area_word (with_words m (link_address l) ws) l i ≡ get_or ws i 0
     saved_word m l i ws ws_are here lt = let long = ws_are.0 in area_word-written m l ws i (omega arith) here (omega arith) (ws_are.1 i 0 (omega arith))
 
     avoids_own : Avoids (link_in fcx) (chain_of u)
@@ -205,7 +205,7 @@ module _ {plan : PlanData} (ok : IsPlan plan) {n u : ℕ} {word_of : ℕ → ℕ
 
 -- after a restore on both sides
 module _ {plan : PlanData} (ok : IsPlan plan) {n u : ℕ} {word_of : ℕ → ℕ} {chain_of : ℕ → List ℕ} (l : ℕ) (used : List ℕ) (is : chain_of u ≡ l ∷ used) {k : ℕ} {seen : List ℕ} {mem : Memory} {pcxi fcx lcx : ℕ} {view : Memory} {view_pcxi view_fcx : ℕ}
-    (bytes : HasBytes mem) (view_bytes : HasBytes view) (t : Twins plan n u word_of chain_of (k ∷ seen) mem pcxi fcx lcx view view_pcxi view_fcx) where
+    (bytes : HasOnlyBytes mem) (view_bytes : HasOnlyBytes view) (t : Twins plan n u word_of chain_of (k ∷ seen) mem pcxi fcx lcx view view_pcxi view_fcx) where
   pub same_before : SameContexts mem pcxi (l ∷ used) view view_pcxi (k ∷ seen)
   same_before = subst (λ ls. SameContexts mem pcxi ls view view_pcxi (k ∷ seen)) is t.same
 

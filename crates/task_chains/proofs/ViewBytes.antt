@@ -4,7 +4,7 @@ use Rattle.std.specs.Prelude.{sum_by, slice_index_or}
 use Rattle.std.specs.List.{list_all}
 use Rattle.std.proofs.lemmas.List.{length-map}
 use Rattle.std.proofs.lemmas.List.Sums.{sum_by-cons}
-use Rattle.elf_image.specs.Images.{ImageData, SegmentData, IsImage, AreSegmentBytes, is_segment, are_segments_apart, are_all_segments_apart}
+use Rattle.elf_image.specs.Images.{ImageData, SegmentData, IsImage, AreSegmentBytes, is_segment, are_segments_disjoint, are_all_segments_disjoint}
 use Rattle.task_chains.specs.Tasks.{TasksData, AreTasks, count}
 use Rattle.task_chains.specs.SwitchRoutine.{view_routine_bytes}
 use Rattle.task_chains.specs.Views.{with_view_routine_from, view_segment, view_image_of}
@@ -44,18 +44,18 @@ module _ (tasks : TasksData) where
   segments_same [] = refl
   segments_same (s ∷ ss) = ap (λ t. t && list_all is_segment (map (view_segment tasks) ss)) (segment_same s) ∙ ap (λ t. is_segment s && t) (segments_same ss)
 
-  apart_same : (s t : SegmentData) → are_segments_apart (view_segment tasks s) (view_segment tasks t) ≡ are_segments_apart s t
+  apart_same : (s t : SegmentData) → are_segments_disjoint (view_segment tasks s) (view_segment tasks t) ≡ are_segments_disjoint s t
   apart_same s t =
       ap (λ k. nat_le (s.at + k) t.at || nat_le (t.at + length (with_view_routine_from tasks t.at t.bytes)) s.at) (length-with s.at s.bytes)
       ∙ ap (λ k. nat_le (s.at + length s.bytes) t.at || nat_le (t.at + k) s.at) (length-with t.at t.bytes)
 
-  one_apart : (s : SegmentData) (ts : List SegmentData) → list_all (are_segments_apart (view_segment tasks s)) (map (view_segment tasks) ts) ≡ list_all (are_segments_apart s) ts
+  one_apart : (s : SegmentData) (ts : List SegmentData) → list_all (are_segments_disjoint (view_segment tasks s)) (map (view_segment tasks) ts) ≡ list_all (are_segments_disjoint s) ts
   one_apart s [] = refl
-  one_apart s (t ∷ ts) = ap (λ b. b && list_all (are_segments_apart (view_segment tasks s)) (map (view_segment tasks) ts)) (apart_same s t) ∙ ap (λ b. are_segments_apart s t && b) (one_apart s ts)
+  one_apart s (t ∷ ts) = ap (λ b. b && list_all (are_segments_disjoint (view_segment tasks s)) (map (view_segment tasks) ts)) (apart_same s t) ∙ ap (λ b. are_segments_disjoint s t && b) (one_apart s ts)
 
-  all_same : (ss : List SegmentData) → are_all_segments_apart (map (view_segment tasks) ss) ≡ are_all_segments_apart ss
+  all_same : (ss : List SegmentData) → are_all_segments_disjoint (map (view_segment tasks) ss) ≡ are_all_segments_disjoint ss
   all_same [] = refl
-  all_same (s ∷ ss) = ap (λ b. b && are_all_segments_apart (map (view_segment tasks) ss)) (one_apart s ss) ∙ ap (λ b. list_all (are_segments_apart s) ss && b) (all_same ss)
+  all_same (s ∷ ss) = ap (λ b. b && are_all_segments_disjoint (map (view_segment tasks) ss)) (one_apart s ss) ∙ ap (λ b. list_all (are_segments_disjoint s) ss && b) (all_same ss)
 
   sum_same : (ss : List SegmentData) → sum_by (λ (s : SegmentData). length s.bytes) (map (view_segment tasks) ss) ≡ sum_by (λ (s : SegmentData). length s.bytes) ss
   sum_same [] = refl

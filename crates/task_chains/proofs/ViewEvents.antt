@@ -8,7 +8,7 @@ use Rattle.csa_chain.specs.MemoryBytes.{Memory, is_mapped, loaded_number, with_b
 use Rattle.elf_image.specs.Images.{ImageData}
 use Rattle.tcd_base.specs.declared.range.Range.{Range}
 use Rattle.tcd_plan.specs.declared.plans.Device.{Device}
-use Rattle.tcd_plan.specs.PlanData.{PlanData, IsPlan, areas_range, are_all_ranges_apart}
+use Rattle.tcd_plan.specs.PlanData.{PlanData, IsPlan, areas_range, are_all_ranges_disjoint}
 use Rattle.tc_isa.specs.declared.shapes.Shape.{Shape}
 use Rattle.tc_isa.specs.declared.shapes.Shape.TheVariants.{Load}
 use Rattle.tc_machine.specs.declared.events.Cause.{Cause}
@@ -20,7 +20,7 @@ use Rattle.tc_machine.specs.Stepping.{is_interrupt_taken, load_of_fetched}
 use Rattle.tcd_base.specs.Ranges.{IsWithinRange, IsInOneRange}
 use Rattle.tc_machine.specs.Safe.{Fits}
 use Rattle.tc_mem.specs.PlanMemory.{IsPlanMemory}
-use Rattle.tcd_plan.specs.MappedAddresses.{IsStoreInRange, AnswersAt, AnswersLoad}
+use Rattle.tcd_plan.specs.MappedAddresses.{IsStoreInRange, MayAnswerAt, MayAnswerLoad}
 use Rattle.tcd_base.proofs.RangeLaws.{in_one, IsInOne-front, IsInOne-behind}
 use Rattle.tcd_plan.proofs.ApartLaws.{device_ranges, IsInOne-fits, all_apart-before}
 use Rattle.tc_machine.proofs.ShapeWords.{IsSize, IsShape}
@@ -60,7 +60,7 @@ nth_in (x ∷ ds) zero d lt y h = inl h
 nth_in (x ∷ ds) (suc i) d lt y h = inr (nth_in ds i d (omega arith) y h)
 
 -- a range that answers with any word
-any_answer : (x w : ℕ) → w < 2 ^ 32 → (rs : List Range) → AnswersAt x w (map any_word_device rs)
+any_answer : (x w : ℕ) → w < 2 ^ 32 → (rs : List Range) → MayAnswerAt x w (map any_word_device rs)
 any_answer x w lt [] i d less = absurd (omega arith)
 any_answer x w lt (r ∷ rs) zero d less = λ within. (omega arith, omega arith)
 any_answer x w lt (r ∷ rs) (suc i) d less = any_answer x w lt rs i d (omega arith)
@@ -119,7 +119,7 @@ module _ {plan : PlanData} (ok : IsPlan plan) (tasks : TasksData) (are : AreTask
         | inl there ↦ elim ((memory y).0 there) [
           | inl rom ↦ absurd (all_apart-before y plan.rom ((devs ++ left ok tasks are fit) ++ areas_range plan ∷ []) (all_left ok tasks are fit) rom (IsInOne-front y 1 (devs ++ left ok tasks are fit) (areas_range plan ∷ []) at))
           | inr (inl none) ↦ absurd none
-          | inr (inr a) ↦ absurd (all_apart-before y (plan.rom ++ (devs ++ left ok tasks are fit)) (areas_range plan ∷ []) (ap are_all_ranges_apart (append_assoc plan.rom (devs ++ left ok tasks are fit) (areas_range plan ∷ [])) ∙ all_left ok tasks are fit)
+          | inr (inr a) ↦ absurd (all_apart-before y (plan.rom ++ (devs ++ left ok tasks are fit)) (areas_range plan ∷ []) (ap are_all_ranges_disjoint (append_assoc plan.rom (devs ++ left ok tasks are fit) (areas_range plan ∷ [])) ∙ all_left ok tasks are fit)
               (IsInOne-behind y 1 plan.rom (devs ++ left ok tasks are fit) at) (inl (a.0, (let lt = a.1 in omega arith))))
         ]
       ]
@@ -169,7 +169,7 @@ module _ {plan : PlanData} (ok : IsPlan plan) (tasks : TasksData) (are : AreTask
     fits_interrupt taken = record { irq = fits.irq; input = fits.input; status = fits.status; answers = λ none. absurd (both_ways (is_interrupt_taken m e) none taken) }
 
     -- a word that the view loads from a peripheral is in its bounds
-    answered : (x : ℕ) → AnswersAt x e.input plan.devices → AnswersAt x (loaded_number m.mem e.input x 4) (view_devices plan tasks)
+    answered : (x : ℕ) → MayAnswerAt x e.input plan.devices → MayAnswerAt x (loaded_number m.mem e.input x 4) (view_devices plan tasks)
     answered x own =
         All-append (λ (d : Device). IsWithinRange x 4 d.range → (d.lo ≤ loaded_number m.mem e.input x 4) × (loaded_number m.mem e.input x 4 ≤ d.hi)) plan.devices (map any_word_device (left ok tasks are fit))
         (λ i d less within.
@@ -191,16 +191,16 @@ module _ {plan : PlanData} (ok : IsPlan plan) (tasks : TasksData) (are : AreTask
       irq = fits.irq;
       input = input_lt shape (IsCode-suits view (view_plan_of plan tasks u) m.pc shape size at.code);
       status = fits.status;
-      answers = λ _. subst (λ (r : Result (Shape × ℕ) Cause). AnswersLoad (view_plan_of plan tasks u) (input_for m e shape) (load_of_fetched v r)) (sym there)
-          (by_shape shape (subst (λ (r : Result (Shape × ℕ) Cause). AnswersLoad plan e.input (load_of_fetched m r)) here (fits.answers none)));
+      answers = λ _. subst (λ (r : Result (Shape × ℕ) Cause). MayAnswerLoad (view_plan_of plan tasks u) (input_for m e shape) (load_of_fetched v r)) (sym there)
+          (by_shape shape (subst (λ (r : Result (Shape × ℕ) Cause). MayAnswerLoad plan e.input (load_of_fetched m r)) here (fits.answers none)));
     }
       where
         input_lt : (shape : Shape) → IsShape shape → input_for m e shape < 2 ^ 32
         input_lt (Load dst base offset width signed after) is = load_lt m.mem (k.words).bytes false e.input (access_address m base offset after) width is
         input_lt _ is = fits.input
 
-        by_shape : (shape : Shape) → AnswersLoad plan e.input (load_of_fetched m (Ok (shape, size))) → AnswersLoad (view_plan_of plan tasks u) (input_for m e shape) (load_of_fetched v (Ok (shape, size)))
+        by_shape : (shape : Shape) → MayAnswerLoad plan e.input (load_of_fetched m (Ok (shape, size))) → MayAnswerLoad (view_plan_of plan tasks u) (input_for m e shape) (load_of_fetched v (Ok (shape, size)))
         by_shape (Load dst base offset width signed after) own =
-            λ four. subst (λ w. AnswersAt (access_address v base offset after) (loaded_number m.mem e.input (access_address m base offset after) w) (view_devices plan tasks)) (sym four)
-            (subst (λ x. AnswersAt x (loaded_number m.mem e.input (access_address m base offset after) 4) (view_devices plan tasks)) (sym (address-same m mem pcxi fcx e e base offset after)) (answered (access_address m base offset after) (own four)))
+            λ four. subst (λ w. MayAnswerAt (access_address v base offset after) (loaded_number m.mem e.input (access_address m base offset after) w) (view_devices plan tasks)) (sym four)
+            (subst (λ x. MayAnswerAt x (loaded_number m.mem e.input (access_address m base offset after) 4) (view_devices plan tasks)) (sym (address-same m mem pcxi fcx e e base offset after)) (answered (access_address m base offset after) (own four)))
         by_shape _ own = tt

@@ -7,7 +7,7 @@ use Rattle.std.specs.Prelude.{max}
 use Rattle.std.specs.List.{list_all}
 use Rattle.tcd_base.specs.declared.range.Range.{Range}
 use Rattle.tcd_plan.specs.declared.plans.Device.{Device}
-use Rattle.tcd_plan.specs.PlanData.{PlanData, IsPlan, is_plan_range, is_plan_device, areas_range, are_all_ranges_apart}
+use Rattle.tcd_plan.specs.PlanData.{PlanData, IsPlan, is_plan_range, is_plan_device, areas_range, are_all_ranges_disjoint}
 use Rattle.tcd_base.specs.Ranges.{IsInOneRange}
 use Rattle.tcd_plan.specs.MappedAddresses.{IsInDevice, IsStoreInRange}
 use Rattle.tcd_plan.specs.Cutting.{cut_plan_ranges}
@@ -48,13 +48,13 @@ module _ {plan : PlanData} (ok : IsPlan plan) (tasks : TasksData) (are : AreTask
   abbrev pub left : List Range
   left = cut_plan_ranges tasks.block (block_size tasks) plan.ram
 
-  pub rest_apart : are_all_ranges_apart (plan.rom ++ (plan.ram ++ (dev ++ areas_range plan ∷ []))) ≡ true
-  rest_apart = sym (ap are_all_ranges_apart (append_assoc (plan.rom ++ plan.ram) dev (areas_range plan ∷ []) ∙ append_assoc plan.rom plan.ram (dev ++ areas_range plan ∷ []))) ∙ ok.apart
+  pub rest_apart : are_all_ranges_disjoint (plan.rom ++ (plan.ram ++ (dev ++ areas_range plan ∷ []))) ≡ true
+  rest_apart = sym (ap are_all_ranges_disjoint (append_assoc (plan.rom ++ plan.ram) dev (areas_range plan ∷ []) ∙ append_assoc plan.rom plan.ram (dev ++ areas_range plan ∷ []))) ∙ ok.apart
 
-  pub behind_rom : are_all_ranges_apart (plan.ram ++ (dev ++ areas_range plan ∷ [])) ≡ true
+  pub behind_rom : are_all_ranges_disjoint (plan.ram ++ (dev ++ areas_range plan ∷ [])) ≡ true
   behind_rom = all_apart-behind plan.rom (plan.ram ++ (dev ++ areas_range plan ∷ [])) rest_apart
 
-  pub behind_ram : are_all_ranges_apart (dev ++ areas_range plan ∷ []) ≡ true
+  pub behind_ram : are_all_ranges_disjoint (dev ++ areas_range plan ∷ []) ≡ true
   behind_ram = all_apart-behind plan.ram (dev ++ areas_range plan ∷ []) behind_rom
 
   whole_block : block_size tasks % 4 ≡ 0
@@ -73,7 +73,7 @@ module _ {plan : PlanData} (ok : IsPlan plan) (tasks : TasksData) (are : AreTask
   dev_have = HaveBytes-ranges dev (device_ranges plan.devices (ok.ranges).devices)
 
   -- rom, then the peripherals, the ram that is left, and the areas
-  pub all_left : are_all_ranges_apart (plan.rom ++ ((dev ++ left) ++ areas_range plan ∷ [])) ≡ true
+  pub all_left : are_all_ranges_disjoint (plan.rom ++ ((dev ++ left) ++ areas_range plan ∷ [])) ≡ true
   all_left =
       let left_have = HaveBytes-ranges left left_range in
       let dev_left = all_apart-append dev left dev_have left_have (all_apart-front dev (areas_range plan ∷ []) behind_ram)
@@ -133,7 +133,7 @@ module _ {plan : PlanData} (ok : IsPlan plan) (tasks : TasksData) (are : AreTask
       globals = (ok.words).globals;
     };
     irqs = ok.irqs;
-    apart = ap are_all_ranges_apart (ap (λ rs. (rs ++ map (λ (d : Device). d.range) (view_devices plan tasks)) ++ areas_range plan ∷ []) (append-nil plan.rom) ∙ ap (λ rs. (plan.rom ++ rs) ++ areas_range plan ∷ []) device_list ∙ append_assoc plan.rom (dev ++ left) (areas_range plan ∷ [])) ∙ all_left;
+    apart = ap are_all_ranges_disjoint (ap (λ rs. (rs ++ map (λ (d : Device). d.range) (view_devices plan tasks)) ++ areas_range plan ∷ []) (append-nil plan.rom) ∙ ap (λ rs. (plan.rom ++ rs) ++ areas_range plan ∷ []) device_list ∙ append_assoc plan.rom (dev ++ left) (areas_range plan ∷ [])) ∙ all_left;
   }
 
   -- ---- stores

@@ -3,7 +3,7 @@ use Rattle.std.proofs.Common.{◌≡◌, ℕ, ◌+◌, ◌-◌, ◌*◌, ◌%◌
 use Rattle.std.specs.Prelude.{IfSome}
 use Rattle.csa_chain.specs.Chain.{link_in}
 use Rattle.csa_chain.proofs.ChainLaws.{Links, Links-unique}
-use Rattle.csa_chain.specs.SeveralChains.{sum_over_chains}
+use Rattle.csa_chain.specs.SeveralChains.{sum_of_first}
 use Rattle.elf_image.specs.Images.{ImageData}
 use Rattle.tcd_plan.specs.PlanData.{PlanData, IsPlan}
 use Rattle.tcd_plan.specs.MappedAddresses.{IsStoreInRange}
@@ -26,13 +26,13 @@ use Rattle.tc_machine.proofs.Areas.{Areas}
 use Rattle.tc_machine.proofs.Kept.{none_when_low}
 use Rattle.tc_machine.proofs.Stays.{stays_step, irq_lt}
 use Rattle.tc_machine.proofs.Steps.{stored-is}
-use Rattle.vd_transfer.specs.Registers.{slot, WritesNoFixedRegister}
+use Rattle.vd_transfer.specs.Registers.{register_slot, WritesNoFixedRegister}
 use Rattle.depth_cert.specs.declared.keys.Key.{Key}
 use Rattle.depth_cert.specs.Certs.{CertData}
-use Rattle.cfg_recover.specs.RulesHoldOrFail.{limits_in, certified_need}
+use Rattle.cfg_recover.specs.RulesHoldOrFail.{limits_of_cert, certified_need}
 use Rattle.cfg_recover.specs.Entries.{start_key}
-use Rattle.cfg_recover.specs.Frames.{RunFrame, frames_left, frames_after}
-use Rattle.cfg_recover.specs.LocalRules.{LocalRule}
+use Rattle.cfg_recover.specs.Frames.{RunFrame, frames_after_return, frames_after}
+use Rattle.cfg_recover.specs.LocalRules.{LocalRuleHolds}
 use Rattle.cfg_recover.proofs.CodeLaws.{IsCode-bounded}
 use Rattle.task_chains.specs.Tasks.{TasksData, AreTasks, count}
 use Rattle.task_chains.specs.Views.{view_image_of, view_plan_of, FitPlan}
@@ -124,11 +124,11 @@ module _ {image : ImageData} {plan : PlanData} (ok : IsPlan plan) {tasks : Tasks
   same_key : (view_point.node).key ≡ (r.frame).key
   same_key = one_number (view_point.node).key (r.frame).key view_point.is_key (r.keys).0 view_point.same_key
 
-  apart_at : KeepsRule17ByShape (limits_in plan2 cert) plan2 tasks (r.frame).key v.pc view_point.state view_point.shape
-  apart_at = subst (λ (k : Key). KeepsRule17ByShape (limits_in plan2 cert) plan2 tasks k v.pc view_point.state view_point.shape) same_key view_point.apart
+  apart_at : KeepsRule17ByShape (limits_of_cert plan2 cert) plan2 tasks (r.frame).key v.pc view_point.state view_point.shape
+  apart_at = subst (λ (k : Key). KeepsRule17ByShape (limits_of_cert plan2 cert) plan2 tasks k v.pc view_point.state view_point.shape) same_key view_point.apart
 
-  own_at : (q : ℕ) → LocalRule (limits_in plan2 cert) plan2 (r.frame).key v.pc view_point.state view_point.shape q
-  own_at q = subst (λ (k : Key). LocalRule (limits_in plan2 cert) plan2 k v.pc view_point.state view_point.shape q) same_key (view_point.own q)
+  own_at : (q : ℕ) → LocalRuleHolds (limits_of_cert plan2 cert) plan2 (r.frame).key v.pc view_point.state view_point.shape q
+  own_at q = subst (λ (k : Key). LocalRuleHolds (limits_of_cert plan2 cert) plan2 k v.pc view_point.state view_point.shape q) same_key (view_point.own q)
 
   pub view_words : IsMachine v
   view_words = words_of view plan2 view_ok cert judged.is_cert judged.accepted tasks judged.apart v (r.frame ∷ r.behind) r.reached
@@ -157,7 +157,7 @@ module _ {image : ImageData} {plan : PlanData} (ok : IsPlan plan) {tasks : Tasks
       (safe_at view plan2 view_ok cert judged.is_cert judged.accepted tasks judged.apart most v (r.frame ∷ r.behind) q.event judged.safe r.reached q.fits).running
 
   pub view_globals : HasGlobals plan v.a
-  unfolding slot
+  unfolding register_slot
   view_globals =
       let h = view_point.inside in
       let a0 : reg v 16 ≡ get_or plan.globals 0 0 = elim (h.regs 16 (omega arith)) [ inl e ↦ e | inr n ↦ absurd n ] in
@@ -199,7 +199,7 @@ module _ {image : ImageData} {plan : PlanData} (ok : IsPlan plan) {tasks : Tasks
         by_shape d off (Mtcr src number) size h = tt
         by_shape d off Nothing size h = tt
 
-    pub view_at_point : (e : Event) → AtPoint (limits_in (view_plan_of plan tasks u) cert) (view_image_of image tasks u) plan tasks u v e view_point.state view_point.shape view_point.size
+    pub view_at_point : (e : Event) → AtPoint (limits_of_cert (view_plan_of plan tasks u) cert) (view_image_of image tasks u) plan tasks u v e view_point.state view_point.shape view_point.size
     view_at_point e = record {
       code = view_point.code;
       writes = (view_point.own 13).writes refl;
@@ -247,8 +247,8 @@ module _ {image : ImageData} {plan : PlanData} (ok : IsPlan plan) {tasks : Tasks
       view_room = own_room view plan2 view_ok cert judged.is_cert judged.accepted tasks judged.apart most judged.safe few v (r.frame ∷ r.behind) r.reached view_words seen links free view_areas e fits
 
       pub view_all_room : (n w : ℕ) (chain_of : ℕ → List ℕ) (needs : ℕ → ℕ) → w < n → ((j : ℕ) → j < n → length (chain_of j) ≤ needs j) → length (chain_of w) ≡ length seen
-          → certified_need (view_image_of image tasks u) (view_plan_of plan tasks u) cert ≤ needs w → sum_over_chains n needs ≤ plan.areas - plan.reserve
-          → (upper : Bool) → length seen < plan.areas - plan.reserve → (step v e).mem ≡ (with_context_saved v upper).mem → (step v e).pcxi ≡ (with_context_saved v upper).pcxi → sum_over_chains n (λ j. length (chain_of j)) < plan.areas - plan.reserve
+          → certified_need (view_image_of image tasks u) (view_plan_of plan tasks u) cert ≤ needs w → sum_of_first n needs ≤ plan.areas - plan.reserve
+          → (upper : Bool) → length seen < plan.areas - plan.reserve → (step v e).mem ≡ (with_context_saved v upper).mem → (step v e).pcxi ≡ (with_context_saved v upper).pcxi → sum_of_first n (λ j. length (chain_of j)) < plan.areas - plan.reserve
       view_all_room n w chain_of needs = all_room view plan2 view_ok cert judged.is_cert judged.accepted tasks judged.apart most judged.safe few v (r.frame ∷ r.behind) r.reached view_words seen links free view_areas e fits n w chain_of needs
 
       same_seen : seen ≡ (r.leveled).seen
@@ -268,7 +268,7 @@ module _ {image : ImageData} {plan : PlanData} (ok : IsPlan plan) {tasks : Tasks
           let k = irq_lt view_ok v e fits in
           keys_next v e r.frame r.behind r.keys k (stays_step v e view_words k fits.input fits.status).pc
 
-      from_frames : (gs : List RunFrame) → frames_after v e (r.frame ∷ r.behind) ≡ gs → Leveled plan.start_ccpn (step v e) gs → AreFirst tasks (frames_left gs) → SameCore v (step v e) → NextRun image plan tasks u (step v e) gs
+      from_frames : (gs : List RunFrame) → frames_after v e (r.frame ∷ r.behind) ≡ gs → Leveled plan.start_ccpn (step v e) gs → AreFirst tasks (frames_after_return gs) → SameCore v (step v e) → NextRun image plan tasks u (step v e) gs
       from_frames [] is level first core =
           let s = some_frame view plan2 view_ok cert judged.is_cert judged.accepted tasks judged.apart (step v e) [] judged.frames (subst (Reached view plan2 (step v e)) is next_reached) in
           absurd (let no_frame : [] ≡ s.0 ∷ s.1 = s.2 in cc)
@@ -286,17 +286,17 @@ module _ {image : ImageData} {plan : PlanData} (ok : IsPlan plan) {tasks : Tasks
       }
 
       -- by an interrupt
-      pub view_run_interrupt : is_interrupt_taken v e ≡ true → AreFirst tasks (frames_left (frames_after v e (r.frame ∷ r.behind))) → NextRun image plan tasks u (step v e) (frames_after v e (r.frame ∷ r.behind))
+      pub view_run_interrupt : is_interrupt_taken v e ≡ true → AreFirst tasks (frames_after_return (frames_after v e (r.frame ∷ r.behind))) → NextRun image plan tasks u (step v e) (frames_after v e (r.frame ∷ r.behind))
       view_run_interrupt taken first =
           from_frames (frames_after v e (r.frame ∷ r.behind)) refl (level_interrupt ok plan.start_ccpn v view_words running r.frame r.behind r.leveled free own_areas e own_rooms view_runs taken) first (core_taken v e taken)
 
-      ends_by : (shape : Shape) → LocalRule (limits_in plan2 cert) plan2 (r.frame).key v.pc view_point.state shape 6 → LocalRule (limits_in plan2 cert) plan2 (r.frame).key v.pc view_point.state shape 7 → EndsBy (r.frame).key shape
+      ends_by : (shape : Shape) → LocalRuleHolds (limits_of_cert plan2 cert) plan2 (r.frame).key v.pc view_point.state shape 6 → LocalRuleHolds (limits_of_cert plan2 cert) plan2 (r.frame).key v.pc view_point.state shape 7 → EndsBy (r.frame).key shape
       ends_by Ret o6 o7 = (o6.returns refl).0
       ends_by Rfe o6 o7 = λ is. elim (o7.exceptions refl).1 [ inl k ↦ elim k.0 [ inl two ↦ absurd (omega arith) | inr four ↦ absurd (omega arith) ] | inr three ↦ absurd (omega arith) ]
       ends_by _ o6 o7 = tt
 
       -- by its instruction
-      pub view_run_step : IsPlanMemory (view_plan_of plan tasks u) v.mem → is_interrupt_taken v e ≡ false → AreFirst tasks (frames_left (frames_after v e (r.frame ∷ r.behind))) → NextRun image plan tasks u (step v e) (frames_after v e (r.frame ∷ r.behind))
+      pub view_run_step : IsPlanMemory (view_plan_of plan tasks u) v.mem → is_interrupt_taken v e ≡ false → AreFirst tasks (frames_after_return (frames_after v e (r.frame ∷ r.behind))) → NextRun image plan tasks u (step v e) (frames_after v e (r.frame ∷ r.behind))
       view_run_step memory none first =
           let writes : WritesNoFixedRegister view_point.shape = (view_point.own 13).writes refl in
           let nothing = stores_nothing memory e in

@@ -4,11 +4,11 @@ use Rattle.std.proofs.Common.{◌≡◌, ℕ, zero, suc, ◌+◌, ◌*◌, ◌^�
 use Rattle.std.proofs.lemmas.Bool.{cases_eq, cases_lt, cases_Bool, false≢true, both_ways}
 use Rattle.std.specs.Prelude.{is_some}
 use Rattle.std.specs.FinMap as finite
-use Rattle.csa_chain.specs.MemoryBytes.{Memory, is_mapped, with_words, HasBytes}
+use Rattle.csa_chain.specs.MemoryBytes.{Memory, is_mapped, with_words, HasOnlyBytes}
 use Rattle.csa_chain.specs.Chain.{link_address, is_area, area_word}
 use Rattle.csa_chain.proofs.ChainLaws.{area_word-written, SameArea-written, area_word_same, are_mapped_from}
 use Rattle.elf_image.specs.Images.{ImageData, image_byte}
-use Rattle.tcd_plan.specs.PlanData.{PlanData, IsPlan, areas_range, are_all_ranges_apart}
+use Rattle.tcd_plan.specs.PlanData.{PlanData, IsPlan, areas_range, are_all_ranges_disjoint}
 use Rattle.tcd_base.specs.Ranges.{is_address_in_ranges, IsInOneRange}
 use Rattle.tcd_plan.specs.MappedAddresses.{IsInAreas, IsMappedBy}
 use Rattle.tc_machine.specs.PlanAreas.{first_link}
@@ -35,7 +35,7 @@ pub record IsViewStart (view : ImageData) (plan : PlanData) (tasks : TasksData) 
   pub memory : IsPlanMemory (view_plan_of plan tasks u) start
   pub rom : HoldsRom view (view_plan_of plan tasks u) start
   pub linked : AreAreasLinked (view_plan_of plan tasks u) start
-  pub bytes : HasBytes start
+  pub bytes : HasOnlyBytes start
   pub same : SameRom plan tasks mem start
 
 next_small : (b : Bool) (x : ℕ) → x < 2 ^ 32 → cond b x 0 < 2 ^ 32
@@ -68,7 +68,7 @@ module _ {plan : PlanData} (ok : IsPlan plan) (mem : Memory) (areas : (x : ℕ) 
       ]
 
 -- ---- the memory
-module _ {plan : PlanData} (ok : IsPlan plan) (image view : ImageData) (tasks : TasksData) (u : ℕ) (mem : Memory) (memory : IsPlanMemory plan mem) (rom : HoldsRom image plan mem) (bytes : HasBytes mem)
+module _ {plan : PlanData} (ok : IsPlan plan) (image view : ImageData) (tasks : TasksData) (u : ℕ) (mem : Memory) (memory : IsPlanMemory plan mem) (rom : HoldsRom image plan mem) (bytes : HasOnlyBytes mem)
     (outside : (x : ℕ) → IsOutside tasks x → image_byte view x ≡ image_byte image x) (small : (x b : ℕ) → IsInOneRange x 1 plan.rom → image_byte view x ≡ Some b → b < 2 ^ 8) where
   abbrev keeps : ℕ → Bool
   keeps x = not (is_address_in_ranges plan.ram x)
@@ -100,8 +100,8 @@ module _ {plan : PlanData} (ok : IsPlan plan) (image view : ImageData) (tasks : 
   rom_and_ram : (x : ℕ) → IsInOneRange x 1 plan.rom → IsInOneRange x 1 plan.ram → ⊥
   rom_and_ram x in_rom ram =
       let rest = map (λ d. d.range) plan.devices ++ areas_range plan ∷ [] in
-      let e : are_all_ranges_apart (plan.rom ++ (plan.ram ++ rest)) ≡ true =
-      ap are_all_ranges_apart (sym (append_assoc plan.rom plan.ram rest) ∙ sym (append_assoc (plan.rom ++ plan.ram) (map (λ d. d.range) plan.devices) (areas_range plan ∷ []))) ∙ ok.apart in
+      let e : are_all_ranges_disjoint (plan.rom ++ (plan.ram ++ rest)) ≡ true =
+      ap are_all_ranges_disjoint (sym (append_assoc plan.rom plan.ram rest) ∙ sym (append_assoc (plan.rom ++ plan.ram) (map (λ d. d.range) plan.devices) (areas_range plan ∷ []))) ∙ ok.apart in
       all_apart-before x plan.rom (plan.ram ++ rest) e in_rom (IsInOne-front x 1 plan.ram rest ram)
 
   out_of_areas : (x : ℕ) → (IsInAreas plan x → ⊥) → (j : ℕ) → j < plan.areas → (x < plan.csa_at + 64 * j) ⊎ (plan.csa_at + 64 * j + 4 ≤ x)
@@ -138,7 +138,7 @@ module _ {plan : PlanData} (ok : IsPlan plan) (image view : ImageData) (tasks : 
       by_byte (Some b) e = rom_held x b in_rom e ∙ sym (rom x b in_rom (sym (outside x out) ∙ e))
 
   -- bytes stay bytes
-  base_bytes : HasBytes base
+  base_bytes : HasOnlyBytes base
   base_bytes x b at =
       elim (cases_Bool (is_address_in_ranges plan.ram x)) [
         | inl there ↦ absurd (none_some b (sym (in_ram x (is_in-one x plan.ram there)) ∙ at))
@@ -148,7 +148,7 @@ module _ {plan : PlanData} (ok : IsPlan plan) (image view : ImageData) (tasks : 
       none_some : (b : ℕ) → None ≡ Some b → ⊥
       none_some b e = cc
 
-  image_bytes : HasBytes (with_image_in_ranges view base plan.rom)
+  image_bytes : HasOnlyBytes (with_image_in_ranges view base plan.rom)
   image_bytes x b at =
       elim (cases_Bool (is_address_in_ranges plan.rom x)) [
         | inl there ↦ by_byte (is_in-one x plan.rom there) (image_byte view x) refl

@@ -9,31 +9,31 @@ use Rattle.value_domain.specs.declared.values.Val.{Val}
 use Rattle.value_domain.specs.declared.states.State.{State}
 use Rattle.value_domain.specs.Limits.{Limits}
 use Rattle.value_domain.specs.Values.{IsMember}
-use Rattle.vd_transfer.specs.EffectsOnStates.{address_of}
+use Rattle.vd_transfer.specs.EffectsOnStates.{address_of_access}
 use Rattle.depth_cert.specs.declared.keys.Key.{Key}
 use Rattle.depth_cert.specs.declared.points.Point.{Point}
 use Rattle.depth_cert.specs.Nodes.{NodeData}
 use Rattle.depth_cert.specs.Certs.{CertData}
 use Rattle.cfg_recover.specs.Code.{IsCode}
-use Rattle.cfg_recover.specs.RulesHoldOrFail.{limits_in}
+use Rattle.cfg_recover.specs.RulesHoldOrFail.{limits_of_cert}
 use Rattle.task_chains.specs.Tasks.{TasksData}
 use Rattle.task_chains.specs.SwitchRoutine.{routine_size, switch_key, IsRoutineInstruction}
 
 -- K17 for one access of a task: its n bytes from x on, which can wrap at 2^32, are none of the
 -- `len` bytes from `from` on
-abbrev pub IsAccessApart : ℕ → ℕ → ℕ → ℕ → Type 0
-IsAccessApart x n from len = (i : ℕ) → i < n → ((x + i) % 2 ^ 32 < from) ⊎ (from + len ≤ (x + i) % 2 ^ 32)
+abbrev pub IsAccessOutside : ℕ → ℕ → ℕ → ℕ → Type 0
+IsAccessOutside x n from len = (i : ℕ) → i < n → ((x + i) % 2 ^ 32 < from) ⊎ (from + len ≤ (x + i) % 2 ^ 32)
 
 -- K17 for a load of a task: no access of n bytes, at an address that is a word of the value, shares
 -- a byte with the `len` bytes from `from` on
-abbrev pub AreAccessesApart : Val → ℕ → ℕ → ℕ → Type 0
-AreAccessesApart v n from len = (x : ℕ) → IsMember x v → IsAccessApart x n from len
+abbrev pub AreAccessesOutside : Val → ℕ → ℕ → ℕ → Type 0
+AreAccessesOutside v n from len = (x : ℕ) → IsMember x v → IsAccessOutside x n from len
 
 -- a load reaches no save area and no byte of the routine
 abbrev pub LoadMissesAreasAndRoutine : Limits → PlanData → TasksData → State → Shape → Type 0
 LoadMissesAreasAndRoutine b plan tasks s (Load dst base offset size signed after) =
-    AreAccessesApart (address_of b plan (Load dst base offset size signed after) s) size plan.csa_at (64 * plan.areas)
-    × AreAccessesApart (address_of b plan (Load dst base offset size signed after) s) size tasks.switch routine_size
+    AreAccessesOutside (address_of_access b plan (Load dst base offset size signed after) s) size plan.csa_at (64 * plan.areas)
+    × AreAccessesOutside (address_of_access b plan (Load dst base offset size signed after) s) size tasks.switch routine_size
 LoadMissesAreasAndRoutine b plan tasks s _ = Unit {0}
 
 -- a part of K17: no MFCR reads PCXI, FCX or LCX
@@ -57,7 +57,7 @@ pub record KeepsRule17ByShape (b : Limits) (plan : PlanData) (tasks : TasksData)
 -- K17 at a point of a view's certificate
 abbrev pub KeepsRule17AtCertPoint : ImageData → PlanData → TasksData → CertData → NodeData → Point → Type 0
 KeepsRule17AtCertPoint view plan tasks cert node point =
-    (shape : Shape) (n : ℕ) → IsCode view plan point.addr shape n → KeepsRule17ByShape (limits_in plan cert) plan tasks node.key point.addr point.state shape
+    (shape : Shape) (n : ℕ) → IsCode view plan point.addr shape n → KeepsRule17ByShape (limits_of_cert plan cert) plan tasks node.key point.addr point.state shape
 
 -- K17 at all points of a view's certificate
 abbrev pub KeepsRule17 : ImageData → PlanData → TasksData → CertData → Type 0

@@ -5,7 +5,7 @@ use Rattle.tcd_plan.specs.PlanData.{PlanData, IsPlan}
 use Rattle.depth_cert.specs.declared.keys.Key.{Key}
 use Rattle.depth_cert.specs.Certs.{CertData, IsCert}
 use Rattle.cfg_recover.specs.RulesHoldOrFail.{Accepts}
-use Rattle.cfg_recover.specs.Assignments.{IsBelowAt, known_in}
+use Rattle.cfg_recover.specs.Assignments.{IsAssignmentBelow, assignment_of_cert}
 use Rattle.task_chains.specs.Tasks.{TasksData}
 use Rattle.task_chains.specs.Rule17.{KeepsRule17, BreaksRule17}
 
@@ -15,7 +15,7 @@ use Rattle.task_chains.specs.Rule17.{KeepsRule17, BreaksRule17}
 abbrev pub TaskFaultsGrow : Type 0
 TaskFaultsGrow =
     (view : ImageData) (plan : PlanData) (tasks : TasksData) (lower upper : CertData) (k : Key) (p : ℕ) → IsPlan plan → IsCert lower → IsCert upper
-    → lower.version ≡ upper.version → Accepts view plan lower → Accepts view plan upper → IsBelowAt (known_in lower) (known_in upper)
+    → lower.version ≡ upper.version → Accepts view plan lower → Accepts view plan upper → IsAssignmentBelow (assignment_of_cert lower) (assignment_of_cert upper)
     → BreaksRule17 view plan tasks lower k p → BreaksRule17 view plan tasks upper k p
 
 -- beside the law that faults of K17 grow with a certificate: a certificate for which K17 fails

@@ -13,7 +13,7 @@ use Rattle.tcd_plan.specs.MappedAddresses.{IsStoreInRange}
 use Rattle.depth_cert.specs.Certs.{CertData, IsCert}
 use Rattle.cfg_recover.specs.RulesHoldOrFail.{Accepts, certified_need}
 use Rattle.cfg_recover.specs.EdgeAndFrameLaws.{FramesHeld}
-use Rattle.csa_chain.specs.SeveralChains.{sum_over_chains, ChainsShareAreas}
+use Rattle.csa_chain.specs.SeveralChains.{sum_of_first, ChainsPartitionAreas}
 use Rattle.task_chains.specs.Tasks.{TasksData, AreTasks, count, block_size}
 use Rattle.task_chains.specs.SwitchRoutine.{HasRoutine, IsInRoutine}
 use Rattle.task_chains.specs.Views.{view_image_of, view_plan_of, FitPlan}
@@ -23,14 +23,14 @@ use Rattle.task_chains.specs.TaskStarts.{TasksStart, block_word, current_task}
 -- ---- the owner
 -- the task before this one in the round of n: it owns the chain of PCXI while the routine has made
 -- this one the current task, but hasn't set PCXI yet
-abbrev pub task_before : ℕ → ℕ → ℕ
-task_before n u = if u == 0 then n - 1 else u - 1
+abbrev pub previous_task : ℕ → ℕ → ℕ
+previous_task n u = if u == 0 then n - 1 else u - 1
 
 -- The task whose chain begins in PCXI: the current one. While the routine has made the next task
 -- the current one, but hasn't set PCXI yet, it is the task before the current one.
 abbrev pub owner : TasksData → Machine → ℕ
 owner tasks m =
-    if m.pc == tasks.switch + 48 || m.pc == tasks.switch + 52 || m.pc == tasks.switch + 56 then task_before (count tasks) (current_task tasks m.mem)
+    if m.pc == tasks.switch + 48 || m.pc == tasks.switch + 52 || m.pc == tasks.switch + 56 then previous_task (count tasks) (current_task tasks m.mem)
     else current_task tasks m.mem
 
 -- the word that begins the chain of task u
@@ -45,9 +45,9 @@ pub record AreAreasPartitioned (plan : PlanData) (tasks : TasksData) (needs : �
   pub free : List ℕ
   pub chains : (u : ℕ) → u < count tasks → chain m.mem (chain_word tasks m u) ≡ Some (chain_of u)
   pub free_chain : chain m.mem m.fcx ≡ Some free
-  pub share : ChainsShareAreas (count tasks) chain_of free (plan_areas plan)
+  pub share : ChainsPartitionAreas (count tasks) chain_of free (plan_areas plan)
   pub within_need : (u : ℕ) → u < count tasks → length (chain_of u) ≤ needs u
-  pub limit : (link_in m.fcx ≡ link_in m.lcx) ↔ (sum_over_chains (count tasks) (λ u. length (chain_of u)) ≡ plan.areas - plan.reserve)
+  pub limit : (link_in m.fcx ≡ link_in m.lcx) ↔ (sum_of_first (count tasks) (λ u. length (chain_of u)) ≡ plan.areas - plan.reserve)
 
 -- in a safe run of tasks, this store shares no byte with the block
 abbrev pub MissesBlock : TasksData → ℕ × ℕ → Type 0
@@ -93,5 +93,5 @@ abbrev pub TasksAreSafe : Type 0
 TasksAreSafe =
     (image : ImageData) (plan : PlanData) (tasks : TasksData) (certs : ℕ → CertData) → IsPlan plan → AreTasks tasks → FitPlan plan tasks → HasRoutine image plan tasks
     → ((u : ℕ) → u < count tasks → IsSoundTaskCert image plan tasks (certs u) u)
-    → sum_over_chains (count tasks) (need_of_task image plan tasks certs) ≤ plan.areas - plan.reserve
+    → sum_of_first (count tasks) (need_of_task image plan tasks certs) ≤ plan.areas - plan.reserve
     → SafeTasks image plan tasks (need_of_task image plan tasks certs)

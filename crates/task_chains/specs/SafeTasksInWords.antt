@@ -4,7 +4,7 @@
 use Rattle.std.specs.Prelude.{◌≡◌, ◌≢◌, ◌↔◌, ℕ, ◌+◌, ◌-◌, ◌*◌, ◌%◌, ◌^◌, ◌<◌, ◌≤◌, ◌⊎◌, List, length, map, slice_get, slice_index, Some}
 use Rattle.std.specs.FinMap as bytes
 use Rattle.csa_chain.specs.MemoryBytes.{word_at}
-use Rattle.csa_chain.specs.SeveralChains.{sum_over_chains}
+use Rattle.csa_chain.specs.SeveralChains.{sum_of_first}
 use Rattle.elf_image.specs.Images.{ImageData, image_byte}
 use Rattle.tcd_base.specs.declared.range.Range.{Range}
 use Rattle.tcd_plan.specs.PlanData.{PlanData, IsPlan}
@@ -61,13 +61,13 @@ pub record HasSafeTaskParts (image : ImageData) (plan : PlanData) (switch block 
   pub own_walk : IsAreaWalk m.mem m.pcxi (used own)
   pub other_walks : (u : ℕ) → u < n → u ≢ own → IsAreaWalk m.mem (word_at m.mem (block + 4 * u)) (used u)
   pub free_walk : IsAreaWalk m.mem m.fcx free
-  pub count : sum_over_chains n (λ u. length (used u)) + length free ≡ plan.areas
+  pub count : sum_of_first n (λ u. length (used u)) + length free ≡ plan.areas
   pub places : (i : ℕ) → i < plan.areas → (u : ℕ) × (place : ℕ) × IsLinkAtPlaceOfList n used free (first_link plan + i) u place
   pub once : (l u v i j : ℕ) → IsLinkAtPlaceOfList n used free l u i → IsLinkAtPlaceOfList n used free l v j → (u ≡ v) × (i ≡ j)
   pub areas : (l u place : ℕ) → IsLinkAtPlaceOfList n used free l u place → (i : ℕ) × (i < plan.areas) × (l ≡ first_link plan + i)
   pub within_need : (u : ℕ) → u < n → length (used u) ≤ needs u
-  pub within_sum : sum_over_chains n (λ u. length (used u)) ≤ sum_over_chains n needs
-  pub limit : (m.fcx % 2 ^ 20 ≡ m.lcx % 2 ^ 20) ↔ (sum_over_chains n (λ u. length (used u)) ≡ plan.areas - plan.reserve)
+  pub within_sum : sum_of_first n (λ u. length (used u)) ≤ sum_of_first n needs
+  pub limit : (m.fcx % 2 ^ 20 ≡ m.lcx % 2 ^ 20) ↔ (sum_of_first n (λ u. length (used u)) ≡ plan.areas - plan.reserve)
   pub code : List ℕ
   pub inst : InstData
   pub spelled : Spells code inst

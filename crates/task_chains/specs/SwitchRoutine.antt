@@ -4,7 +4,7 @@ use Rattle.std.specs.List.{flat_map}
 use Rattle.elf_image.specs.Images.{ImageData, image_byte}
 use Rattle.tcd_plan.specs.PlanData.{PlanData}
 use Rattle.tc_isa.specs.Insts.{InstData}
-use Rattle.tc_isa.specs.NamedInstructions.{disable, svlcx, movh_a, lea_l, ld_w_l, addsc_a, mfcr, st_w_l, addi, jne, mov, mtcr, isync, rslcx, ret, nop, upper_half, lower_half}
+use Rattle.tc_isa.specs.NamedInstructions.{disable, svlcx, movh_a, lea_l, ld_w_l, addsc_a, mfcr, st_w_l, addi, jne, mov, mtcr, isync, rslcx, ret, nop, adjusted_upper_half, lower_half}
 use Rattle.tc_isa.specs.Spelling.{instruction_bytes}
 use Rattle.tcd_base.specs.Ranges.{IsInOneRange}
 use Rattle.task_chains.specs.Tasks.{TasksData, count}
@@ -19,7 +19,7 @@ abbrev pub switch_routine_of : ℕ → ℕ → List InstData
 switch_routine_of n b =
     disable ∷
     svlcx ∷
-    movh_a 2 (upper_half b) ∷
+    movh_a 2 (adjusted_upper_half b) ∷
     lea_l 2 2 (lower_half b) ∷
     ld_w_l 0 2 (4 * n) ∷
     addsc_a 3 2 0 2 ∷
@@ -42,7 +42,7 @@ abbrev pub view_routine_of : ℕ → ℕ → List InstData
 view_routine_of n b =
     disable ∷
     svlcx ∷
-    movh_a 2 (upper_half b) ∷
+    movh_a 2 (adjusted_upper_half b) ∷
     lea_l 2 2 (lower_half b) ∷
     mfcr 0 0 ∷
     addsc_a 3 2 0 2 ∷
@@ -62,23 +62,23 @@ view_routine_of n b =
 -- ---- bytes
 
 -- the bytes of instructions, one after another
-abbrev pub bytes_of_routine : List InstData → List ℕ
-bytes_of_routine is = flat_map instruction_bytes is
+abbrev pub bytes_of_instructions : List InstData → List ℕ
+bytes_of_instructions is = flat_map instruction_bytes is
 
 -- the bytes of the routine that switches these tasks
-abbrev pub routine_bytes : TasksData → List ℕ
-routine_bytes tasks = bytes_of_routine (switch_routine_of (count tasks) tasks.block)
+abbrev pub switch_routine_bytes : TasksData → List ℕ
+switch_routine_bytes tasks = bytes_of_instructions (switch_routine_of (count tasks) tasks.block)
 
 -- the bytes that a task's view has in place of those of the switch routine: the bytes of the
 -- routine's other form
 abbrev pub view_routine_bytes : TasksData → List ℕ
-view_routine_bytes tasks = bytes_of_routine (view_routine_of (count tasks) tasks.block)
+view_routine_bytes tasks = bytes_of_instructions (view_routine_of (count tasks) tasks.block)
 
 -- byte i of the routine is at its address, in a segment, and inside the rom range that has all
 -- bytes up to it
 pub record HasRoutineByte (image : ImageData) (plan : PlanData) (tasks : TasksData) (i : ℕ) : Type 0 where
   pub in_rom : IsInOneRange tasks.switch (i + 1) plan.rom
-  pub held : image_byte image (tasks.switch + i) ≡ Some (slice_index (routine_bytes tasks) i)
+  pub held : image_byte image (tasks.switch + i) ≡ Some (slice_index (switch_routine_bytes tasks) i)
 
 -- the size of the switch routine: 18 instructions of four bytes
 abbrev pub routine_size : ℕ

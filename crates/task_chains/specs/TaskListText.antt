@@ -18,18 +18,18 @@ use Rattle.task_chains.specs.Devices.{view_devices}
 
 -- ---- lines; the grammar is the project's own
 -- the two numbers of the words `NAME X Y`, each of eight upper-case hex digits
-unfoldable pub task_pair_of_words : List ℕ → List (List ℕ) → Option (ℕ × ℕ)
-task_pair_of_words name (word ∷ x ∷ y ∷ []) =
+unfoldable pub number_pair_of_words : List ℕ → List (List ℕ) → Option (ℕ × ℕ)
+number_pair_of_words name (word ∷ x ∷ y ∷ []) =
     if bytes_eq word name then option_and_then (λ a. option_map (λ b. (a, b)) (hex_number_of y)) (hex_number_of x) else None
-task_pair_of_words name words = None
+number_pair_of_words name words = None
 
 -- the addresses of the routine and of the block, if the one is even and the other a multiple of 4
-abbrev pub switch_places_of_pair : ℕ × ℕ → Option Places
-switch_places_of_pair p = then_some (p.0 % 2 == 0 && p.1 % 4 == 0) (record { switch = p.0; block = p.1 })
+abbrev pub switch_addresses_of_pair : ℕ × ℕ → Option Places
+switch_addresses_of_pair p = then_some (p.0 % 2 == 0 && p.1 % 4 == 0) (record { switch = p.0; block = p.1 })
 
 -- the addresses of a line `switch Y B`
-abbrev pub switch_places_of : List ℕ → Option Places
-switch_places_of line = option_and_then switch_places_of_pair (task_pair_of_words (codes "switch") (line_words line))
+abbrev pub switch_addresses_of : List ℕ → Option Places
+switch_addresses_of line = option_and_then switch_addresses_of_pair (number_pair_of_words (codes "switch") (line_words line))
 
 -- the task of a line's two numbers: its entry and its stack pointer
 abbrev pub task_of_pair : ℕ × ℕ → Task
@@ -37,7 +37,7 @@ task_of_pair p = record { entry = p.0; sp = p.1 }
 
 -- the task of a line `task ENTRY SP`
 abbrev pub task_of : List ℕ → Option Task
-task_of line = option_map task_of_pair (task_pair_of_words (codes "task") (line_words line))
+task_of line = option_map task_of_pair (number_pair_of_words (codes "task") (line_words line))
 
 -- ---- texts
 
@@ -46,11 +46,11 @@ abbrev pub nonempty_task_lines : List (List ℕ) → List (List ℕ)
 nonempty_task_lines lines = filter is_nonempty_line lines
 
 -- the first line that isn't empty names the addresses, and the later ones name the tasks
-pub record AreNamedTasks (lines : List (List ℕ)) (tasks : TasksData) : Type 0 where
+pub record LinesNameTasks (lines : List (List ℕ)) (tasks : TasksData) : Type 0 where
   pub first : List ℕ
   pub behind : List (List ℕ)
   pub split : nonempty_task_lines lines ≡ first ∷ behind
-  pub places : switch_places_of first ≡ Some (record { switch = tasks.switch; block = tasks.block })
+  pub places : switch_addresses_of first ≡ Some (record { switch = tasks.switch; block = tasks.block })
   pub named : map task_of behind ≡ map (λ t. Some t) tasks.list
 
 -- ---- what may be against a text
@@ -58,7 +58,7 @@ pub record AreNamedTasks (lines : List (List ℕ)) (tasks : TasksData) : Type 0 
 -- later one that names no task
 abbrev pub BreaksTaskForm : List (List ℕ) → List ℕ → Type 0
 BreaksTaskForm before line =
-    (line ≢ []) × (((nonempty_task_lines before ≡ []) × (switch_places_of line ≡ None)) ⊎ (((tasks : TasksData) × AreNamedTasks before tasks) × (task_of line ≡ None)))
+    (line ≢ []) × (((nonempty_task_lines before ≡ []) × (switch_addresses_of line ≡ None)) ⊎ (((tasks : TasksData) × LinesNameTasks before tasks) × (task_of line ≡ None)))
 
 -- line n, counted from 1, is the first of another form
 pub record IsFirstBadTaskLine (lines : List (List ℕ)) (n : ℕ) : Type 0 where
@@ -82,7 +82,7 @@ pub record IsEighthTaskLine (lines : List (List ℕ)) (n : ℕ) : Type 0 where
   pub at : n ≡ length before + 1
   pub some : line ≢ []
   pub seven : TasksData
-  pub said : AreNamedTasks before seven
+  pub said : LinesNameTasks before seven
   pub many : count seven ≡ 7
 
 -- for the errors of a text of tasks: it names two to seven tasks
@@ -113,11 +113,11 @@ IsTaskErr plan lines tasks Count = ⊥
 -- all lines name
 abbrev pub IsErrOfTaskText : PlanData → List (List ℕ) → TasksErr → Type 0
 IsErrOfTaskText plan lines (BadLine n) = IsBadTaskLine lines n
-IsErrOfTaskText plan lines e = (tasks : TasksData) × AreNamedTasks lines tasks × IsTaskErr plan lines tasks e
+IsErrOfTaskText plan lines e = (tasks : TasksData) × LinesNameTasks lines tasks × IsTaskErr plan lines tasks e
 
 -- the lines name these tasks, and they fit the plan
 pub record AreTasksOfText (plan : PlanData) (lines : List (List ℕ)) (tasks : TasksData) : Type 0 where
-  pub said : AreNamedTasks lines tasks
+  pub said : LinesNameTasks lines tasks
   pub are : AreTasks tasks
   pub fit : FitPlan plan tasks
 
@@ -141,7 +141,7 @@ IsEighthTaskLineIfAny lines tasks (Some n) = IsEighthTaskLine lines n
 -- eighth
 pub record HasFirstSevenTasks (lines : List (List ℕ)) (places : Places) (list : List Task) (eighth : Option ℕ) : Type 0 where
   pub all : List Task
-  pub said : AreNamedTasks lines (tasks_with places all)
+  pub said : LinesNameTasks lines (tasks_with places all)
   pub seven : list ≡ take 7 all
   pub more : IsEighthTaskLineIfAny lines (tasks_with places all) eighth
 

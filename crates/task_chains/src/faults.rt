@@ -1,6 +1,6 @@
 // K17 at each point of a view's certificate.
 ghost use Rattle.std.specs.Prelude.{All, IfNone, IfSome};
-ghost use Rattle.value_domain.specs.State.{AreValues};
+ghost use Rattle.value_domain.specs.State.{AreInLattice};
 ghost use Rattle.cfg_recover.specs.RulesHoldOrFail.{Accepts};
 ghost use Rattle.task_chains.specs.Rule17.{KeepsRule17, IsRule17Fault, KeepsRule17AtPoint, IsRule17NodeFault};
 
@@ -50,7 +50,7 @@ fn first_fault_in_node<'a>(
     node: &Node<'a>,
     walk: &mut PointWalk<'a>,
 ) -> Option<u32>
-    requires { All (λ p. AreValues rule.now.bounds.now p.state.regs) node.now.points }
+    requires { All (λ p. AreInLattice rule.now.bounds.now p.state.regs) node.now.points }
     ensures none { let r = rule.now in
         IfNone result
         (All (KeepsRule17AtPoint r.bounds.now r.view.now r.plan.now r.tasks.now node.now.key)

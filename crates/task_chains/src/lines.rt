@@ -1,7 +1,7 @@
 // Lines of a text of tasks.
 ghost use Rattle.std.specs.Prelude.{◌≡◌};
 ghost use Rattle.tcd_text.specs.Lines.{line_words};
-ghost use Rattle.task_chains.specs.TaskListText.{task_pair_of_words, switch_places_of};
+ghost use Rattle.task_chains.specs.TaskListText.{number_pair_of_words, switch_addresses_of};
 
 use tcd_text::{Words, hex_number, words_in};
 
@@ -14,7 +14,7 @@ pub struct Places {
 
 /// Returns the addresses of a line `switch Y B`, if Y is even and B a multiple of 4.
 pub(crate) fn switch_addresses_in(line: &[u8]) -> Option<Places>
-    ensures { result ≡ switch_places_of line.now }
+    ensures { result ≡ switch_addresses_of line.now }
 {
     match number_pair_in_line(b"switch".as_slice(), line) {
         Some((switch, block)) if switch % 2 == 0 && block % 4 == 0 => Some(Places {
@@ -27,9 +27,9 @@ pub(crate) fn switch_addresses_in(line: &[u8]) -> Option<Places>
 
 /// Returns the two numbers of a line `NAME X Y` of a text of tasks, or None if the line has another
 /// form or name.
-#[tactic(auto, using(crate::proofs::LineForms::more), unfolding(crate::specs::TaskListText::task_pair_of_words))]
+#[tactic(auto, using(crate::proofs::LineForms::more), unfolding(crate::specs::TaskListText::number_pair_of_words))]
 pub(crate) fn number_pair_in_line(name: &[u8], line: &[u8]) -> Option<(u32, u32)>
-    ensures { result ≡ task_pair_of_words name.now (line_words line.now) }
+    ensures { result ≡ number_pair_of_words name.now (line_words line.now) }
 {
     let Words::Three(word, x, y) = words_in(line) else {
         return None;

@@ -2,7 +2,7 @@
 ghost use Rattle.std.specs.Prelude.{◌≡◌, ◌≤◌, ◌<◌, ◌+◌, ◌*◌, ◌/◌, ◌%◌, ◌^◌, ◌↔◌, IsTrue, IfNone, IfSome, slice_index, ◌-◌, ℕ};
 ghost use Rattle.std.specs.List.{flat_map};
 ghost use Rattle.tcd_base.specs.Bytes.{four_bytes};
-ghost use Rattle.task_chains.specs.SwitchRoutine.{switch_routine_of, bytes_of_routine, routine_bytes, HasRoutineByte, HasRoutine, IsRoutineFault, view_routine_of, view_routine_bytes};
+ghost use Rattle.task_chains.specs.SwitchRoutine.{switch_routine_of, bytes_of_instructions, switch_routine_bytes, HasRoutineByte, HasRoutine, IsRoutineFault, view_routine_of, view_routine_bytes};
 ghost use Rattle.tcd_base.specs.Ranges.{IsInOneRange};
 
 use crate::Tasks;
@@ -41,7 +41,7 @@ pub(crate) fn routine_bytes_of_words(words: &[u32; 18]) -> [u8; 72]
 
 /// Returns the bytes of the routine of these tasks.
 pub(crate) fn switch_routine_bytes(tasks: &Tasks) -> [u8; 72]
-    ensures { result ≡ routine_bytes tasks.now }
+    ensures { result ≡ switch_routine_bytes tasks.now }
 {
     routine_bytes_of_words(&switch_routine_words(tasks.list.len() as u32, tasks.block))
 }
@@ -84,7 +84,7 @@ pub(crate) fn view_routine_bytes(tasks: &Tasks) -> [u8; 72]
 /// Returns the 18 instruction words of the switch routine for `n` tasks whose block is at `b`.
 fn switch_routine_words(n: u32, b: u32) -> [u32; 18]
     requires { n ≤ 7 }
-    ensures { flat_map four_bytes result ≡ bytes_of_routine (switch_routine_of n b) }
+    ensures { flat_map four_bytes result ≡ bytes_of_instructions (switch_routine_of n b) }
 {
     let upper = adjusted_upper_half(b);
     let lower = bol_offset_bits(lower_half(b));
@@ -115,7 +115,7 @@ fn switch_routine_words(n: u32, b: u32) -> [u32; 18]
 /// bytes up to there are inside one rom range.
 fn has_routine_byte(image: &Image, plan: &Plan, tasks: &Tasks, i: u32, byte: u8) -> bool
     requires within { i < 72 }
-    requires byte { slice_index (routine_bytes tasks.now) i ≡ byte }
+    requires byte { slice_index (switch_routine_bytes tasks.now) i ≡ byte }
     ensures { IsTrue result ↔ HasRoutineByte image.now plan.now tasks.now i }
 {
     if !are_bytes_in_rom(plan, tasks.switch, i + 1) {
@@ -128,7 +128,7 @@ fn has_routine_byte(image: &Image, plan: &Plan, tasks: &Tasks, i: u32, byte: u8)
 /// whose block is at `b`.
 fn view_routine_words(n: u32, b: u32) -> [u32; 18]
     requires { n ≤ 7 }
-    ensures { flat_map four_bytes result ≡ bytes_of_routine (view_routine_of n b) }
+    ensures { flat_map four_bytes result ≡ bytes_of_instructions (view_routine_of n b) }
 {
     let upper = adjusted_upper_half(b);
     let lower = bol_offset_bits(lower_half(b));

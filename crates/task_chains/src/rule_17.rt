@@ -1,7 +1,7 @@
 // K17: the test at a point of a view's certificate.
 ghost use Rattle.std.specs.Prelude.{◌↔◌, IsTrue, ◌≡◌, ◌≤◌, ◌<◌, ◌+◌, ◌-◌, ◌*◌, ◌/◌, ◌^◌, ℕ};
-ghost use Rattle.value_domain.specs.State.{AreValues};
-ghost use Rattle.task_chains.specs.Rule17.{KeepsRule17AtPoint, AreAccessesApart, LoadMissesAreasAndRoutine, ReadsNoContextRegister, IsNoBisr, KeepsRule17ByShape, HasAccessBetween, MayHavePointAt};
+ghost use Rattle.value_domain.specs.State.{AreInLattice};
+ghost use Rattle.task_chains.specs.Rule17.{KeepsRule17AtPoint, AreAccessesOutside, LoadMissesAreasAndRoutine, ReadsNoContextRegister, IsNoBisr, KeepsRule17ByShape, HasAccessBetween, MayHavePointAt};
 ghost use Rattle.tc_isa.specs.InBounds.{IsShape};
 ghost use Rattle.value_domain.specs.Sets.{Among};
 ghost use Rattle.value_domain.specs.Values.{IsWellFormed};
@@ -37,7 +37,7 @@ pub(crate) fn keeps_rule_17(
     addr: u32,
     s: &State,
 ) -> bool
-    requires { AreValues rule.now.bounds.now s.now.regs }
+    requires { AreInLattice rule.now.bounds.now s.now.regs }
     ensures { let r = rule.now in
         IsTrue result
         ↔ KeepsRule17AtPoint r.bounds.now r.view.now r.plan.now r.tasks.now key.now
@@ -55,7 +55,7 @@ pub(crate) fn are_accesses_outside(at: &Val, size: u8, from: u32, len: u32) -> b
     requires at { IsWellFormed at.now }
     requires size { IsAccessSize size }
     requires some { 0 < len }
-    ensures { IsTrue result ↔ AreAccessesApart at.now size from len }
+    ensures { IsTrue result ↔ AreAccessesOutside at.now size from len }
 {
     let below = u32::from(size) - 1;
     let last = from.saturating_add(len - 1);
@@ -72,7 +72,7 @@ pub(crate) fn are_accesses_outside(at: &Val, size: u8, from: u32, len: u32) -> b
 /// before it.
 pub(crate) fn stays_apart(rule: &TasksRule, key: &Key, addr: u32, s: &State, shape: Shape) -> bool
     requires shape { IsShape shape }
-    requires values { AreValues rule.now.bounds.now s.now.regs }
+    requires values { AreInLattice rule.now.bounds.now s.now.regs }
     ensures { let r = rule.now in
         IsTrue result
         ↔ KeepsRule17ByShape r.bounds.now r.plan.now r.tasks.now key.now addr s.now shape }
@@ -148,7 +148,7 @@ fn may_have_point_at(tasks: &Tasks, key: &Key, addr: u32) -> bool
 /// areas and the routine.
 fn misses_areas_and_routine(b: &Bounds, plan: &Plan, tasks: &Tasks, s: &State, shape: Shape) -> bool
     requires shape { IsShape shape }
-    requires values { AreValues b.now s.now.regs }
+    requires values { AreInLattice b.now s.now.regs }
     ensures { IsTrue result ↔ LoadMissesAreasAndRoutine b.now plan.now tasks.now s.now shape }
 {
     match shape {

@@ -6,21 +6,21 @@ use Rattle.std.proofs.lemmas.Option.{slice_get-map, slice_get-get_or}
 use Rattle.tc_isa.specs.declared.table.Row.{Row}
 use Rattle.std.specs.Option.{option_map_or}
 use Rattle.tc_isa.specs.declared.fields.Fields.{Fields}
-use Rattle.tc_isa.specs.Rows.{RowData, row_of, listed}
+use Rattle.tc_isa.specs.Rows.{RowData, row_of, table_rows}
 use Rattle.tc_isa.specs.ValidRowFields.{FieldsFitRow}
 use Rattle.tc_isa.specs.Spelling.{spelling, Spells}
 use Rattle.tc_isa.specs.Insts.{InstData, IsInst}
 use Rattle.tc_stmt.specs.Items.{ReferenceData}
 use Rattle.tc_asm.specs.Symbols.{SymbolData}
-use Rattle.tc_encode.specs.Decoding.{are_fitting_fields}
+use Rattle.tc_encode.specs.Decoding.{decoded_fields_fit}
 use Rattle.tc_encode.proofs.Spelled.{fits_from, fits_true}
-use Rattle.tc_asm.specs.Drafts.{DraftData, assembled_row_code, assembled_code, drafted_fields, fields_with_target, row_fields_with_target}
+use Rattle.tc_asm.specs.Drafts.{DraftData, assembled_row_code, assembled_code, unbroken_fields, fields_with_target, row_fields_with_target}
 
 -- the spelling of an instruction is the bytes of its row and fields
 pub spells-bytes_of : (k : ℕ) (f : Fields) (i : InstData) (bs : List ℕ) → i ≡ record { row = k; c = f.c; s1 = f.s1; s2 = f.s2; n = f.n; k = f.k } → Spells bs i → bs ≡ assembled_code k f
 unfolding assembled_row_code
 spells-bytes_of k f i bs e s =
-    let at : slice_get listed k ≡ Some s.inst.row = ap (λ (j : InstData). slice_get listed j.row) (sym e) ∙ s.inst.at in
+    let at : slice_get table_rows k ≡ Some s.inst.row = ap (λ (j : InstData). slice_get table_rows j.row) (sym e) ∙ s.inst.at in
     let same : Fields → Fields = λ g. g in
     let fits : FieldsFitRow s.inst.row f = subst (λ (j : InstData). FieldsFitRow s.inst.row (record { c = j.c; s1 = j.s1; s2 = j.s2; n = j.n; k = j.k })) e s.inst.fits in
     s.is
@@ -31,18 +31,18 @@ spells-bytes_of k f i bs e s =
 -- fields that are no instruction have no bytes
 pub unlisted-bytes_of : (k : ℕ) (f : Fields) → ¬ IsInst (record { row = k; c = f.c; s1 = f.s1; s2 = f.s2; n = f.n; k = f.k }) → [] ≡ assembled_code k f
 unfolding assembled_row_code
-unlisted-bytes_of k f none = by (slice_get listed k) refl
+unlisted-bytes_of k f none = by (slice_get table_rows k) refl
   where
-    by_test : (row : RowData) (b : Bool) → slice_get listed k ≡ Some row → are_fitting_fields row f ≡ b → [] ≡ cond b (spelling row f) []
+    by_test : (row : RowData) (b : Bool) → slice_get table_rows k ≡ Some row → decoded_fields_fit row f ≡ b → [] ≡ cond b (spelling row f) []
     by_test row true at e = absurd (none (record { row = row; at = at; fits = fits_from row f e }))
     by_test row false at e = refl
 
-    by : (o : Option RowData) → slice_get listed k ≡ o → [] ≡ option_map_or (λ row. assembled_row_code row f) o []
+    by : (o : Option RowData) → slice_get table_rows k ≡ o → [] ≡ option_map_or (λ row. assembled_row_code row f) o []
     by None e = refl
-    by (Some row) e = by_test row (are_fitting_fields row f) e refl
+    by (Some row) e = by_test row (decoded_fields_fit row f) e refl
 
 -- ---- rows by number
-pub row_listed : (rows : List Row) (k : ℕ) (d : Row) → map row_of rows ≡ listed → k < length rows → slice_get listed k ≡ Some (row_of (get_or rows k d))
+pub row_listed : (rows : List Row) (k : ℕ) (d : Row) → map row_of rows ≡ table_rows → k < length rows → slice_get table_rows k ≡ Some (row_of (get_or rows k d))
 row_listed rows k d e h =
     ap (λ (ls : List RowData). slice_get ls k) (sym e) ∙ slice_get-map row_of rows k ∙ ap (option_map row_of) (slice_get-get_or rows k d h)
 
@@ -51,18 +51,18 @@ past [] k h = refl
 past (x ∷ xs) zero h = absurd (omega arith)
 past (x ∷ xs) (suc k) h = past xs k (omega arith)
 
-pub row_unlisted : (rows : List Row) (k : ℕ) → map row_of rows ≡ listed → length rows ≤ k → slice_get listed k ≡ None
+pub row_unlisted : (rows : List Row) (k : ℕ) → map row_of rows ≡ table_rows → length rows ≤ k → slice_get table_rows k ≡ None
 row_unlisted rows k e h = ap (λ (ls : List RowData). slice_get ls k) (sym e) ∙ past (map row_of rows) k (rw (length-map rows row_of) h)
 
 -- ---- instructions without a target that is resolved at once
 pub found_far : (labels : List SymbolData) (d : DraftData) (k : ℕ) (f : Fields) (o : Option ReferenceData) → option_map_or (λ (q : ReferenceData). q.kind == 0) o false ≡ false
-    → row_fields_with_target labels d k f o ≡ drafted_fields f
-found_far labels d k f o far = by (slice_get listed k)
+    → row_fields_with_target labels d k f o ≡ unbroken_fields f
+found_far labels d k f o far = by (slice_get table_rows k)
   where
-    plain : (row : RowData) (p : Option ReferenceData) → option_map_or (λ (q : ReferenceData). q.kind == 0) p false ≡ false → fields_with_target labels d row f p ≡ drafted_fields f
+    plain : (row : RowData) (p : Option ReferenceData) → option_map_or (λ (q : ReferenceData). q.kind == 0) p false ≡ false → fields_with_target labels d row f p ≡ unbroken_fields f
     plain row None h = refl
     plain row (Some q) h = rw h refl
 
-    by : (q : Option RowData) → option_map_or (λ row. fields_with_target labels d row f o) q (drafted_fields f) ≡ drafted_fields f
+    by : (q : Option RowData) → option_map_or (λ row. fields_with_target labels d row f o) q (unbroken_fields f) ≡ unbroken_fields f
     by None = refl
     by (Some row) = plain row o far

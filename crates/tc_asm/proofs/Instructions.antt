@@ -6,9 +6,9 @@ use Rattle.tc_isa.specs.declared.fields.Fields.{Fields}
 use Rattle.tc_stmt.specs.Items.{ReferenceData, ItemData, code}
 use Rattle.tc_stmt.specs.Lines.{lines_in}
 use Rattle.tc_asm.specs.Symbols.{SymbolData}
-use Rattle.tc_asm.specs.Drafts.{DraftData, empty_draft, has_section, has_room, row_fields_with_target, code_bytes, draft_after_item}
+use Rattle.tc_asm.specs.Drafts.{DraftData, empty_draft, has_current_section, has_room, row_fields_with_target, code_bytes, draft_after_item}
 use Rattle.tc_asm.specs.Rules.{section_rule, byte_limit_rule, reference_rule, content_rule, item_rule, items_rule}
-use Rattle.tc_asm.specs.DraftedSources.{symbols_of}
+use Rattle.tc_asm.specs.DraftedSources.{symbols_of_lines}
 use Rattle.tc_asm.specs.DraftInvariants.{EachInDraft}
 use Rattle.tc_asm.specs.Statements.{StatementData, statement_data, statement_with_room, statements_from}
 use Rattle.tc_asm.specs.InstructionLaws.{InstructionSpellsRow, InstructionsLaw}
@@ -31,16 +31,16 @@ code_spells labels d k f o c = record {
 }
 
 -- if no rule is broken, there are a section and room
-pub code_stands : (labels : List SymbolData) (d : DraftData) (k : ℕ) (f : Fields) (o : Option ReferenceData) → 15 ≤ item_rule labels d (code k f o) → (has_section d && has_room d (length (code_bytes labels d k f o))) ≡ true
+pub code_stands : (labels : List SymbolData) (d : DraftData) (k : ℕ) (f : Fields) (o : Option ReferenceData) → 15 ≤ item_rule labels d (code k f o) → (has_current_section d && has_room d (length (code_bytes labels d k f o))) ≡ true
 unfolding item_rule
 code_stands labels d k f o rule =
     let size : ℕ = length (code_bytes labels d k f o) in
     let content = fits_too (row_fields_with_target labels d k f o).rule (content_rule d (length (code_bytes labels d k f o)) o) rule in
-    let there : has_section d ≡ true = then_fifteen (has_section d) 8 (omega arith) (fits (section_rule d) (min (byte_limit_rule d (length (code_bytes labels d k f o))) (reference_rule d o)) content) in
+    let there : has_current_section d ≡ true = then_fifteen (has_current_section d) 8 (omega arith) (fits (section_rule d) (min (byte_limit_rule d (length (code_bytes labels d k f o))) (reference_rule d o)) content) in
     let room : has_room d (length (code_bytes labels d k f o)) ≡ true
     = then_fifteen (has_room d (length (code_bytes labels d k f o))) 13 (omega arith)
     (fits (byte_limit_rule d (length (code_bytes labels d k f o))) (reference_rule d o) (fits_too (section_rule d) (min (byte_limit_rule d (length (code_bytes labels d k f o))) (reference_rule d o)) content)) in
-    and_from (has_section d) (has_room d (length (code_bytes labels d k f o))) there room
+    and_from (has_current_section d) (has_room d (length (code_bytes labels d k f o))) there room
 
 stands_at : (labels : List SymbolData) (before after : List ItemData) (k : ℕ) (f : Fields) (o : Option ReferenceData) → 15 ≤ item_rule labels (fold (draft_after_item labels) empty_draft before) (code k f o) →
     slice_get (statements_from labels empty_draft (before ++ code k f o ∷ after)) (length (statements_from labels empty_draft before))
@@ -57,7 +57,7 @@ stands_at labels before after k f o rule =
 pub instructions_law : InstructionsLaw
 unfolding code_spells
 instructions_law source before after k f o keeps e =
-    let labels : List SymbolData = symbols_of (lines_in source) in
+    let labels : List SymbolData = symbols_of_lines (lines_in source) in
     let d : DraftData = fold (draft_after_item labels) empty_draft before in
     let E : List ItemData → Type 0 = λ xs. EachInDraft IsAddedItem xs in
     let R : List ItemData → Type 0 = λ xs. 15 ≤ items_rule labels empty_draft xs in

@@ -11,16 +11,16 @@ use Rattle.tc_stmt.specs.RowFields.{RowFieldsData}
 use Rattle.tc_stmt.specs.Items.{ReferenceData, ItemData, item_of, label, section, global, code, bytes, zeros}
 use Rattle.tc_stmt.specs.declared.item.Item.{Item}
 use Rattle.tc_stmt.specs.Lines.{LineData, line_data, lines_in, items_in}
-use Rattle.tc_stmt.specs.SourceViews.{lines_of}
+use Rattle.tc_stmt.specs.SourceViews.{source_lines}
 use Rattle.tc_stmt.specs.declared.source.Line.{Line}
 use Rattle.tc_stmt.specs.declared.source.Source.{Source}
 use Rattle.tc_stmt.proofs.ReadLines.{length-lines_read}
 use Rattle.tc_asm.specs.ItemInvariants.{IsAddedItem}
-use Rattle.tc_asm.specs.AlikeDrafts.{HasSameSizesAndSymbols}
+use Rattle.tc_asm.specs.AlikeDrafts.{HaveSameSizesAndSymbols}
 use Rattle.tc_asm.specs.DraftInvariants.{EachInDraft}
 use Rattle.tc_asm.specs.Symbols.{SymbolData, entry_in, place_in, with_name, with_symbol_label, with_global_symbol}
-use Rattle.tc_asm.specs.Drafts.{UseData, DraftData, part, empty_draft, next_byte_offset, has_section, has_room, next_byte_place, with_label, number_of_part, with_current_section, with_global, with_part_bytes, with_bytes, with_part_use, with_use, with_reference, with_content, label_distance, fields_with_label_distance, row_fields_with_target, assembled_code, code_bytes, draft_after_item}
-use Rattle.tc_asm.specs.DraftedSources.{draft_from_lines, with_line, symbols_of}
+use Rattle.tc_asm.specs.Drafts.{UseData, DraftData, part, empty_draft, next_byte_offset, has_current_section, has_room, next_byte_place, with_label, section_number, with_current_section, with_global, with_section_bytes, with_bytes, with_section_use, with_use, with_reference, with_content, label_distance, fields_with_label_distance, row_fields_with_target, assembled_code, code_bytes, draft_after_item}
+use Rattle.tc_asm.specs.DraftedSources.{draft_from_lines, draft_after_line, symbols_of_lines}
 use Rattle.tc_asm.specs.Rules.{has_symbol_room, section_rule, name_rule, symbol_limit_rule, reloc_limit_rule, byte_limit_rule, undefined_global_rule, content_rule, item_rule, items_rule, line_rule}
 use Rattle.tc_asm.specs.KnownSymbols.{without_symbols, kept, is_new, are_new, second_pass_rule}
 use Rattle.tc_asm.proofs.CodeLaws.{found_far}
@@ -36,17 +36,17 @@ same_cond false w x y z h k = k
 bytes_nameless : (d : DraftData) (bs : List ℕ) → without_symbols (with_bytes d bs) ≡ without_symbols (with_bytes (without_symbols d) bs)
 unfolding with_bytes
 bytes_nameless d bs =
-    same_cond (has_section d && has_room d (length bs))
-    (record d { parts = with_part_bytes d.parts d.section bs; total = d.total + length bs }) d
-    (record (without_symbols d) { parts = with_part_bytes d.parts d.section bs; total = d.total + length bs }) (without_symbols d) refl refl
+    same_cond (has_current_section d && has_room d (length bs))
+    (record d { parts = with_section_bytes d.parts d.section bs; total = d.total + length bs }) d
+    (record (without_symbols d) { parts = with_section_bytes d.parts d.section bs; total = d.total + length bs }) (without_symbols d) refl refl
 
 use_nameless : (d : DraftData) (n : ℕ) (r : ReferenceData) → without_symbols (with_use d n r) ≡ without_symbols (with_use (without_symbols d) n r)
 unfolding with_use next_byte_offset
 use_nameless d n r =
     let u : UseData = record { offset = next_byte_offset d; reference = r } in
-    same_cond (has_section d && has_room d n && n == 4 && is_relocation_kind r.kind && nat_lt d.count 65535)
-    (record d { parts = with_part_use d.parts d.section u; count = d.count + 1 }) d
-    (record (without_symbols d) { parts = with_part_use d.parts d.section u; count = d.count + 1 }) (without_symbols d) refl refl
+    same_cond (has_current_section d && has_room d n && n == 4 && is_relocation_kind r.kind && nat_lt d.count 65535)
+    (record d { parts = with_section_use d.parts d.section u; count = d.count + 1 }) d
+    (record (without_symbols d) { parts = with_section_use d.parts d.section u; count = d.count + 1 }) (without_symbols d) refl refl
 
 reference_nameless : (d : DraftData) (n : ℕ) (o : Option ReferenceData) → without_symbols (with_reference d n o) ≡ without_symbols (with_reference (without_symbols d) n o)
 unfolding with_reference
@@ -67,12 +67,12 @@ content_nameless d bs o =
 entered_nameless : (d : DraftData) (name : List ℕ) → without_symbols (with_current_section d name) ≡ without_symbols (with_current_section (without_symbols d) name)
 unfolding with_current_section
 entered_nameless d name =
-    let old : DraftData → DraftData = λ e. record e { section = number_of_part d.parts name } in
+    let old : DraftData → DraftData = λ e. record e { section = section_number d.parts name } in
     let new : DraftData → DraftData = λ e. record e { section = length d.parts; parts = d.parts ++ part name [] [] ∷ [] } in
     let full : DraftData → DraftData = λ e. cond (nat_lt (length d.parts) 64) (new e) e in
-    same_cond (not (is_source_name name)) d (cond (nat_lt (number_of_part d.parts name) (length d.parts)) (old d) (full d))
-    (without_symbols d) (cond (nat_lt (number_of_part d.parts name) (length d.parts)) (old (without_symbols d)) (full (without_symbols d))) refl
-    (same_cond (nat_lt (number_of_part d.parts name) (length d.parts)) (old d) (full d) (old (without_symbols d)) (full (without_symbols d)) refl
+    same_cond (not (is_source_name name)) d (cond (nat_lt (section_number d.parts name) (length d.parts)) (old d) (full d))
+    (without_symbols d) (cond (nat_lt (section_number d.parts name) (length d.parts)) (old (without_symbols d)) (full (without_symbols d))) refl
+    (same_cond (nat_lt (section_number d.parts name) (length d.parts)) (old d) (full d) (old (without_symbols d)) (full (without_symbols d)) refl
     (same_cond (nat_lt (length d.parts) 64) (new d) d (new (without_symbols d)) (without_symbols d) refl refl))
 
 resolved_nameless : (labels : List SymbolData) (d : DraftData) (k : ℕ) (f : Fields) (o : Option ReferenceData) → row_fields_with_target labels d k f o ≡ row_fields_with_target labels (without_symbols d) k f o
@@ -256,7 +256,7 @@ are_new-append labels d (x ∷ xs) ys h =
     let r = are_new-append labels (draft_after_item labels d x) xs ys p.1 in
     (and_from (has_symbol_room d.symbols && is_new d.symbols x) (are_new labels (draft_after_item labels d x) xs) p.0 r.0, r.1)
 
-new_alike : (labels others : List SymbolData) (is : List ItemData) (d e : DraftData) → EachInDraft IsAddedItem is → HasSameSizesAndSymbols d e → are_new labels d is ≡ are_new others e is
+new_alike : (labels others : List SymbolData) (is : List ItemData) (d e : DraftData) → EachInDraft IsAddedItem is → HaveSameSizesAndSymbols d e → are_new labels d is ≡ are_new others e is
 new_alike labels others [] d e good h = refl
 new_alike labels others (i ∷ is) d e good h =
     ap (λ (ss : List SymbolData). (has_symbol_room ss && is_new ss i) && are_new labels (draft_after_item labels d i) is) h.symbols
@@ -270,7 +270,7 @@ module _ (items : List Item) (i : ℕ) (d : Item) (within : i < length items) (d
   abbrev so_far : DraftData
   so_far = fold (draft_after_item []) all (take i (map item_of items))
 
-  pub new_more : (before room_here new_here after whole : Bool) → HasSameSizesAndSymbols draft (fold (draft_after_item []) all (take i (map item_of items)))
+  pub new_more : (before room_here new_here after whole : Bool) → HaveSameSizesAndSymbols draft (fold (draft_after_item []) all (take i (map item_of items)))
       → room_here ≡ has_symbol_room draft.symbols → new_here ≡ is_new draft.symbols (item_of (get_or items i d)) → after ≡ (before && (room_here && new_here))
       → (before && are_new [] (fold (draft_after_item []) all (take i (map item_of items))) (drop i (map item_of items))) ≡ whole
       → (after && are_new [] (fold (draft_after_item []) all (take (i + 1) (map item_of items))) (drop (i + 1) (map item_of items))) ≡ whole
@@ -341,12 +341,12 @@ kept_rules_end known labels items i draft rule all past small e =
 
 -- ---- a further line
 module _ (known : Bool) (labels : List SymbolData) (ls : List LineData) (i : ℕ) (x : LineData) (zs : List LineData) (here : drop i ls ≡ x ∷ zs) (draft : DraftData) (so_far : kept known draft ≡ kept known (draft_from_lines labels (take i ls))) where
-  pub kept_more : (next : DraftData) → kept known next ≡ kept known (with_line labels draft x) → kept known next ≡ kept known (draft_from_lines labels (take (i + 1) ls))
-  unfolding with_line
+  pub kept_more : (next : DraftData) → kept known next ≡ kept known (draft_after_line labels draft x) → kept known next ≡ kept known (draft_from_lines labels (take (i + 1) ls))
+  unfolding draft_after_line
   kept_more next e =
       e
       ∙ kept_fold known labels x.items draft (draft_from_lines labels (take i ls)) so_far
-      ∙ ap (kept known) (drafted_more ls i x zs here labels (draft_from_lines labels (take i ls)) (with_line labels (draft_from_lines labels (take i ls)) x) refl refl)
+      ∙ ap (kept known) (drafted_more ls i x zs here labels (draft_from_lines labels (take i ls)) (draft_after_line labels (draft_from_lines labels (take i ls)) x) refl refl)
 
   module _ (new : known ≡ true → are_new labels (draft_from_lines labels (take i ls)) (items_in (drop i ls)) ≡ true) where
     news : known ≡ true → (are_new labels (draft_from_lines labels (take i ls)) x.items ≡ true) × (are_new labels (fold (draft_after_item labels) (draft_from_lines labels (take i ls)) x.items) (items_in zs) ≡ true)
@@ -355,10 +355,10 @@ module _ (known : Bool) (labels : List SymbolData) (ls : List LineData) (i : ℕ
         (sym (ap (λ (xs : List LineData). are_new labels (draft_from_lines labels (take i ls)) (items_in xs)) here) ∙ new k)
 
     pub new_lines : known ≡ true → are_new labels (draft_from_lines labels (take (i + 1) ls)) (items_in (drop (i + 1) ls)) ≡ true
-    unfolding with_line
+    unfolding draft_after_line
     new_lines k =
-        ap (λ (d : DraftData). are_new labels d (items_in (drop (i + 1) ls))) (sym (drafted_more ls i x zs here labels (draft_from_lines labels (take i ls)) (with_line labels (draft_from_lines labels (take i ls)) x) refl refl))
-        ∙ ap (λ (xs : List LineData). are_new labels (with_line labels (draft_from_lines labels (take i ls)) x) (items_in xs)) (behind_here ls i x zs here)
+        ap (λ (d : DraftData). are_new labels d (items_in (drop (i + 1) ls))) (sym (drafted_more ls i x zs here labels (draft_from_lines labels (take i ls)) (draft_after_line labels (draft_from_lines labels (take i ls)) x) refl refl))
+        ∙ ap (λ (xs : List LineData). are_new labels (draft_after_line labels (draft_from_lines labels (take i ls)) x) (items_in xs)) (behind_here ls i x zs here)
         ∙ (news k).1
 
     pub kept_line : (rule : ℕ) → rule ≡ min x.rule (second_pass_rule known labels draft x.items) → rule ≡ line_rule labels (draft_from_lines labels (take i ls)) x
@@ -368,8 +368,8 @@ module _ (known : Bool) (labels : List SymbolData) (ls : List LineData) (i : ℕ
 
 -- ---- a line without items that breaks no rule by itself
 module _ (known : Bool) (labels : List SymbolData) (draft : DraftData) (rule count : ℕ) (is : List ItemData) (none : count ≡ 0) where
-  pub blank_draft : kept known draft ≡ kept known (with_line labels draft (line_data rule (take count is)))
-  unfolding with_line
+  pub blank_draft : kept known draft ≡ kept known (draft_after_line labels draft (line_data rule (take count is)))
+  unfolding draft_after_line
   blank_draft = rw none refl
 
   pub blank_rule : rule ≡ 15 → 15 ≡ min rule (second_pass_rule known labels draft (take count is))
@@ -377,10 +377,10 @@ module _ (known : Bool) (labels : List SymbolData) (draft : DraftData) (rule cou
 
 -- ---- the end of a source
 -- after the last line
-pub past : (read : Source) (lines : List Line) (i : ℕ) → lines ≡ read.lines.items → length lines ≤ i → length (lines_of read) ≤ i
+pub past : (read : Source) (lines : List Line) (i : ℕ) → lines ≡ read.lines.items → length lines ≤ i → length (source_lines read) ≤ i
 past read lines i e h =
     let long : length lines ≡ length read.lines.items = ap length e in
-    let same : length (lines_of read) ≡ length read.lines.items = length-lines_read read.lines.items (map item_of read.items.items) in
+    let same : length (source_lines read) ≡ length read.lines.items = length-lines_read read.lines.items (map item_of read.items.items) in
     omega arith
 
 pub lines_end : (known : Bool) (labels : List SymbolData) (ls : List LineData) (i : ℕ) (draft : DraftData) → length ls ≤ i
@@ -394,19 +394,19 @@ whole_draft true d e draft ss h same is =
     is ∙ ap (λ (x : DraftData). record x { symbols = ss }) h ∙ ap (λ (ts : List SymbolData). record e { symbols = ts }) (sym same)
 whole_draft false d e draft ss h same is = is ∙ h
 
-module _ (source : List ℕ) (read : Source) (same : lines_of read ≡ lines_in source) (labels : List SymbolData) (is : labels ≡ symbols_of (lines_of read)) where
+module _ (source : List ℕ) (read : Source) (same : source_lines read ≡ lines_in source) (labels : List SymbolData) (is : labels ≡ symbols_of_lines (source_lines read)) where
   -- the second pass finds these symbols again
-  pub symbols_again : (draft_from_lines labels (lines_of read)).symbols ≡ labels
+  pub symbols_again : (draft_from_lines labels (source_lines read)).symbols ≡ labels
   symbols_again =
-      ap (λ (ss : List SymbolData). (draft_from_lines ss (lines_of read)).symbols) is
-      ∙ ap (λ (ls : List LineData). (draft_from_lines (symbols_of ls) ls).symbols) same
+      ap (λ (ss : List SymbolData). (draft_from_lines ss (source_lines read)).symbols) is
+      ∙ ap (λ (ls : List LineData). (draft_from_lines (symbols_of_lines ls) ls).symbols) same
       ∙ passes_agree source
-      ∙ ap symbols_of (sym same)
+      ∙ ap symbols_of_lines (sym same)
       ∙ sym is
 
   -- what is new in the first pass is new in the second one
   pub new_again : (items : List Item) → items ≡ read.items.items → map item_of read.items.items ≡ items_in (lines_in source)
-      → (known : Bool) → known ≡ are_new [] empty_draft (map item_of items) → known ≡ true → are_new labels empty_draft (items_in (lines_of read)) ≡ true
+      → (known : Bool) → known ≡ are_new [] empty_draft (map item_of items) → known ≡ true → are_new labels empty_draft (items_in (source_lines read)) ≡ true
   new_again items e f known new so =
       ap (λ (ls : List LineData). are_new labels empty_draft (items_in ls)) same
       ∙ sym (new_alike [] labels (items_in (lines_in source)) empty_draft empty_draft (source_are source) (alike_same empty_draft))

@@ -10,29 +10,29 @@ use Rattle.tc_stmt.specs.Names.{is_source_name}
 use Rattle.tc_stmt.specs.Items.{ReferenceData, ItemData, label, section, global, code, bytes, zeros}
 use Rattle.tc_stmt.specs.Lines.{LineData, items_in}
 use Rattle.tc_asm.specs.Symbols.{SymbolData, with_name}
-use Rattle.tc_asm.specs.Drafts.{PartData, DraftData, part, empty_draft, next_byte_offset, has_section, has_room, with_label, number_of_part, with_current_section, with_global, with_part_bytes, with_bytes, with_part_use, with_use, with_reference, code_bytes, draft_after_item, bytes_at}
-use Rattle.tc_asm.specs.DraftedSources.{draft_from_lines, with_line}
-use Rattle.tc_asm.specs.Statements.{StatementData, statement_data, statement_of_item, statement_with_room, statements_from, statements, section_bytes, offset_of}
+use Rattle.tc_asm.specs.Drafts.{DraftSectionData, DraftData, part, empty_draft, next_byte_offset, has_current_section, has_room, with_label, section_number, with_current_section, with_global, with_section_bytes, with_bytes, with_section_use, with_use, with_reference, code_bytes, draft_after_item, draft_section_bytes_at}
+use Rattle.tc_asm.specs.DraftedSources.{draft_from_lines, draft_after_line}
+use Rattle.tc_asm.specs.Statements.{StatementData, statement_data, statement_of_item, statement_with_room, statements_from, statements_of_lines, section_bytes, statement_offset}
 use Rattle.tc_stmt.proofs.Cases.{by_test}
 use Rattle.tc_asm.proofs.ListLaws.{changed, changed-set, length-changed}
 
-bytes_at-push : (ps : List PartData) (p : PartData) (s : ℕ) → p.bytes ≡ [] → bytes_at (ps ++ p ∷ []) s ≡ bytes_at ps s
+bytes_at-push : (ps : List DraftSectionData) (p : DraftSectionData) (s : ℕ) → p.bytes ≡ [] → draft_section_bytes_at (ps ++ p ∷ []) s ≡ draft_section_bytes_at ps s
 bytes_at-push [] p zero e = e
 bytes_at-push [] p (suc s) e = refl
 bytes_at-push (x ∷ xs) p zero e = refl
 bytes_at-push (x ∷ xs) p (suc s) e = bytes_at-push xs p s e
 
-bytes_at-same : (f : PartData → PartData) → ((p : PartData) → (f p).bytes ≡ p.bytes) → (ps : List PartData) (i s : ℕ) → bytes_at (changed f ps i) s ≡ bytes_at ps s
+bytes_at-same : (f : DraftSectionData → DraftSectionData) → ((p : DraftSectionData) → (f p).bytes ≡ p.bytes) → (ps : List DraftSectionData) (i s : ℕ) → draft_section_bytes_at (changed f ps i) s ≡ draft_section_bytes_at ps s
 bytes_at-same f h [] i s = refl
 bytes_at-same f h (p ∷ ps) zero zero = h p
 bytes_at-same f h (p ∷ ps) zero (suc s) = refl
 bytes_at-same f h (p ∷ ps) (suc i) zero = refl
 bytes_at-same f h (p ∷ ps) (suc i) (suc s) = bytes_at-same f h ps i s
 
-bytes_at-grown : (bs : List ℕ) (ps : List PartData) (i s : ℕ) → i < length ps → bytes_at (changed (λ p. record p { bytes = p.bytes ++ bs }) ps i) s ≡ bytes_at ps s ++ cond (i == s) bs []
+bytes_at-grown : (bs : List ℕ) (ps : List DraftSectionData) (i s : ℕ) → i < length ps → draft_section_bytes_at (changed (λ p. record p { bytes = p.bytes ++ bs }) ps i) s ≡ draft_section_bytes_at ps s ++ cond (i == s) bs []
 bytes_at-grown bs [] i s h = absurd (omega arith)
 bytes_at-grown bs (p ∷ ps) zero zero h = refl
-bytes_at-grown bs (p ∷ ps) zero (suc s) h = rw (eqb-zero-suc s) (sym (append-nil (bytes_at ps s)))
+bytes_at-grown bs (p ∷ ps) zero (suc s) h = rw (eqb-zero-suc s) (sym (append-nil (draft_section_bytes_at ps s)))
 bytes_at-grown bs (p ∷ ps) (suc i) zero h = rw (eqb-suc-zero i) (sym (append-nil p.bytes))
 bytes_at-grown bs (p ∷ ps) (suc i) (suc s) h = rw (eqb-suc-suc i s) (bytes_at-grown bs ps i s (omega arith))
 
@@ -41,21 +41,21 @@ record Keeps (d e : DraftData) : Type 0 where
   same_section : e.section ≡ d.section
   same_count : length e.parts ≡ length d.parts
   same_total : e.total ≡ d.total
-  same_bytes : (s : ℕ) → bytes_at e.parts s ≡ bytes_at d.parts s
+  same_bytes : (s : ℕ) → draft_section_bytes_at e.parts s ≡ draft_section_bytes_at d.parts s
 
 Keeps-use : (d : DraftData) (n : ℕ) (r : ReferenceData) → Keeps d (with_use d n r)
-unfolding with_use with_part_use
+unfolding with_use with_section_use
 Keeps-use d n r =
     by_test (λ (e : DraftData). Keeps d e) _ _ d
     (λ b. record {
       same_section = refl;
       same_count = ap length (changed-set add d.parts d.section) ∙ length-changed add d.parts d.section;
       same_total = refl;
-      same_bytes = λ s. ap (λ ps. bytes_at ps s) (changed-set add d.parts d.section) ∙ bytes_at-same add (λ p. refl) d.parts d.section s;
+      same_bytes = λ s. ap (λ ps. draft_section_bytes_at ps s) (changed-set add d.parts d.section) ∙ bytes_at-same add (λ p. refl) d.parts d.section s;
     })
     (λ b. record { same_section = refl; same_count = refl; same_total = refl; same_bytes = λ s. refl })
   where
-    add : PartData → PartData
+    add : DraftSectionData → DraftSectionData
     add p = record p { uses = p.uses ++ record { offset = next_byte_offset d; reference = r } ∷ [] }
 
 Keeps-reference : (d : DraftData) (n : ℕ) (o : Option ReferenceData) → Keeps d (with_reference d n o)
@@ -68,47 +68,47 @@ Keeps-reference d n (Some r) =
 
 module _ (s : ℕ) where
   grown_bytes : (d e : DraftData) (bs : List ℕ) (r : Option ReferenceData) → Keeps d e
-      → bytes_at (with_bytes e bs).parts s ≡ bytes_at d.parts s ++ section_bytes s (statement_with_room d (Some (statement_data d.section bs r)))
-  unfolding with_bytes with_part_bytes
+      → draft_section_bytes_at (with_bytes e bs).parts s ≡ draft_section_bytes_at d.parts s ++ section_bytes s (statement_with_room d (Some (statement_data d.section bs r)))
+  unfolding with_bytes with_section_bytes
   grown_bytes d e bs r k =
-      let same : (has_section e && has_room e (length bs)) ≡ (has_section d && has_room d (length bs))
+      let same : (has_current_section e && has_room e (length bs)) ≡ (has_current_section d && has_room d (length bs))
       = ap (λ n. nat_lt n (length e.parts) && has_room e (length bs)) k.same_section ∙ ap (λ n. nat_lt d.section n && has_room e (length bs)) k.same_count
       ∙ ap (λ n. nat_lt d.section (length d.parts) && nat_le (n + length bs) (2 ^ 24)) k.same_total in
-      by (has_section d && has_room d (length bs)) same refl
+      by (has_current_section d && has_room d (length bs)) same refl
     where
-      by : (b : Bool) → (has_section e && has_room e (length bs)) ≡ b → (has_section d && has_room d (length bs)) ≡ b
-          → bytes_at (with_bytes e bs).parts s ≡ bytes_at d.parts s ++ section_bytes s (cond b (statement_data d.section bs r ∷ []) [])
+      by : (b : Bool) → (has_current_section e && has_room e (length bs)) ≡ b → (has_current_section d && has_room d (length bs)) ≡ b
+          → draft_section_bytes_at (with_bytes e bs).parts s ≡ draft_section_bytes_at d.parts s ++ section_bytes s (cond b (statement_data d.section bs r ∷ []) [])
       by true h g =
           let less : e.section < length e.parts = ltb-true e.section (length e.parts) (and_parts _ _ h).0 in
-          rw h (ap (λ ps. bytes_at ps s) (changed-set (λ p. record p { bytes = p.bytes ++ bs }) e.parts e.section)
+          rw h (ap (λ ps. draft_section_bytes_at ps s) (changed-set (λ p. record p { bytes = p.bytes ++ bs }) e.parts e.section)
           ∙ bytes_at-grown bs e.parts e.section s less
           ∙ ap (λ xs. xs ++ cond (e.section == s) bs []) (k.same_bytes s)
-          ∙ ap (λ n. bytes_at d.parts s ++ cond (n == s) bs []) k.same_section
-          ∙ ap (λ xs. bytes_at d.parts s ++ xs) (sym (append-nil (cond (d.section == s) bs []))))
-      by false h g = rw h (k.same_bytes s ∙ sym (append-nil (bytes_at d.parts s)))
+          ∙ ap (λ n. draft_section_bytes_at d.parts s ++ cond (n == s) bs []) k.same_section
+          ∙ ap (λ xs. draft_section_bytes_at d.parts s ++ xs) (sym (append-nil (cond (d.section == s) bs []))))
+      by false h g = rw h (k.same_bytes s ∙ sym (append-nil (draft_section_bytes_at d.parts s)))
 
   keeps_same : (d : DraftData) → Keeps d d
   keeps_same d = record { same_section = refl; same_count = refl; same_total = refl; same_bytes = λ q. refl }
 
-  label-bytes : (d : DraftData) (name : List ℕ) → bytes_at (with_label d name).parts s ≡ bytes_at d.parts s ++ []
+  label-bytes : (d : DraftData) (name : List ℕ) → draft_section_bytes_at (with_label d name).parts s ≡ draft_section_bytes_at d.parts s ++ []
   unfolding with_label
-  label-bytes d name = by_test (λ (e : DraftData). bytes_at e.parts s ≡ bytes_at d.parts s ++ []) _ _ d (λ b. sym (append-nil (bytes_at d.parts s))) (λ b. sym (append-nil (bytes_at d.parts s)))
+  label-bytes d name = by_test (λ (e : DraftData). draft_section_bytes_at e.parts s ≡ draft_section_bytes_at d.parts s ++ []) _ _ d (λ b. sym (append-nil (draft_section_bytes_at d.parts s))) (λ b. sym (append-nil (draft_section_bytes_at d.parts s)))
 
-  global-bytes : (d : DraftData) (name : List ℕ) → bytes_at (with_global d name).parts s ≡ bytes_at d.parts s ++ []
+  global-bytes : (d : DraftData) (name : List ℕ) → draft_section_bytes_at (with_global d name).parts s ≡ draft_section_bytes_at d.parts s ++ []
   unfolding with_global
-  global-bytes d name = by_test (λ (e : DraftData). bytes_at e.parts s ≡ bytes_at d.parts s ++ []) _ _ d (λ b. sym (append-nil (bytes_at d.parts s))) (λ b. sym (append-nil (bytes_at d.parts s)))
+  global-bytes d name = by_test (λ (e : DraftData). draft_section_bytes_at e.parts s ≡ draft_section_bytes_at d.parts s ++ []) _ _ d (λ b. sym (append-nil (draft_section_bytes_at d.parts s))) (λ b. sym (append-nil (draft_section_bytes_at d.parts s)))
 
-  entered-bytes : (d : DraftData) (name : List ℕ) → bytes_at (with_current_section d name).parts s ≡ bytes_at d.parts s ++ []
+  entered-bytes : (d : DraftData) (name : List ℕ) → draft_section_bytes_at (with_current_section d name).parts s ≡ draft_section_bytes_at d.parts s ++ []
   unfolding with_current_section
   entered-bytes d name =
-      by_test (λ (e : DraftData). bytes_at e.parts s ≡ bytes_at d.parts s ++ []) (not (is_source_name name)) d (cond (nat_lt (number_of_part d.parts name) (length d.parts)) (record d { section = number_of_part d.parts name }) (cond (nat_lt (length d.parts) 64) (record d { section = length d.parts; parts = d.parts ++ part name [] [] ∷ [] }) d)) (λ b. same) (λ b.
-      by_test (λ (e : DraftData). bytes_at e.parts s ≡ bytes_at d.parts s ++ []) (nat_lt (number_of_part d.parts name) (length d.parts)) (record d { section = number_of_part d.parts name }) (cond (nat_lt (length d.parts) 64) (record d { section = length d.parts; parts = d.parts ++ part name [] [] ∷ [] }) d) (λ c. same) (λ c.
-      by_test (λ (e : DraftData). bytes_at e.parts s ≡ bytes_at d.parts s ++ []) (nat_lt (length d.parts) 64) (record d { section = length d.parts; parts = d.parts ++ part name [] [] ∷ [] }) d (λ f. bytes_at-push d.parts (part name [] []) s refl ∙ same) (λ f. same)))
+      by_test (λ (e : DraftData). draft_section_bytes_at e.parts s ≡ draft_section_bytes_at d.parts s ++ []) (not (is_source_name name)) d (cond (nat_lt (section_number d.parts name) (length d.parts)) (record d { section = section_number d.parts name }) (cond (nat_lt (length d.parts) 64) (record d { section = length d.parts; parts = d.parts ++ part name [] [] ∷ [] }) d)) (λ b. same) (λ b.
+      by_test (λ (e : DraftData). draft_section_bytes_at e.parts s ≡ draft_section_bytes_at d.parts s ++ []) (nat_lt (section_number d.parts name) (length d.parts)) (record d { section = section_number d.parts name }) (cond (nat_lt (length d.parts) 64) (record d { section = length d.parts; parts = d.parts ++ part name [] [] ∷ [] }) d) (λ c. same) (λ c.
+      by_test (λ (e : DraftData). draft_section_bytes_at e.parts s ≡ draft_section_bytes_at d.parts s ++ []) (nat_lt (length d.parts) 64) (record d { section = length d.parts; parts = d.parts ++ part name [] [] ∷ [] }) d (λ f. bytes_at-push d.parts (part name [] []) s refl ∙ same) (λ f. same)))
     where
-      same : bytes_at d.parts s ≡ bytes_at d.parts s ++ []
-      same = sym (append-nil (bytes_at d.parts s))
+      same : draft_section_bytes_at d.parts s ≡ draft_section_bytes_at d.parts s ++ []
+      same = sym (append-nil (draft_section_bytes_at d.parts s))
 
-  stepped-bytes : (labels : List SymbolData) (d : DraftData) (i : ItemData) → bytes_at (draft_after_item labels d i).parts s ≡ bytes_at d.parts s ++ section_bytes s (statement_with_room d (statement_of_item labels d i))
+  stepped-bytes : (labels : List SymbolData) (d : DraftData) (i : ItemData) → draft_section_bytes_at (draft_after_item labels d i).parts s ≡ draft_section_bytes_at d.parts s ++ section_bytes s (statement_with_room d (statement_of_item labels d i))
   unfolding draft_after_item
   stepped-bytes labels d (label name) = label-bytes d name
   stepped-bytes labels d (section name) = entered-bytes d name
@@ -117,23 +117,23 @@ module _ (s : ℕ) where
   stepped-bytes labels d (bytes bs r) = grown_bytes d (with_reference d (length bs) r) bs r (Keeps-reference d (length bs) r)
   stepped-bytes labels d (zeros n) = grown_bytes d d (replicate n 0) None (keeps_same d)
 
-  from-bytes : (labels : List SymbolData) (is : List ItemData) (d : DraftData) → bytes_at (fold (draft_after_item labels) d is).parts s ≡ bytes_at d.parts s ++ section_bytes s (statements_from labels d is)
-  from-bytes labels [] d = sym (append-nil (bytes_at d.parts s))
+  from-bytes : (labels : List SymbolData) (is : List ItemData) (d : DraftData) → draft_section_bytes_at (fold (draft_after_item labels) d is).parts s ≡ draft_section_bytes_at d.parts s ++ section_bytes s (statements_from labels d is)
+  from-bytes labels [] d = sym (append-nil (draft_section_bytes_at d.parts s))
   from-bytes labels (i ∷ is) d =
       from-bytes labels is (draft_after_item labels d i)
       ∙ ap (λ bs. bs ++ section_bytes s (statements_from labels (draft_after_item labels d i) is)) (stepped-bytes labels d i)
-      ∙ append_assoc (bytes_at d.parts s) (section_bytes s (statement_with_room d (statement_of_item labels d i))) (section_bytes s (statements_from labels (draft_after_item labels d i) is))
-      ∙ ap (λ bs. bytes_at d.parts s ++ bs) (sym (flat_map-append (λ (t : StatementData). cond (t.section == s) t.bytes []) (statement_with_room d (statement_of_item labels d i)) (statements_from labels (draft_after_item labels d i) is)))
+      ∙ append_assoc (draft_section_bytes_at d.parts s) (section_bytes s (statement_with_room d (statement_of_item labels d i))) (section_bytes s (statements_from labels (draft_after_item labels d i) is))
+      ∙ ap (λ bs. draft_section_bytes_at d.parts s ++ bs) (sym (flat_map-append (λ (t : StatementData). cond (t.section == s) t.bytes []) (statement_with_room d (statement_of_item labels d i)) (statements_from labels (draft_after_item labels d i) is)))
 
 -- the items of all lines, in order
-pub lines-items : (labels : List SymbolData) (lines : List LineData) (d : DraftData) → fold (with_line labels) d lines ≡ fold (draft_after_item labels) d (items_in lines)
-unfolding with_line
+pub lines-items : (labels : List SymbolData) (lines : List LineData) (d : DraftData) → fold (draft_after_line labels) d lines ≡ fold (draft_after_item labels) d (items_in lines)
+unfolding draft_after_line
 lines-items labels [] d = refl
 lines-items labels (l ∷ ls) d = lines-items labels ls (fold (draft_after_item labels) d l.items) ∙ sym (fold-append (draft_after_item labels) d l.items (items_in ls))
 
 -- a section of a draft is the bytes of its statements in order
-pub drafted-bytes : (labels : List SymbolData) (lines : List LineData) (s : ℕ) → bytes_at (draft_from_lines labels lines).parts s ≡ section_bytes s (statements labels lines)
-drafted-bytes labels lines s = ap (λ (d : DraftData). bytes_at d.parts s) (lines-items labels lines empty_draft) ∙ from-bytes s labels (items_in lines) empty_draft
+pub drafted-bytes : (labels : List SymbolData) (lines : List LineData) (s : ℕ) → draft_section_bytes_at (draft_from_lines labels lines).parts s ≡ section_bytes s (statements_of_lines labels lines)
+drafted-bytes labels lines s = ap (λ (d : DraftData). draft_section_bytes_at d.parts s) (lines-items labels lines empty_draft) ∙ from-bytes s labels (items_in lines) empty_draft
 
 -- ---- offsets
 take-front : (xs ys : List ℕ) → take (length xs) (xs ++ ys) ≡ xs
@@ -147,7 +147,7 @@ drop-behind (x ∷ xs) ys (suc m) n e = drop-behind xs ys m n (omega arith)
 
 -- a statement's bytes are at its offset
 pub stands : (ts : List StatementData) (place : ℕ) (t : StatementData) → slice_get ts place ≡ Some t
-    → take (length t.bytes) (drop (offset_of ts place t.section) (section_bytes t.section ts)) ≡ t.bytes
+    → take (length t.bytes) (drop (statement_offset ts place t.section) (section_bytes t.section ts)) ≡ t.bytes
 stands [] place t e = cc
 stands (x ∷ xs) zero t e =
     let same : x ≡ t = cc in
@@ -157,6 +157,6 @@ stands (x ∷ xs) zero t e =
     ap (λ bs. take (length t.bytes) bs) here ∙ take-front t.bytes (section_bytes t.section xs)
 stands (x ∷ xs) (suc p) t e =
     ap (λ bs. take (length t.bytes) bs)
-    (drop-behind (cond (x.section == t.section) x.bytes []) (section_bytes t.section xs) (offset_of (x ∷ xs) (suc p) t.section) (offset_of xs p t.section)
+    (drop-behind (cond (x.section == t.section) x.bytes []) (section_bytes t.section xs) (statement_offset (x ∷ xs) (suc p) t.section) (statement_offset xs p t.section)
     (length-append (cond (x.section == t.section) x.bytes []) (section_bytes t.section (take p xs))))
     ∙ stands xs p t e

@@ -5,30 +5,30 @@ use Rattle.std.specs.Option.{option_map_or}
 use Rattle.std.proofs.lemmas.List.{length-map, length-replicate, get_or-map, map-set, take_all}
 use Rattle.std.proofs.lemmas.Option.{slice_get-get_or}
 use Rattle.tc_asm.specs.declared.sections.Part.{Part}
-use Rattle.tc_asm.specs.Drafts.{PartData, UseData, with_part_bytes, with_part_use}
-use Rattle.tc_asm.specs.DraftViews.{part_of}
+use Rattle.tc_asm.specs.Drafts.{DraftSectionData, UseData, with_section_bytes, with_section_use}
+use Rattle.tc_asm.specs.DraftViews.{draft_section_of}
 
-module _ (change : PartData → PartData) where
-  changed-set : (parts : List Part) (i : ℕ) (d p : Part) → i < length parts → part_of p ≡ change (part_of (get_or parts i d))
-      → map part_of (set parts i p) ≡ option_map_or (λ q. set (map part_of parts) i (change q)) (slice_get (map part_of parts) i) (map part_of parts)
+module _ (change : DraftSectionData → DraftSectionData) where
+  changed-set : (parts : List Part) (i : ℕ) (d p : Part) → i < length parts → draft_section_of p ≡ change (draft_section_of (get_or parts i d))
+      → map draft_section_of (set parts i p) ≡ option_map_or (λ q. set (map draft_section_of parts) i (change q)) (slice_get (map draft_section_of parts) i) (map draft_section_of parts)
   changed-set parts i d p h e =
-      let within : i < length (map part_of parts) = rw (length-map parts part_of) h in
-      let there = slice_get-get_or (map part_of parts) i (part_of d) within in
-      let here = get_or-map part_of parts i d (part_of d) h in
-      map-set part_of parts i p
-      ∙ ap (set (map part_of parts) i) e
-      ∙ sym (ap (λ o. option_map_or (λ q. set (map part_of parts) i (change q)) o (map part_of parts)) (there ∙ ap (λ q. Some q) here))
+      let within : i < length (map draft_section_of parts) = rw (length-map parts draft_section_of) h in
+      let there = slice_get-get_or (map draft_section_of parts) i (draft_section_of d) within in
+      let here = get_or-map draft_section_of parts i d (draft_section_of d) h in
+      map-set draft_section_of parts i p
+      ∙ ap (set (map draft_section_of parts) i) e
+      ∙ sym (ap (λ o. option_map_or (λ q. set (map draft_section_of parts) i (change q)) o (map draft_section_of parts)) (there ∙ ap (λ q. Some q) here))
 
 pub extended-set : (parts : List Part) (i : ℕ) (d p : Part) (bs : List ℕ) → i < length parts
-    → part_of p ≡ record (part_of (get_or parts i d)) { bytes = (part_of (get_or parts i d)).bytes ++ bs }
-    → map part_of (set parts i p) ≡ with_part_bytes (map part_of parts) i bs
-unfolding with_part_bytes
+    → draft_section_of p ≡ record (draft_section_of (get_or parts i d)) { bytes = (draft_section_of (get_or parts i d)).bytes ++ bs }
+    → map draft_section_of (set parts i p) ≡ with_section_bytes (map draft_section_of parts) i bs
+unfolding with_section_bytes
 extended-set parts i d p bs h e = changed-set (λ q. record q { bytes = q.bytes ++ bs }) parts i d p h e
 
 pub used-set : (parts : List Part) (i : ℕ) (d p : Part) (u : UseData) → i < length parts
-    → part_of p ≡ record (part_of (get_or parts i d)) { uses = (part_of (get_or parts i d)).uses ++ u ∷ [] }
-    → map part_of (set parts i p) ≡ with_part_use (map part_of parts) i u
-unfolding with_part_use
+    → draft_section_of p ≡ record (draft_section_of (get_or parts i d)) { uses = (draft_section_of (get_or parts i d)).uses ++ u ∷ [] }
+    → map draft_section_of (set parts i p) ≡ with_section_use (map draft_section_of parts) i u
+unfolding with_section_use
 used-set parts i d p u h e = changed-set (λ q. record q { uses = q.uses ++ u ∷ [] }) parts i d p h e
 
 -- ---- zeros that are only counted

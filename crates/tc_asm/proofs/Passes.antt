@@ -9,16 +9,16 @@ use Rattle.tc_stmt.specs.declared.item.Item.{Item}
 use Rattle.tc_stmt.specs.declared.source.Line.{Line}
 use Rattle.tc_stmt.specs.Items.{ItemData, item_of}
 use Rattle.tc_stmt.specs.Lines.{LineData, line_data, lines_in, items_in}
-use Rattle.tc_stmt.specs.SourceViews.{lines_read, lines_of}
+use Rattle.tc_stmt.specs.SourceViews.{lines_read, source_lines}
 use Rattle.tc_stmt.specs.declared.source.Source.{Source}
 use Rattle.tc_object.specs.Objects.{ObjectData}
 use Rattle.tc_asm.specs.Objects.{object_of_draft}
 use Rattle.tc_asm.proofs.LaidLaws.{lines-items}
 use Rattle.tc_asm.specs.Symbols.{SymbolData}
 use Rattle.tc_asm.specs.Drafts.{DraftData, empty_draft, draft_after_item}
-use Rattle.tc_asm.specs.DraftedSources.{draft_from_lines, with_line, symbols_of}
+use Rattle.tc_asm.specs.DraftedSources.{draft_from_lines, draft_after_line, symbols_of_lines}
 use Rattle.tc_asm.specs.KnownSymbols.{kept, second_pass_rule}
-use Rattle.tc_asm.specs.Rules.{rule_in, KeepsRules, IsFirstBrokenLine, line_rule}
+use Rattle.tc_asm.specs.Rules.{rule_of_source_line, LinesKeepRules, IsFirstBrokenLine, line_rule}
 
 -- the line at a place, with the lines after it
 module _ (ls : List LineData) (i : ℕ) (x : LineData) (zs : List LineData) (here : drop i ls ≡ x ∷ zs) where
@@ -34,15 +34,15 @@ module _ (ls : List LineData) (i : ℕ) (x : LineData) (zs : List LineData) (her
   behind_here = sym (drop-drop 1 i ls) ∙ ap (λ (ks : List LineData). drop 1 ks) here
 
   pub drafted_more : (labels : List SymbolData) (draft next : DraftData)
-      → draft ≡ draft_from_lines labels (take i ls) → next ≡ with_line labels draft x → next ≡ draft_from_lines labels (take (i + 1) ls)
+      → draft ≡ draft_from_lines labels (take i ls) → next ≡ draft_after_line labels draft x → next ≡ draft_from_lines labels (take (i + 1) ls)
   drafted_more labels draft next so_far step =
       step
-      ∙ ap (λ p. with_line labels p x) so_far
-      ∙ ap (with_line labels (draft_from_lines labels (take i ls))) (sym (get_here x))
-      ∙ sym (fold_more (with_line labels) empty_draft ls i x within)
+      ∙ ap (λ p. draft_after_line labels p x) so_far
+      ∙ ap (draft_after_line labels (draft_from_lines labels (take i ls))) (sym (get_here x))
+      ∙ sym (fold_more (draft_after_line labels) empty_draft ls i x within)
 
   pub rule_here : (labels : List SymbolData) (draft : DraftData) (rule : ℕ) (d : LineData)
-      → labels ≡ symbols_of ls → draft ≡ draft_from_lines labels (take i ls) → rule ≡ line_rule labels draft x → rule_in ls i (get_or ls i d) ≡ rule
+      → labels ≡ symbols_of_lines ls → draft ≡ draft_from_lines labels (take i ls) → rule ≡ line_rule labels draft x → rule_of_source_line ls i (get_or ls i d) ≡ rule
   rule_here labels draft rule d same so_far is =
       sym (is
       ∙ ap (λ p. line_rule labels p x) so_far
@@ -50,17 +50,17 @@ module _ (ls : List LineData) (i : ℕ) (x : LineData) (zs : List LineData) (her
       ∙ ap (λ ss. line_rule ss (draft_from_lines ss (take i ls)) (get_or ls i d)) same)
 
   pub kept_more : (labels : List SymbolData) (draft : DraftData) (rule : ℕ)
-      → labels ≡ symbols_of ls → draft ≡ draft_from_lines labels (take i ls) → rule ≡ line_rule labels draft x → rule ≡ 15 → KeepsRules ls i → KeepsRules ls (i + 1)
+      → labels ≡ symbols_of_lines ls → draft ≡ draft_from_lines labels (take i ls) → rule ≡ line_rule labels draft x → rule ≡ 15 → LinesKeepRules ls i → LinesKeepRules ls (i + 1)
   kept_more labels draft rule same so_far is none before = λ k e h.
       elim (cases_lt k i) [
         | inl less ↦ before k e less
         | inr same_place ↦
             let at : k ≡ i = omega arith in
-            ap (λ j. rule_in ls j (get_or ls j e)) at ∙ rule_here labels draft rule e same so_far is ∙ none
+            ap (λ j. rule_of_source_line ls j (get_or ls j e)) at ∙ rule_here labels draft rule e same so_far is ∙ none
       ]
 
   pub least_here : (labels : List SymbolData) (draft : DraftData) (rule : ℕ)
-      → labels ≡ symbols_of ls → draft ≡ draft_from_lines labels (take i ls) → rule ≡ line_rule labels draft x → rule ≢ 15 → KeepsRules ls i → IsFirstBrokenLine ls (i + 1) rule
+      → labels ≡ symbols_of_lines ls → draft ≡ draft_from_lines labels (take i ls) → rule ≡ line_rule labels draft x → rule ≢ 15 → LinesKeepRules ls i → IsFirstBrokenLine ls (i + 1) rule
   least_here labels draft rule same so_far is some before = record {
     place = i;
     within = within;
@@ -82,8 +82,8 @@ first_things items front n e = ap (map item_of) e ∙ sym (take-map item_of n it
 
 -- the draft after a line's items, and the least rule that the line breaks
 pub line_drafted : (known : Bool) (labels : List SymbolData) (items first : List Item) (count rule : ℕ) (old new : DraftData) → first ≡ take count items → kept known new ≡ kept known (fold (draft_after_item labels) old (map item_of first))
-    → kept known new ≡ kept known (with_line labels old (line_data rule (take count (map item_of items))))
-unfolding with_line
+    → kept known new ≡ kept known (draft_after_line labels old (line_data rule (take count (map item_of items))))
+unfolding draft_after_line
 line_drafted known labels items first count rule old new front same = same ∙ ap (λ is. kept known (fold (draft_after_item labels) old is)) (first_things items first count front)
 
 pub line_ruled : (known : Bool) (labels : List SymbolData) (items first : List Item) (count rule found least : ℕ) (old : DraftData) → first ≡ take count items → found ≡ second_pass_rule known labels old (map item_of first)
@@ -101,21 +101,21 @@ module _ (lines : List Line) (i : ℕ) (d : Line) (items : List Item) (within : 
       ap (lines_read (drop (i + 1) lines)) (drop-map item_of (get_or lines i d).count items ∙ ap (map item_of) (sym e))
 
 -- ---- a source and its lines
-module _ (source : List ℕ) (read : Source) (same : lines_of read ≡ lines_in source) where
-  pub kept_source : KeepsRules (lines_of read) (length (lines_of read)) → KeepsRules (lines_in source) (length (lines_in source))
-  kept_source h = subst (λ (ls : List LineData). KeepsRules ls (length ls)) same h
+module _ (source : List ℕ) (read : Source) (same : source_lines read ≡ lines_in source) where
+  pub kept_source : LinesKeepRules (source_lines read) (length (source_lines read)) → LinesKeepRules (lines_in source) (length (lines_in source))
+  kept_source h = subst (λ (ls : List LineData). LinesKeepRules ls (length ls)) same h
 
-  pub object_source : (o : ObjectData) (d : DraftData) (labels : List SymbolData) → o ≡ object_of_draft d → d ≡ draft_from_lines labels (lines_of read) → labels ≡ symbols_of (lines_of read)
-      → o ≡ object_of_draft (draft_from_lines (symbols_of (lines_in source)) (lines_in source))
+  pub object_source : (o : ObjectData) (d : DraftData) (labels : List SymbolData) → o ≡ object_of_draft d → d ≡ draft_from_lines labels (source_lines read) → labels ≡ symbols_of_lines (source_lines read)
+      → o ≡ object_of_draft (draft_from_lines (symbols_of_lines (lines_in source)) (lines_in source))
   object_source o d labels e f g =
-      e ∙ ap object_of_draft (f ∙ ap (λ ls. draft_from_lines ls (lines_of read)) g) ∙ ap (λ ls. object_of_draft (draft_from_lines (symbols_of ls) ls)) same
+      e ∙ ap object_of_draft (f ∙ ap (λ ls. draft_from_lines ls (source_lines read)) g) ∙ ap (λ ls. object_of_draft (draft_from_lines (symbols_of_lines ls) ls)) same
 
 -- the symbols of the items of all lines are those of the lines
 pub labels_source : (source : List ℕ) (read : Source) (items : List Item) (labels : List SymbolData) → labels ≡ (fold (draft_after_item []) empty_draft (map item_of items)).symbols
-    → items ≡ read.items.items → map item_of read.items.items ≡ items_in (lines_in source) → lines_of read ≡ lines_in source → labels ≡ symbols_of (lines_of read)
+    → items ≡ read.items.items → map item_of read.items.items ≡ items_in (lines_in source) → source_lines read ≡ lines_in source → labels ≡ symbols_of_lines (source_lines read)
 labels_source source read items labels e f g same =
     e
     ∙ ap (λ (is : List Item). (fold (draft_after_item []) empty_draft (map item_of is)).symbols) f
     ∙ ap (λ (is : List ItemData). (fold (draft_after_item []) empty_draft is).symbols) g
     ∙ sym (ap (λ (d : DraftData). d.symbols) (lines-items [] (lines_in source) empty_draft))
-    ∙ ap symbols_of (sym same)
+    ∙ ap symbols_of_lines (sym same)

@@ -7,8 +7,8 @@ use Rattle.std.proofs.lemmas.Bool.Decides.{Decides-eqb, nat_tests}
 use Rattle.tc_isa.specs.declared.fields.Fields.{Fields}
 use Rattle.tc_isa.specs.declared.table.Form.{Form}
 use Rattle.tc_isa.specs.declared.table.Form.TheVariants.{Sb, Sbr}
-use Rattle.tc_isa.specs.Rows.{RowData, listed, is_long}
-use Rattle.tc_isa.specs.Forms.{bounds, form_index}
+use Rattle.tc_isa.specs.Rows.{RowData, table_rows, is_32_bit_row}
+use Rattle.tc_isa.specs.Forms.{field_bounds, form_index}
 use Rattle.tc_isa.specs.Arithmetic.{sign_extended}
 use Rattle.tc_isa.specs.FromFields.{doubled_displacement, forward_distance}
 use Rattle.tc_stmt.specs.declared.want.Field.TheVariants.{K}
@@ -20,9 +20,9 @@ use Rattle.tc_stmt.specs.StatedRows.{can_take_symbol_directly}
 use Rattle.tc_asm.specs.declared.symbols.Place.{Place}
 use Rattle.tc_stmt.specs.Lines.{lines_in, items_in}
 use Rattle.tc_asm.specs.Symbols.{SymbolData, place_in}
-use Rattle.tc_asm.specs.Drafts.{DraftData, empty_draft, has_section, next_byte_offset, label_distance, drafted_fields, fields_with_target, fields_with_label_distance, row_fields_with_target, code_bytes, draft_after_item}
+use Rattle.tc_asm.specs.Drafts.{DraftData, empty_draft, has_current_section, next_byte_offset, label_distance, unbroken_fields, fields_with_target, fields_with_label_distance, row_fields_with_target, code_bytes, draft_after_item}
 use Rattle.tc_asm.specs.Rules.{content_rule, item_rule, items_rule}
-use Rattle.tc_asm.specs.DraftedSources.{symbols_of}
+use Rattle.tc_asm.specs.DraftedSources.{symbols_of_lines}
 use Rattle.tc_asm.specs.DraftInvariants.{EachInDraft}
 use Rattle.tc_asm.specs.Objects.{assembled_addend}
 use Rattle.tc_asm.specs.Statements.{StatementData, statement_data, statement_of_item}
@@ -82,16 +82,16 @@ forwards true s far odd = let none : s ≡ 0 = by (s == 0) refl far in rw none r
     by true e h = (Decides-eqb s 0).0 e
     by false e h = cc
 
-displacement_is : (form : Form) (f : Fields) (minus : Bool) (s : ℕ) → can_take_symbol_directly form ≡ true → is_far_displacement form (bounds form).k minus s ≡ false → is_odd_displacement s ≡ false →
-    cond (form_index form == 13) (forward_distance (record f { k = operand_number_modulo (bounds form).k minus (s / 2) })) (doubled_displacement 8 (record f { k = operand_number_modulo (bounds form).k minus (s / 2) })) ≡ cond minus ((2 ^ 32 - s) % 2 ^ 32) s
-unfolding bounds form_index
+displacement_is : (form : Form) (f : Fields) (minus : Bool) (s : ℕ) → can_take_symbol_directly form ≡ true → is_far_displacement form (field_bounds form).k minus s ≡ false → is_odd_displacement s ≡ false →
+    cond (form_index form == 13) (forward_distance (record f { k = operand_number_modulo (field_bounds form).k minus (s / 2) })) (doubled_displacement 8 (record f { k = operand_number_modulo (field_bounds form).k minus (s / 2) })) ≡ cond minus ((2 ^ 32 - s) % 2 ^ 32) s
+unfolding field_bounds form_index
 displacement_is Sb f minus s short far odd = both_ways minus s far odd
 displacement_is Sbr f minus s short far odd = forwards minus s far odd
 displacement_is _ f minus s short far odd = cc
 
-near_even : (row : RowData) (minus : Bool) (s : ℕ) → (displacement_rule row minus s == 15) ≡ true → (is_far_displacement row.form (bounds row.form).k minus s ≡ false) × (is_odd_displacement s ≡ false)
+near_even : (row : RowData) (minus : Bool) (s : ℕ) → (displacement_rule row minus s == 15) ≡ true → (is_far_displacement row.form (field_bounds row.form).k minus s ≡ false) × (is_odd_displacement s ≡ false)
 unfolding displacement_rule
-near_even row minus s e = by (is_far_displacement row.form (bounds row.form).k minus s) (is_long row) (is_odd_displacement s) e
+near_even row minus s e = by (is_far_displacement row.form (field_bounds row.form).k minus s) (is_32_bit_row row) (is_odd_displacement s) e
   where
     by : (far long odd : Bool) → (min (cond far (cond long 5 11) 15) (cond odd 6 15) == 15) ≡ true → (far ≡ false) × (odd ≡ false)
     by true true true e = cc
@@ -103,7 +103,7 @@ near_even row minus s e = by (is_far_displacement row.form (bounds row.form).k m
 
 at_most : (row : RowData) (minus : Bool) (s : ℕ) → displacement_rule row minus s ≤ 15
 unfolding displacement_rule
-at_most row minus s = by (is_far_displacement row.form (bounds row.form).k minus s) (is_long row) (is_odd_displacement s)
+at_most row minus s = by (is_far_displacement row.form (field_bounds row.form).k minus s) (is_32_bit_row row) (is_odd_displacement s)
   where
     by : (far long odd : Bool) → min (cond far (cond long 5 11) 15) (cond odd 6 15) ≤ 15
     by far long true = omega arith
@@ -113,13 +113,13 @@ at_most row minus s = by (is_far_displacement row.form (bounds row.form).k minus
 not_both : (b : Bool) → b ≡ true → b ≡ false → ⊥
 not_both b e g = cc
 
-displaced_is : (row : RowData) (minus : Bool) (s : ℕ) (f : Fields) → 15 ≤ (with_displacement row minus s (drafted_fields f)).rule →
-    ((displacement_rule row minus s == 15) ≡ true) × ((with_displacement row minus s (drafted_fields f)).fields ≡ record f { k = operand_number_modulo (bounds row.form).k minus (s / 2) })
+displaced_is : (row : RowData) (minus : Bool) (s : ℕ) (f : Fields) → 15 ≤ (with_displacement row minus s (unbroken_fields f)).rule →
+    ((displacement_rule row minus s == 15) ≡ true) × ((with_displacement row minus s (unbroken_fields f)).fields ≡ record f { k = operand_number_modulo (field_bounds row.form).k minus (s / 2) })
 unfolding with_displacement set_field
 displaced_is row minus s f h = by (displacement_rule row minus s == 15) refl h
   where
-    by : (b : Bool) → (displacement_rule row minus s == 15) ≡ b → 15 ≤ (cond b (with_value K (operand_number_modulo (bounds row.form).k minus (s / 2)) (drafted_fields f)) (with_rule (displacement_rule row minus s) (drafted_fields f))).rule
-        → (b ≡ true) × ((cond b (with_value K (operand_number_modulo (bounds row.form).k minus (s / 2)) (drafted_fields f)) (with_rule (displacement_rule row minus s) (drafted_fields f))).fields ≡ record f { k = operand_number_modulo (bounds row.form).k minus (s / 2) })
+    by : (b : Bool) → (displacement_rule row minus s == 15) ≡ b → 15 ≤ (cond b (with_value K (operand_number_modulo (field_bounds row.form).k minus (s / 2)) (unbroken_fields f)) (with_rule (displacement_rule row minus s) (unbroken_fields f))).rule
+        → (b ≡ true) × ((cond b (with_value K (operand_number_modulo (field_bounds row.form).k minus (s / 2)) (unbroken_fields f)) (with_rule (displacement_rule row minus s) (unbroken_fields f))).fields ≡ record f { k = operand_number_modulo (field_bounds row.form).k minus (s / 2) })
     by true e h = (refl, refl)
     by false e h =
         let most = at_most row minus s in
@@ -131,13 +131,13 @@ record IsJumped (labels : List SymbolData) (d : DraftData) (row : RowData) (f : 
   size : ℕ
   is : label_distance labels d r ≡ Some (minus, size)
   rule : (displacement_rule row minus size == 15) ≡ true
-  fields : (fields_with_label_distance labels d row f r).fields ≡ record f { k = operand_number_modulo (bounds row.form).k minus (size / 2) }
+  fields : (fields_with_label_distance labels d row f r).fields ≡ record f { k = operand_number_modulo (field_bounds row.form).k minus (size / 2) }
 
 jumped_is : (labels : List SymbolData) (d : DraftData) (row : RowData) (f : Fields) (r : ReferenceData) → 15 ≤ (fields_with_label_distance labels d row f r).rule → IsJumped labels d row f r
 unfolding fields_with_label_distance
 jumped_is labels d row f r h = by (label_distance labels d r) refl h
   where
-    by : (o : Option (Bool × ℕ)) → label_distance labels d r ≡ o → 15 ≤ (option_map_or (λ n. with_displacement row n.0 n.1 (drafted_fields f)) o (with_rule 10 (drafted_fields f))).rule → IsJumped labels d row f r
+    by : (o : Option (Bool × ℕ)) → label_distance labels d r ≡ o → 15 ≤ (option_map_or (λ n. with_displacement row n.0 n.1 (unbroken_fields f)) o (with_rule 10 (unbroken_fields f))).rule → IsJumped labels d row f r
     by None e h = absurd (omega arith)
     by (Some n) e h =
         let p = displaced_is row n.0 n.1 f h in
@@ -146,7 +146,7 @@ jumped_is labels d row f r h = by (label_distance labels d r) refl h
           size = n.1;
           is = e;
           rule = p.0;
-          fields = ap (λ (o : Option (Bool × ℕ)). (option_map_or (λ n. with_displacement row n.0 n.1 (drafted_fields f)) o (with_rule 10 (drafted_fields f))).fields) e ∙ p.1;
+          fields = ap (λ (o : Option (Bool × ℕ)). (option_map_or (λ n. with_displacement row n.0 n.1 (unbroken_fields f)) o (with_rule 10 (unbroken_fields f))).fields) e ∙ p.1;
         }
 
 -- ---- distances
@@ -174,7 +174,7 @@ distant labels d r minus size e = by (place_in labels r.name) refl e
         let now : x + 0 ≡ y + (x - y) = omega arith in
         subst P pair now
 
-    by_section : (a : Place) (b : Bool) → (has_section d && a.section == d.section) ≡ b → place_in labels r.name ≡ Some a
+    by_section : (a : Place) (b : Bool) → (has_current_section d && a.section == d.section) ≡ b → place_in labels r.name ≡ Some a
         → cond {A = Option (Bool × ℕ)} b
         (cond {A = Option (Bool × ℕ)} (nat_le (next_byte_offset d + cond r.minus r.size 0) (a.offset + cond r.minus 0 r.size))
         (Some (false, (a.offset + cond r.minus 0 r.size) - (next_byte_offset d + cond r.minus r.size 0)))
@@ -184,19 +184,19 @@ distant labels d r minus size e = by (place_in labels r.name) refl e
         record {
           label = a;
           is_label = is;
-          here = (Decides-eqb a.section d.section).0 (and_parts (has_section d) (a.section == d.section) there).1;
+          here = (Decides-eqb a.section d.section).0 (and_parts (has_current_section d) (a.section == d.section) there).1;
           apart = by_order (next_byte_offset d + cond r.minus r.size 0) (a.offset + cond r.minus 0 r.size) (nat_le (next_byte_offset d + cond r.minus r.size 0) (a.offset + cond r.minus 0 r.size)) refl g;
         }
     by_section a false there is g = cc
 
     by : (o : Option Place) → place_in labels r.name ≡ o
-        → option_map_or (λ (a : Place). cond {A = Option (Bool × ℕ)} (has_section d && a.section == d.section)
+        → option_map_or (λ (a : Place). cond {A = Option (Bool × ℕ)} (has_current_section d && a.section == d.section)
         (cond {A = Option (Bool × ℕ)} (nat_le (next_byte_offset d + cond r.minus r.size 0) (a.offset + cond r.minus 0 r.size))
         (Some (false, (a.offset + cond r.minus 0 r.size) - (next_byte_offset d + cond r.minus r.size 0)))
         (Some (true, (next_byte_offset d + cond r.minus r.size 0) - (a.offset + cond r.minus 0 r.size)))) None) o None ≡ Some (minus, size)
         → IsDistant labels d r minus size
     by None is g = cc
-    by (Some a) is g = by_section a (has_section d && a.section == d.section) refl is g
+    by (Some a) is g = by_section a (has_current_section d && a.section == d.section) refl is g
 
 -- a jump over a distance that fits, from the address of the jump
 gone : (less minus : Bool) (base place offset size s far : ℕ) → place + cond less size 0 + cond minus 0 s ≡ offset + cond less 0 size + cond minus s 0 → far ≡ cond minus ((2 ^ 32 - s) % 2 ^ 32) s → (minus ≡ true → s ≤ 2 ^ 32) →
@@ -206,8 +206,8 @@ gone true false base place offset size s far e h small = omega arith
 gone false true base place offset size s far e h small = let less = small refl in omega arith
 gone false false base place offset size s far e h small = omega arith
 
-back_small : (form : Form) (s : ℕ) → can_take_symbol_directly form ≡ true → is_far_displacement form (bounds form).k true s ≡ false → s ≤ 2 ^ 32
-unfolding bounds form_index
+back_small : (form : Form) (s : ℕ) → can_take_symbol_directly form ≡ true → is_far_displacement form (field_bounds form).k true s ≡ false → s ≤ 2 ^ 32
+unfolding field_bounds form_index
 back_small Sb s short far = let less = ltb-false 256 s far in omega arith
 back_small Sbr s short far = let none : s ≡ 0 = by (s == 0) refl far in omega arith
   where
@@ -228,7 +228,7 @@ jumps_row labels d row f r short h =
     let j = jumped_is labels d row f r h in
     let n = near_even row j.minus j.size j.rule in
     let p = distant labels d r j.minus j.size j.is in
-    let F : Bool → Type 0 = λ b. is_far_displacement row.form (bounds row.form).k b j.size ≡ false in
+    let F : Bool → Type 0 = λ b. is_far_displacement row.form (field_bounds row.form).k b j.size ≡ false in
     let far : short_jump_displacement row (fields_with_label_distance labels d row f r).fields ≡ cond j.minus ((2 ^ 32 - j.size) % 2 ^ 32) j.size
     = ap (short_jump_displacement row) j.fields ∙ displacement_is row.form f j.minus j.size short n.0 n.1 in
     record {
@@ -239,10 +239,10 @@ jumps_row labels d row f r short h =
           (λ e. back_small row.form j.size short (subst F e n.0));
     }
 
-resolved_jumped : (labels : List SymbolData) (d : DraftData) (k : ℕ) (f : Fields) (r : ReferenceData) (row : RowData) → slice_get listed k ≡ Some row → r.kind ≡ 0 → row_fields_with_target labels d k f (Some r) ≡ fields_with_label_distance labels d row f r
+resolved_jumped : (labels : List SymbolData) (d : DraftData) (k : ℕ) (f : Fields) (r : ReferenceData) (row : RowData) → slice_get table_rows k ≡ Some row → r.kind ≡ 0 → row_fields_with_target labels d k f (Some r) ≡ fields_with_label_distance labels d row f r
 resolved_jumped labels d k f r row at zero =
-    ap (λ (q : Option RowData). option_map_or (λ x. fields_with_target labels d x f (Some r)) q (drafted_fields f)) at
-    ∙ ap (λ b. cond b (fields_with_label_distance labels d row f r) (drafted_fields f)) ((Decides-eqb r.kind 0).1 zero)
+    ap (λ (q : Option RowData). option_map_or (λ x. fields_with_target labels d x f (Some r)) q (unbroken_fields f)) at
+    ∙ ap (λ b. cond b (fields_with_label_distance labels d row f r) (unbroken_fields f)) ((Decides-eqb r.kind 0).1 zero)
 
 jumps_code : (labels : List SymbolData) (d : DraftData) (k : ℕ) (f : Fields) (r : ReferenceData) (c : IsAddedCode k f (Some r)) → r.kind ≡ 0 → 15 ≤ (row_fields_with_target labels d k f (Some r)).rule → Jumps labels d r c.row (row_fields_with_target labels d k f (Some r)).fields
 jumps_code labels d k f r c zero h =
@@ -277,7 +277,7 @@ statement_jumps labels d _ t r h rule e is zero = cc
 
 pub short_jumps_law : ShortJumpsLaw
 short_jumps_law source index t r keeps at is zero =
-    let labels : List SymbolData = symbols_of (lines_in source) in
+    let labels : List SymbolData = symbols_of_lines (lines_in source) in
     let items : List ItemData = items_in (lines_in source) in
     let a = item_at labels items empty_draft index t at in
     let d : DraftData = fold (draft_after_item labels) empty_draft a.before in

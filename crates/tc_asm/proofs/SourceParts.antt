@@ -5,8 +5,8 @@ use Rattle.tc_object.specs.Objects.{SectionData}
 use Rattle.tc_stmt.specs.Items.{ItemData, code, bytes, zeros}
 use Rattle.tc_stmt.specs.Lines.{lines_in, items_in}
 use Rattle.tc_asm.specs.Symbols.{SymbolData}
-use Rattle.tc_asm.specs.Drafts.{PartData, DraftData, empty_draft, draft_after_item, part_names, bytes_at}
-use Rattle.tc_asm.specs.DraftedSources.{symbols_of, draft_in}
+use Rattle.tc_asm.specs.Drafts.{DraftSectionData, DraftData, empty_draft, draft_after_item, draft_section_names, draft_section_bytes_at}
+use Rattle.tc_asm.specs.DraftedSources.{symbols_of_lines, draft_in}
 use Rattle.tc_asm.specs.Rules.{items_rule}
 use Rattle.tc_asm.specs.Objects.{section_of}
 use Rattle.tc_asm.specs.Statements.{StatementData, statement_of_item, statement_with_room, statements_from, section_bytes, statements_in, sections_of_statements, sections_in}
@@ -14,14 +14,14 @@ use Rattle.tc_asm.proofs.LaidLaws.{drafted-bytes, lines-items}
 use Rattle.tc_asm.proofs.Uses.{HasField, HaveFields, uses_from, uses_in, GoodItems, GoodItem, all_uses}
 
 -- ---- a single part
-pub part_bytes : (ps : List PartData) (s : ℕ) (q : PartData) → slice_get ps s ≡ Some q → bytes_at ps s ≡ q.bytes
+pub part_bytes : (ps : List DraftSectionData) (s : ℕ) (q : DraftSectionData) → slice_get ps s ≡ Some q → draft_section_bytes_at ps s ≡ q.bytes
 part_bytes [] s q e = cc
-part_bytes (p ∷ ps) zero q e = let same : p ≡ q = cc in ap (λ (x : PartData). x.bytes) same
+part_bytes (p ∷ ps) zero q e = let same : p ≡ q = cc in ap (λ (x : DraftSectionData). x.bytes) same
 part_bytes (p ∷ ps) (suc s) q e = part_bytes ps s q e
 
-part_uses : (ps : List PartData) (s : ℕ) (q : PartData) → slice_get ps s ≡ Some q → uses_in ps s ≡ q.uses
+part_uses : (ps : List DraftSectionData) (s : ℕ) (q : DraftSectionData) → slice_get ps s ≡ Some q → uses_in ps s ≡ q.uses
 part_uses [] s q e = cc
-part_uses (p ∷ ps) zero q e = let same : p ≡ q = cc in ap (λ (x : PartData). x.uses) same
+part_uses (p ∷ ps) zero q e = let same : p ≡ q = cc in ap (λ (x : DraftSectionData). x.uses) same
 part_uses (p ∷ ps) (suc s) q e = part_uses ps s q e
 
 -- ---- the fields of valid items
@@ -45,24 +45,24 @@ good_fields labels (i ∷ is) d good =
     fields_behind (statement_with_room d (statement_of_item labels d i)) (statements_from labels (draft_after_item labels d i) is) (good_field labels d i good.0) (good_fields labels is (draft_after_item labels d i) good.1)
 
 -- ---- a source
-module _ (source : List ℕ) (good : GoodItems (symbols_of (lines_in source)) empty_draft (items_in (lines_in source))) (rules : 15 ≤ items_rule (symbols_of (lines_in source)) empty_draft (items_in (lines_in source))) where
+module _ (source : List ℕ) (good : GoodItems (symbols_of_lines (lines_in source)) empty_draft (items_in (lines_in source))) (rules : 15 ≤ items_rule (symbols_of_lines (lines_in source)) empty_draft (items_in (lines_in source))) where
   pub have : HaveFields (statements_in source)
-  have = good_fields (symbols_of (lines_in source)) (items_in (lines_in source)) empty_draft good
+  have = good_fields (symbols_of_lines (lines_in source)) (items_in (lines_in source)) empty_draft good
 
-  pub part_is : (s : ℕ) (q : PartData) → slice_get (draft_in source).parts s ≡ Some q → (q.bytes ≡ section_bytes s (statements_in source)) × (q.uses ≡ uses_from s 0 (statements_in source))
+  pub part_is : (s : ℕ) (q : DraftSectionData) → slice_get (draft_in source).parts s ≡ Some q → (q.bytes ≡ section_bytes s (statements_in source)) × (q.uses ≡ uses_from s 0 (statements_in source))
   part_is s q e = (
-    sym (part_bytes (draft_in source).parts s q e) ∙ drafted-bytes (symbols_of (lines_in source)) (lines_in source) s,
+    sym (part_bytes (draft_in source).parts s q e) ∙ drafted-bytes (symbols_of_lines (lines_in source)) (lines_in source) s,
     sym (part_uses (draft_in source).parts s q e)
-        ∙ ap (λ (d : DraftData). uses_in d.parts s) (lines-items (symbols_of (lines_in source)) (lines_in source) empty_draft)
-        ∙ all_uses s (symbols_of (lines_in source)) (items_in (lines_in source)) good rules,
+        ∙ ap (λ (d : DraftData). uses_in d.parts s) (lines-items (symbols_of_lines (lines_in source)) (lines_in source) empty_draft)
+        ∙ all_uses s (symbols_of_lines (lines_in source)) (items_in (lines_in source)) good rules,
   )
 
 -- ---- all sections
-from_parts : (ts : List StatementData) (number : ℕ) (parts : List PartData) → ((s : ℕ) → bytes_at parts s ≡ section_bytes (number + s) ts) → sections_of_statements ts number (part_names parts) ≡ map section_of parts
+from_parts : (ts : List StatementData) (number : ℕ) (parts : List DraftSectionData) → ((s : ℕ) → draft_section_bytes_at parts s ≡ section_bytes (number + s) ts) → sections_of_statements ts number (draft_section_names parts) ≡ map section_of parts
 from_parts ts number [] same = refl
 from_parts ts number (p ∷ ps) same =
     let here : section_bytes number ts ≡ p.bytes = ap (λ n. section_bytes n ts) (add_none number) ∙ sym (same 0) in
-    ap (λ (bs : List ℕ). record { name = p.name; bytes = bs } ∷ sections_of_statements ts (number + 1) (part_names ps)) here
+    ap (λ (bs : List ℕ). record { name = p.name; bytes = bs } ∷ sections_of_statements ts (number + 1) (draft_section_names ps)) here
     ∙ ap (λ (ss : List SectionData). section_of p ∷ ss) (from_parts ts (number + 1) ps (λ s. same (suc s) ∙ ap (λ n. section_bytes n ts) (moved number s)))
   where
     add_none : (n : ℕ) → n ≡ n + 0
@@ -74,7 +74,7 @@ from_parts ts number (p ∷ ps) same =
 -- the sections of a single source
 pub sections_are : (source : List ℕ) → sections_in source ≡ map section_of (draft_in source).parts
 unfolding sections_in
-sections_are source = from_parts (statements_in source) 0 (draft_in source).parts (λ s. drafted-bytes (symbols_of (lines_in source)) (lines_in source) s ∙ ap (λ n. section_bytes n (statements_in source)) (none_add s))
+sections_are source = from_parts (statements_in source) 0 (draft_in source).parts (λ s. drafted-bytes (symbols_of_lines (lines_in source)) (lines_in source) s ∙ ap (λ n. section_bytes n (statements_in source)) (none_add s))
   where
     none_add : (s : ℕ) → s ≡ 0 + s
     none_add s = omega arith

@@ -3,10 +3,10 @@ use Rattle.std.proofs.Common.{◌≡◌, ◌≤◌, ◌⊎◌, ◌&&◌, ◌++�
 use Rattle.std.specs.Prelude.{slice_get, fold}
 use Rattle.tc_stmt.specs.Items.{ItemData}
 use Rattle.tc_asm.specs.Symbols.{SymbolData}
-use Rattle.tc_asm.specs.Drafts.{DraftData, has_section, has_room, empty_draft, draft_after_item, next_byte_offset, bytes_at}
+use Rattle.tc_asm.specs.Drafts.{DraftData, has_current_section, has_room, empty_draft, draft_after_item, next_byte_offset, draft_section_bytes_at}
 use Rattle.tc_asm.specs.Rules.{item_rule, items_rule}
 use Rattle.tc_asm.specs.DraftInvariants.{EachInDraft}
-use Rattle.tc_asm.specs.Statements.{StatementData, statement_of_item, statement_with_room, statements_from, section_bytes, offset_of}
+use Rattle.tc_asm.specs.Statements.{StatementData, statement_of_item, statement_with_room, statements_from, section_bytes, statement_offset}
 use Rattle.tc_stmt.proofs.ListItems.{InRest, in_front_or_rest, take_behind}
 use Rattle.tc_asm.proofs.Uses.{place_bytes, items_bytes, fits, fits_too}
 
@@ -21,7 +21,7 @@ pub record ItemAt (labels : List SymbolData) (d : DraftData) (items : List ItemD
 
 standing_is : (d : DraftData) (c : Option StatementData) (j : ℕ) (t : StatementData) → slice_get (statement_with_room d c) j ≡ Some t → (j ≡ 0) × (c ≡ Some t)
 standing_is d None j t e = cc
-standing_is d (Some x) j t e = by (has_section d && has_room d (length x.bytes)) j e
+standing_is d (Some x) j t e = by (has_current_section d && has_room d (length x.bytes)) j e
   where
     by : (b : Bool) (i : ℕ) → slice_get (cond b (x ∷ []) []) i ≡ Some t → (i ≡ 0) × (Some x ≡ Some t)
     by true zero e = (refl, e)
@@ -68,9 +68,9 @@ rule_there labels (x ∷ xs) after i d h = rule_there labels xs after i (draft_a
 
 -- the offset of a statement is that of the next byte of its section
 pub offset_there : (labels : List SymbolData) (items : List ItemData) (j : ℕ) (t : StatementData) (a : ItemAt labels empty_draft items j t) → (fold (draft_after_item labels) empty_draft a.before).section ≡ t.section →
-    offset_of (statements_from labels empty_draft items) j t.section ≡ next_byte_offset (fold (draft_after_item labels) empty_draft a.before)
+    statement_offset (statements_from labels empty_draft items) j t.section ≡ next_byte_offset (fold (draft_after_item labels) empty_draft a.before)
 offset_there labels items j t a same =
     ap (λ (ts : List StatementData). length (section_bytes t.section ts)) a.front
     ∙ ap length (sym (items_bytes t.section labels a.before))
-    ∙ ap (λ s. length (bytes_at (fold (draft_after_item labels) empty_draft a.before).parts s)) (sym same)
+    ∙ ap (λ s. length (draft_section_bytes_at (fold (draft_after_item labels) empty_draft a.before).parts s)) (sym same)
     ∙ sym (place_bytes (fold (draft_after_item labels) empty_draft a.before))

@@ -4,7 +4,7 @@ use Rattle.std.specs.Prelude.{slice_get, fold}
 use Rattle.std.specs.Option.{option_map_or}
 use Rattle.std.proofs.lemmas.Bool.Decides.{nat_tests}
 use Rattle.tc_isa.specs.declared.fields.Fields.{Fields}
-use Rattle.tc_isa.specs.Rows.{RowData, listed}
+use Rattle.tc_isa.specs.Rows.{RowData, table_rows}
 use Rattle.tc_isa.specs.Spelling.{spelling}
 use Rattle.tc_isa.specs.Relocations.{is_relocation_kind}
 use Rattle.tc_reloc.specs.Fields.{reloc_field_bound, bits_outside_reloc_field, reloc_field_bits, with_reloc_field}
@@ -13,8 +13,8 @@ use Rattle.tc_stmt.specs.Items.{ReferenceData, ItemData, section, code, bytes}
 use Rattle.tc_stmt.proofs.Cases.{by_test}
 use Rattle.tc_stmt.specs.Lines.{lines_in, items_in}
 use Rattle.tc_asm.specs.Symbols.{SymbolData}
-use Rattle.tc_asm.specs.Drafts.{DraftData, empty_draft, drafted_fields, fields_with_target, fields_with_label_distance, assembled_row_code, row_fields_with_target, code_bytes, draft_after_item}
-use Rattle.tc_asm.specs.DraftedSources.{symbols_of}
+use Rattle.tc_asm.specs.Drafts.{DraftData, empty_draft, unbroken_fields, fields_with_target, fields_with_label_distance, assembled_row_code, row_fields_with_target, code_bytes, draft_after_item}
+use Rattle.tc_asm.specs.DraftedSources.{symbols_of_lines}
 use Rattle.tc_asm.specs.DraftInvariants.{EachInDraft}
 use Rattle.tc_asm.specs.Statements.{StatementData, statement_data, statement_of_item}
 use Rattle.tc_asm.specs.SourceRelocations.{ZeroFieldsLaw}
@@ -32,13 +32,13 @@ code_spelled labels d k f o c =
     ∙ ap (λ b. cond b (spelling c.row (row_fields_with_target labels d k f o).fields) []) (fits_true c.row (row_fields_with_target labels d k f o).fields (resolved_fits labels d k f o c.row c.at c.symbols c.fits))
 
 -- only a target that is resolved at once changes a field
-pub given_fields : (labels : List SymbolData) (d : DraftData) (k : ℕ) (f : Fields) (o : Option ReferenceData) (row : RowData) → slice_get listed k ≡ Some row → is_resolved_jump o ≡ false → (row_fields_with_target labels d k f o).fields ≡ f
-given_fields labels d k f None row at e = ap (λ (q : Option RowData). (option_map_or (λ x. fields_with_target labels d x f None) q (drafted_fields f)).fields) at
+pub given_fields : (labels : List SymbolData) (d : DraftData) (k : ℕ) (f : Fields) (o : Option ReferenceData) (row : RowData) → slice_get table_rows k ≡ Some row → is_resolved_jump o ≡ false → (row_fields_with_target labels d k f o).fields ≡ f
+given_fields labels d k f None row at e = ap (λ (q : Option RowData). (option_map_or (λ x. fields_with_target labels d x f None) q (unbroken_fields f)).fields) at
 given_fields labels d k f (Some r) row at e =
-    ap (λ (q : Option RowData). (option_map_or (λ x. fields_with_target labels d x f (Some r)) q (drafted_fields f)).fields) at
+    ap (λ (q : Option RowData). (option_map_or (λ x. fields_with_target labels d x f (Some r)) q (unbroken_fields f)).fields) at
     ∙ by (r.kind == 0) e
   where
-    by : (b : Bool) → b ≡ false → (cond b (fields_with_label_distance labels d row f r) (drafted_fields f)).fields ≡ f
+    by : (b : Bool) → b ≡ false → (cond b (fields_with_label_distance labels d row f r) (unbroken_fields f)).fields ≡ f
     by true e = cc
     by false e = refl
 
@@ -86,7 +86,7 @@ content_zero labels d _ t r h e is waits = cc
 
 pub unfilled_law : ZeroFieldsLaw
 unfilled_law source index t r at is waits =
-    let labels : List SymbolData = symbols_of (lines_in source) in
+    let labels : List SymbolData = symbols_of_lines (lines_in source) in
     let a = item_at labels (items_in (lines_in source)) empty_draft index t at in
     let E : List ItemData → Type 0 = λ xs. EachInDraft IsAddedItem xs in
     content_zero labels (fold (draft_after_item labels) empty_draft a.before) a.item t r (each_there IsAddedItem a.before a.after a.item (subst E a.are (source_are source))) a.content is waits

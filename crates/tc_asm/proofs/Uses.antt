@@ -9,8 +9,8 @@ use Rattle.std.proofs.lemmas.List.Sums.{fold-append}
 use Rattle.tc_stmt.specs.Names.{is_source_name}
 use Rattle.tc_stmt.specs.Items.{ReferenceData, ItemData, label, section, global, code, bytes, zeros}
 use Rattle.tc_asm.specs.Symbols.{SymbolData, with_name}
-use Rattle.tc_asm.specs.Drafts.{UseData, PartData, DraftData, part, empty_draft, next_byte_offset, has_section, has_room, with_label, number_of_part, with_current_section, with_global, with_part_bytes, with_bytes, with_part_use, with_use, with_reference, with_content, code_bytes, draft_after_item, part_size_at, bytes_at}
-use Rattle.tc_asm.specs.DraftedSources.{with_line}
+use Rattle.tc_asm.specs.Drafts.{UseData, DraftSectionData, DraftData, part, empty_draft, next_byte_offset, has_current_section, has_room, with_label, section_number, with_current_section, with_global, with_section_bytes, with_bytes, with_section_use, with_use, with_reference, with_content, code_bytes, draft_after_item, draft_section_size_at, draft_section_bytes_at}
+use Rattle.tc_asm.specs.DraftedSources.{draft_after_line}
 use Rattle.tc_isa.specs.Relocations.{is_relocation_kind}
 use Rattle.tc_asm.specs.Rules.{section_rule, byte_limit_rule, symbol_limit_rule, reloc_limit_rule, reference_rule, content_rule, item_rule, items_rule}
 use Rattle.tc_asm.specs.Statements.{StatementData, statement_data, statement_of_item, statement_with_room, statements_from, section_bytes, has_unresolved_symbol}
@@ -39,26 +39,26 @@ HaveFields [] = Unit {0}
 HaveFields (t ∷ ts) = HasField t × HaveFields ts
 
 -- the uses of the section of this number
-abbrev pub uses_in : List PartData → ℕ → List UseData
+abbrev pub uses_in : List DraftSectionData → ℕ → List UseData
 uses_in [] s = []
 uses_in (p ∷ ps) zero = p.uses
 uses_in (p ∷ ps) (suc s) = uses_in ps s
 
 -- ---- parts
-uses_in-push : (ps : List PartData) (p : PartData) (s : ℕ) → p.uses ≡ [] → uses_in (ps ++ p ∷ []) s ≡ uses_in ps s
+uses_in-push : (ps : List DraftSectionData) (p : DraftSectionData) (s : ℕ) → p.uses ≡ [] → uses_in (ps ++ p ∷ []) s ≡ uses_in ps s
 uses_in-push [] p zero e = e
 uses_in-push [] p (suc s) e = refl
 uses_in-push (x ∷ xs) p zero e = refl
 uses_in-push (x ∷ xs) p (suc s) e = uses_in-push xs p s e
 
-uses_in-same : (f : PartData → PartData) → ((p : PartData) → (f p).uses ≡ p.uses) → (ps : List PartData) (i s : ℕ) → uses_in (changed f ps i) s ≡ uses_in ps s
+uses_in-same : (f : DraftSectionData → DraftSectionData) → ((p : DraftSectionData) → (f p).uses ≡ p.uses) → (ps : List DraftSectionData) (i s : ℕ) → uses_in (changed f ps i) s ≡ uses_in ps s
 uses_in-same f h [] i s = refl
 uses_in-same f h (p ∷ ps) zero zero = h p
 uses_in-same f h (p ∷ ps) zero (suc s) = refl
 uses_in-same f h (p ∷ ps) (suc i) zero = refl
 uses_in-same f h (p ∷ ps) (suc i) (suc s) = uses_in-same f h ps i s
 
-uses_in-grown : (us : List UseData) (ps : List PartData) (i s : ℕ) → i < length ps → uses_in (changed (λ p. record p { uses = p.uses ++ us }) ps i) s ≡ uses_in ps s ++ cond (i == s) us []
+uses_in-grown : (us : List UseData) (ps : List DraftSectionData) (i s : ℕ) → i < length ps → uses_in (changed (λ p. record p { uses = p.uses ++ us }) ps i) s ≡ uses_in ps s ++ cond (i == s) us []
 uses_in-grown us [] i s h = absurd (omega arith)
 uses_in-grown us (p ∷ ps) zero zero h = refl
 uses_in-grown us (p ∷ ps) zero (suc s) h = rw (eqb-zero-suc s) (sym (append-nil (uses_in ps s)))
@@ -66,12 +66,12 @@ uses_in-grown us (p ∷ ps) (suc i) zero h = rw (eqb-suc-zero i) (sym (append-ni
 uses_in-grown us (p ∷ ps) (suc i) (suc s) h = rw (eqb-suc-suc i s) (uses_in-grown us ps i s (omega arith))
 
 -- the size of a section is the number of its bytes
-size_bytes : (ps : List PartData) (s : ℕ) → part_size_at ps s ≡ length (bytes_at ps s)
+size_bytes : (ps : List DraftSectionData) (s : ℕ) → draft_section_size_at ps s ≡ length (draft_section_bytes_at ps s)
 size_bytes [] s = refl
 size_bytes (p ∷ ps) zero = refl
 size_bytes (p ∷ ps) (suc s) = size_bytes ps s
 
-pub place_bytes : (d : DraftData) → next_byte_offset d ≡ length (bytes_at d.parts d.section)
+pub place_bytes : (d : DraftData) → next_byte_offset d ≡ length (draft_section_bytes_at d.parts d.section)
 unfolding next_byte_offset
 place_bytes d = size_at-get d.parts d.section ∙ size_bytes d.parts d.section
 
@@ -102,15 +102,15 @@ then_fifteen false n less h = absurd (omega arith)
 module _ (s : ℕ) where
   -- bytes without a symbol
   bytes_uses : (d : DraftData) (bs : List ℕ) → uses_in (with_bytes d bs).parts s ≡ uses_in d.parts s
-  unfolding with_bytes with_part_bytes
+  unfolding with_bytes with_section_bytes
   bytes_uses d bs =
-      by_test (λ (e : DraftData). uses_in e.parts s ≡ uses_in d.parts s) (has_section d && has_room d (length bs)) _ d
-      (λ b. ap (λ (ps : List PartData). uses_in ps s) (changed-set (λ p. record p { bytes = p.bytes ++ bs }) d.parts d.section) ∙ uses_in-same (λ p. record p { bytes = p.bytes ++ bs }) (λ p. refl) d.parts d.section s)
+      by_test (λ (e : DraftData). uses_in e.parts s ≡ uses_in d.parts s) (has_current_section d && has_room d (length bs)) _ d
+      (λ b. ap (λ (ps : List DraftSectionData). uses_in ps s) (changed-set (λ p. record p { bytes = p.bytes ++ bs }) d.parts d.section) ∙ uses_in-same (λ p. record p { bytes = p.bytes ++ bs }) (λ p. refl) d.parts d.section s)
       (λ b. refl)
 
   -- a statement that doesn't wait has no use
   closed_uses : (n : ℕ) (d : DraftData) (bs : List ℕ) (o : Option ReferenceData) → has_unresolved_symbol o ≡ false → uses_from s n (statement_with_room d (Some (statement_data d.section bs o))) ≡ []
-  closed_uses n d bs o closed = by (has_section d && has_room d (length bs))
+  closed_uses n d bs o closed = by (has_current_section d && has_room d (length bs))
     where
       none : (p : Option ReferenceData) → has_unresolved_symbol p ≡ false → use_at n p ≡ []
       none None e = refl
@@ -129,18 +129,18 @@ module _ (s : ℕ) where
     abbrev seen_draft : DraftData
     seen_draft = record d { symbols = with_name d.symbols r.name }
 
-    used_parts : d.section < length d.parts → uses_in (with_part_use d.parts d.section (record { offset = next_byte_offset d; reference = r })) s ≡ uses_in d.parts s ++ cond (d.section == s) (record { offset = next_byte_offset d; reference = r } ∷ []) []
-    unfolding with_part_use
+    used_parts : d.section < length d.parts → uses_in (with_section_use d.parts d.section (record { offset = next_byte_offset d; reference = r })) s ≡ uses_in d.parts s ++ cond (d.section == s) (record { offset = next_byte_offset d; reference = r } ∷ []) []
+    unfolding with_section_use
     used_parts less =
-        ap (λ (ps : List PartData). uses_in ps s) (changed-set (λ p. record p { uses = p.uses ++ record { offset = next_byte_offset d; reference = r } ∷ [] }) d.parts d.section)
+        ap (λ (ps : List DraftSectionData). uses_in ps s) (changed-set (λ p. record p { uses = p.uses ++ record { offset = next_byte_offset d; reference = r } ∷ [] }) d.parts d.section)
         ∙ uses_in-grown (record { offset = next_byte_offset d; reference = r } ∷ []) d.parts d.section s less
 
-    open_uses : has_section d ≡ true → has_room d (length bs) ≡ true → length bs ≡ 4 → is_relocation_kind r.kind ≡ true → nat_lt d.count 65535 ≡ true
+    open_uses : has_current_section d ≡ true → has_room d (length bs) ≡ true → length bs ≡ 4 → is_relocation_kind r.kind ≡ true → nat_lt d.count 65535 ≡ true
         → uses_in (with_use seen_draft (length bs) r).parts s ≡ uses_in d.parts s ++ cond (d.section == s) (record { offset = next_byte_offset d; reference = r } ∷ []) []
     unfolding with_use next_byte_offset
     open_uses there room four kind few =
-        ap (λ b. uses_in (cond b (record seen_draft { parts = with_part_use d.parts d.section (record { offset = next_byte_offset d; reference = r }); count = d.count + 1 }) seen_draft).parts s)
-        (all_true (has_section d) (has_room d (length bs)) (length bs == 4) (is_relocation_kind r.kind) (nat_lt d.count 65535) there room ((Decides-eqb (length bs) 4).1 four) kind few)
+        ap (λ b. uses_in (cond b (record seen_draft { parts = with_section_use d.parts d.section (record { offset = next_byte_offset d; reference = r }); count = d.count + 1 }) seen_draft).parts s)
+        (all_true (has_current_section d) (has_room d (length bs)) (length bs == 4) (is_relocation_kind r.kind) (nat_lt d.count 65535) there room ((Decides-eqb (length bs) 4).1 four) kind few)
         ∙ used_parts (ltb-true d.section (length d.parts) there)
       where
         all_true : (a b c e f : Bool) → a ≡ true → b ≡ true → c ≡ true → e ≡ true → f ≡ true → (a && b && c && e && f) ≡ true
@@ -149,7 +149,7 @@ module _ (s : ℕ) where
     closed_use : is_relocation_kind r.kind ≡ false → uses_in (with_use seen_draft (length bs) r).parts s ≡ uses_in d.parts s
     unfolding with_use
     closed_use kind =
-        by_test (λ (e : DraftData). uses_in e.parts s ≡ uses_in d.parts s) (has_section d && has_room d (length bs) && length bs == 4 && is_relocation_kind r.kind && nat_lt d.count 65535) _ seen_draft
+        by_test (λ (e : DraftData). uses_in e.parts s ≡ uses_in d.parts s) (has_current_section d && has_room d (length bs) && length bs == 4 && is_relocation_kind r.kind && nat_lt d.count 65535) _ seen_draft
         (λ b. let p = and_parts _ _ (and_parts _ _ b).0 in absurd (not_both (is_relocation_kind r.kind) p.1 kind))
         (λ b. refl)
       where
@@ -158,11 +158,11 @@ module _ (s : ℕ) where
 
     -- a statement that waits
     waiting : AddedBytesFitSymbol bs (Some r) → 15 ≤ content_rule d (length bs) (Some r) → is_relocation_kind r.kind ≡ true
-        → uses_in (with_content d bs (Some r)).parts s ≡ uses_in d.parts s ++ uses_from s (length (bytes_at d.parts s)) (statement_with_room d (Some (statement_data d.section bs (Some r))))
+        → uses_in (with_content d bs (Some r)).parts s ≡ uses_in d.parts s ++ uses_from s (length (draft_section_bytes_at d.parts s)) (statement_with_room d (Some (statement_data d.section bs (Some r))))
     unfolding with_reference
     waiting good rule kind =
         let rest = fits_too (section_rule d) (min (byte_limit_rule d (length bs)) (reference_rule d (Some r))) rule in
-        let there : has_section d ≡ true = then_fifteen (has_section d) 8 (omega arith) (fits (section_rule d) (min (byte_limit_rule d (length bs)) (reference_rule d (Some r))) rule) in
+        let there : has_current_section d ≡ true = then_fifteen (has_current_section d) 8 (omega arith) (fits (section_rule d) (min (byte_limit_rule d (length bs)) (reference_rule d (Some r))) rule) in
         let room : has_room d (length bs) ≡ true = then_fifteen (has_room d (length bs)) 13 (omega arith) (fits (byte_limit_rule d (length bs)) (reference_rule d (Some r)) rest) in
         let reloc = fits_too (symbol_limit_rule d r.name) (reloc_limit_rule d r) (fits_too (byte_limit_rule d (length bs)) (reference_rule d (Some r)) rest) in
         let few : nat_lt d.count 65535 ≡ true = by_count (nat_lt d.count 65535) (is_relocation_kind r.kind) kind reloc in
@@ -176,36 +176,36 @@ module _ (s : ℕ) where
         by_count false true k h = absurd (omega arith)
         by_count false false k h = cc
 
-        standing_uses : has_section d ≡ true → has_room d (length bs) ≡ true → is_relocation_kind r.kind ≡ true
-            → cond {A = List UseData} (d.section == s) (a_use (next_byte_offset d) r ∷ []) [] ≡ uses_from s (length (bytes_at d.parts s)) (statement_with_room d (Some (statement_data d.section bs (Some r))))
+        standing_uses : has_current_section d ≡ true → has_room d (length bs) ≡ true → is_relocation_kind r.kind ≡ true
+            → cond {A = List UseData} (d.section == s) (a_use (next_byte_offset d) r ∷ []) [] ≡ uses_from s (length (draft_section_bytes_at d.parts s)) (statement_with_room d (Some (statement_data d.section bs (Some r))))
         standing_uses there room kind =
             by_section (d.section == s) refl
-            ∙ ap (λ b. uses_from s (length (bytes_at d.parts s)) (cond b (statement_data d.section bs (Some r) ∷ []) [])) (sym (and_from (has_section d) (has_room d (length bs)) there room))
+            ∙ ap (λ b. uses_from s (length (draft_section_bytes_at d.parts s)) (cond b (statement_data d.section bs (Some r) ∷ []) [])) (sym (and_from (has_current_section d) (has_room d (length bs)) there room))
           where
-            by_section : (b : Bool) → (d.section == s) ≡ b → cond {A = List UseData} b (a_use (next_byte_offset d) r ∷ []) [] ≡ cond {A = List UseData} b (cond {A = List UseData} (is_relocation_kind r.kind) (a_use (length (bytes_at d.parts s)) r ∷ []) [] ++ []) []
+            by_section : (b : Bool) → (d.section == s) ≡ b → cond {A = List UseData} b (a_use (next_byte_offset d) r ∷ []) [] ≡ cond {A = List UseData} b (cond {A = List UseData} (is_relocation_kind r.kind) (a_use (length (draft_section_bytes_at d.parts s)) r ∷ []) [] ++ []) []
             by_section true e =
                 let same : d.section ≡ s = (Decides-eqb d.section s).0 e in
-                ap (λ n. a_use n r ∷ []) (place_bytes d ∙ ap (λ n. length (bytes_at d.parts n)) same)
-                ∙ ap (λ b. cond {A = List UseData} b (a_use (length (bytes_at d.parts s)) r ∷ []) [] ++ []) (sym kind)
+                ap (λ n. a_use n r ∷ []) (place_bytes d ∙ ap (λ n. length (draft_section_bytes_at d.parts n)) same)
+                ∙ ap (λ b. cond {A = List UseData} b (a_use (length (draft_section_bytes_at d.parts s)) r ∷ []) [] ++ []) (sym kind)
             by_section false e = refl
 
     -- a statement that doesn't wait
-    done : is_relocation_kind r.kind ≡ false → uses_in (with_content d bs (Some r)).parts s ≡ uses_in d.parts s ++ uses_from s (length (bytes_at d.parts s)) (statement_with_room d (Some (statement_data d.section bs (Some r))))
+    done : is_relocation_kind r.kind ≡ false → uses_in (with_content d bs (Some r)).parts s ≡ uses_in d.parts s ++ uses_from s (length (draft_section_bytes_at d.parts s)) (statement_with_room d (Some (statement_data d.section bs (Some r))))
     unfolding with_reference
     done kind =
         bytes_uses (with_reference d (length bs) (Some r)) bs
         ∙ by_test (λ (e : DraftData). uses_in e.parts s ≡ uses_in d.parts s) (is_source_name r.name) (with_use seen_draft (length bs) r) d (λ b. closed_use kind) (λ b. refl)
         ∙ sym (append-nil (uses_in d.parts s))
-        ∙ ap (λ (us : List UseData). uses_in d.parts s ++ us) (sym (closed_uses (length (bytes_at d.parts s)) d bs (Some r) kind))
+        ∙ ap (λ (us : List UseData). uses_in d.parts s ++ us) (sym (closed_uses (length (draft_section_bytes_at d.parts s)) d bs (Some r) kind))
 
   content_uses : (d : DraftData) (bs : List ℕ) (o : Option ReferenceData) → AddedBytesFitSymbol bs o → 15 ≤ content_rule d (length bs) o
-      → uses_in (with_content d bs o).parts s ≡ uses_in d.parts s ++ uses_from s (length (bytes_at d.parts s)) (statement_with_room d (Some (statement_data d.section bs o)))
+      → uses_in (with_content d bs o).parts s ≡ uses_in d.parts s ++ uses_from s (length (draft_section_bytes_at d.parts s)) (statement_with_room d (Some (statement_data d.section bs o)))
   unfolding with_reference
   content_uses d bs None good rule =
-      bytes_uses d bs ∙ sym (append-nil (uses_in d.parts s)) ∙ ap (λ (us : List UseData). uses_in d.parts s ++ us) (sym (closed_uses (length (bytes_at d.parts s)) d bs None refl))
+      bytes_uses d bs ∙ sym (append-nil (uses_in d.parts s)) ∙ ap (λ (us : List UseData). uses_in d.parts s ++ us) (sym (closed_uses (length (draft_section_bytes_at d.parts s)) d bs None refl))
   content_uses d bs (Some r) good rule = by (is_relocation_kind r.kind) refl
     where
-      by : (b : Bool) → is_relocation_kind r.kind ≡ b → uses_in (with_content d bs (Some r)).parts s ≡ uses_in d.parts s ++ uses_from s (length (bytes_at d.parts s)) (statement_with_room d (Some (statement_data d.section bs (Some r))))
+      by : (b : Bool) → is_relocation_kind r.kind ≡ b → uses_in (with_content d bs (Some r)).parts s ≡ uses_in d.parts s ++ uses_from s (length (draft_section_bytes_at d.parts s)) (statement_with_room d (Some (statement_data d.section bs (Some r))))
       by true k = waiting d bs r good rule k
       by false k = done d bs r k
 
@@ -223,12 +223,12 @@ module _ (s : ℕ) where
   entered_uses : (d : DraftData) (name : List ℕ) → uses_in (with_current_section d name).parts s ≡ uses_in d.parts s
   unfolding with_current_section
   entered_uses d name =
-      by_test (λ (e : DraftData). uses_in e.parts s ≡ uses_in d.parts s) (not (is_source_name name)) d (cond (nat_lt (number_of_part d.parts name) (length d.parts)) (record d { section = number_of_part d.parts name }) (cond (nat_lt (length d.parts) 64) (record d { section = length d.parts; parts = d.parts ++ part name [] [] ∷ [] }) d)) (λ b. refl) (λ b.
-      by_test (λ (e : DraftData). uses_in e.parts s ≡ uses_in d.parts s) (nat_lt (number_of_part d.parts name) (length d.parts)) (record d { section = number_of_part d.parts name }) (cond (nat_lt (length d.parts) 64) (record d { section = length d.parts; parts = d.parts ++ part name [] [] ∷ [] }) d) (λ c. refl) (λ c.
+      by_test (λ (e : DraftData). uses_in e.parts s ≡ uses_in d.parts s) (not (is_source_name name)) d (cond (nat_lt (section_number d.parts name) (length d.parts)) (record d { section = section_number d.parts name }) (cond (nat_lt (length d.parts) 64) (record d { section = length d.parts; parts = d.parts ++ part name [] [] ∷ [] }) d)) (λ b. refl) (λ b.
+      by_test (λ (e : DraftData). uses_in e.parts s ≡ uses_in d.parts s) (nat_lt (section_number d.parts name) (length d.parts)) (record d { section = section_number d.parts name }) (cond (nat_lt (length d.parts) 64) (record d { section = length d.parts; parts = d.parts ++ part name [] [] ∷ [] }) d) (λ c. refl) (λ c.
       by_test (λ (e : DraftData). uses_in e.parts s ≡ uses_in d.parts s) (nat_lt (length d.parts) 64) (record d { section = length d.parts; parts = d.parts ++ part name [] [] ∷ [] }) d (λ f. uses_in-push d.parts (part name [] []) s refl) (λ f. refl)))
 
   stepped_uses : (labels : List SymbolData) (d : DraftData) (i : ItemData) → GoodItem labels d i → 15 ≤ item_rule labels d i
-      → uses_in (draft_after_item labels d i).parts s ≡ uses_in d.parts s ++ uses_from s (length (bytes_at d.parts s)) (statement_with_room d (statement_of_item labels d i))
+      → uses_in (draft_after_item labels d i).parts s ≡ uses_in d.parts s ++ uses_from s (length (draft_section_bytes_at d.parts s)) (statement_with_room d (statement_of_item labels d i))
   unfolding draft_after_item item_rule
   stepped_uses labels d (label name) good rule = none_more d (with_label d name) (label_uses d name)
   stepped_uses labels d (section name) good rule = none_more d (with_current_section d name) (entered_uses d name)
@@ -237,7 +237,7 @@ module _ (s : ℕ) where
   stepped_uses labels d (bytes bs r) good rule = content_uses d bs r good rule
   stepped_uses labels d (zeros n) good rule =
       bytes_uses d (replicate n 0) ∙ sym (append-nil (uses_in d.parts s))
-      ∙ ap (λ (us : List UseData). uses_in d.parts s ++ us) (sym (closed_uses (length (bytes_at d.parts s)) d (replicate n 0) None refl))
+      ∙ ap (λ (us : List UseData). uses_in d.parts s ++ us) (sym (closed_uses (length (draft_section_bytes_at d.parts s)) d (replicate n 0) None refl))
 
   -- ---- all items
   uses-append : (n : ℕ) (xs ys : List StatementData) → uses_from s n (xs ++ ys) ≡ uses_from s n xs ++ uses_from s (n + length (section_bytes s xs)) ys
@@ -262,8 +262,8 @@ module _ (s : ℕ) where
       ∙ sym (append_assoc (statement_with_room d (statement_of_item labels d x)) (statements_from labels (draft_after_item labels d x) xs) (statements_from labels (fold (draft_after_item labels) (draft_after_item labels d x) xs) ys))
 
   -- the bytes of items in a section
-  pub items_bytes : (labels : List SymbolData) (is : List ItemData) → bytes_at (fold (draft_after_item labels) empty_draft is).parts s ≡ section_bytes s (statements_from labels empty_draft is)
-  unfolding with_line
+  pub items_bytes : (labels : List SymbolData) (is : List ItemData) → draft_section_bytes_at (fold (draft_after_item labels) empty_draft is).parts s ≡ section_bytes s (statements_from labels empty_draft is)
+  unfolding draft_after_line
   items_bytes labels is =
       drafted-bytes labels (record { rule = 15; items = is } ∷ []) s ∙ ap (λ (l : List ItemData). section_bytes s (statements_from labels empty_draft l)) (append-nil is)
 
@@ -277,11 +277,11 @@ module _ (s : ℕ) where
       let step : fold (draft_after_item labels) empty_draft next ≡ draft_after_item labels d i = fold-append (draft_after_item labels) empty_draft before (i ∷ []) in
       let more : statements_from labels empty_draft next ≡ statements_from labels empty_draft before ++ statement_with_room d (statement_of_item labels d i)
       = statements-append labels empty_draft before (i ∷ []) ∙ ap (λ (ts : List StatementData). statements_from labels empty_draft before ++ ts) (append-nil (statement_with_room d (statement_of_item labels d i))) in
-      let size : length (bytes_at d.parts s) ≡ 0 + length (section_bytes s (statements_from labels empty_draft before)) = omega (arith, ap length (items_bytes labels before)) in
+      let size : length (draft_section_bytes_at d.parts s) ≡ 0 + length (section_bytes s (statements_from labels empty_draft before)) = omega (arith, ap length (items_bytes labels before)) in
       let here : uses_in (fold (draft_after_item labels) empty_draft next).parts s ≡ uses_from s 0 (statements_from labels empty_draft next)
       = ap (λ (e : DraftData). uses_in e.parts s) step
       ∙ stepped_uses labels d i good.0 (fits (item_rule labels d i) (items_rule labels (draft_after_item labels d i) is) rule)
-      ∙ ap (λ (us : List UseData). us ++ uses_from s (length (bytes_at d.parts s)) (statement_with_room d (statement_of_item labels d i))) h
+      ∙ ap (λ (us : List UseData). us ++ uses_from s (length (draft_section_bytes_at d.parts s)) (statement_with_room d (statement_of_item labels d i))) h
       ∙ ap (λ n. uses_from s 0 (statements_from labels empty_draft before) ++ uses_from s n (statement_with_room d (statement_of_item labels d i))) size
       ∙ sym (uses-append 0 (statements_from labels empty_draft before) (statement_with_room d (statement_of_item labels d i)))
       ∙ ap (λ (ts : List StatementData). uses_from s 0 ts) (sym more) in

@@ -3,11 +3,11 @@ use Rattle.std.specs.Prelude.{◌≡◌, ◌≤◌, ◌<◌, ◌+◌, ◌^◌, �
 use Rattle.std.specs.List.{list_any}
 use Rattle.std.specs.Str.{bytes_eq}
 use Rattle.tc_object.specs.Names.{IsNewObjectName}
-use Rattle.tc_object.specs.Objects.{InTurn}
+use Rattle.tc_object.specs.Objects.{AllInTurn}
 use Rattle.tc_asm.specs.declared.symbols.Place.{Place}
 use Rattle.tc_asm.specs.Symbols.{SymbolData, symbol_names}
 use Rattle.tc_isa.specs.Relocations.{is_relocation_kind}
-use Rattle.tc_asm.specs.Drafts.{UseData, PartData, DraftData, count_of_uses, part_names, part_size_at}
+use Rattle.tc_asm.specs.Drafts.{UseData, DraftSectionData, DraftData, count_of_uses, draft_section_names, draft_section_size_at}
 
 -- each element of a list has the property: of a draft's sections, of their uses, or of its symbols
 abbrev pub EachInDraft : {A : Type 0} → (A → Type 0) → List A → Type 0
@@ -24,17 +24,17 @@ IsNewDraftName before name = IsNewObjectName (is_drafted_name before) name
 
 -- names of objects, of which none occurs twice
 abbrev pub AreDistinctDraftNames : List (List ℕ) → Type 0
-AreDistinctDraftNames names = InTurn IsNewDraftName [] names
+AreDistinctDraftNames names = AllInTurn IsNewDraftName [] names
 
 -- a label is in a section of the draft, within it or at its end
-pub record IsLabelPlace (parts : List PartData) (p : Place) : Type 0 where
+pub record IsLabelPlace (parts : List DraftSectionData) (p : Place) : Type 0 where
   pub section : p.section < length parts
-  pub offset : p.offset ≤ part_size_at parts p.section
+  pub offset : p.offset ≤ draft_section_size_at parts p.section
 
 -- a symbol has no label, or one in a section of the draft
-abbrev pub IsPlaced : List PartData → Option Place → Type 0
-IsPlaced parts None = Unit {0}
-IsPlaced parts (Some p) = IsLabelPlace parts p
+abbrev pub IsLabelPlaceIfAny : List DraftSectionData → Option Place → Type 0
+IsLabelPlaceIfAny parts None = Unit {0}
+IsLabelPlaceIfAny parts (Some p) = IsLabelPlace parts p
 
 -- the place of a symbol's label, if there is one, fits the fields of an object: a section below
 -- 2^16, an offset below 2^32
@@ -42,20 +42,20 @@ abbrev pub IsSmallLabelPlace : Option Place → Type 0
 IsSmallLabelPlace o = IfSome o (λ p. (p.section < 2 ^ 16) × (p.offset < 2 ^ 32))
 
 -- each use begins after the four bytes of the last one, and its own four bytes end by `size`
-abbrev pub AreUsesSpaced : ℕ → List UseData → ℕ → Type 0
-AreUsesSpaced low [] size = low ≤ size
-AreUsesSpaced low (u ∷ us) size = (low ≤ u.offset) × AreUsesSpaced (u.offset + 4) us size
+abbrev pub AreUsesDisjoint : ℕ → List UseData → ℕ → Type 0
+AreUsesDisjoint low [] size = low ≤ size
+AreUsesDisjoint low (u ∷ us) size = (low ≤ u.offset) × AreUsesDisjoint (u.offset + 4) us size
 
 -- a use of a known symbol, by a relocation
-pub record IsUse (names : List (List ℕ)) (u : UseData) : Type 0 where
+pub record IsUseOfKnownSymbol (names : List (List ℕ)) (u : UseData) : Type 0 where
   pub kind : is_relocation_kind u.reference.kind ≡ true
   pub known : is_drafted_name names u.reference.name ≡ true
 
 -- a section no longer than the total, with uses of known symbols that don't overlap
-pub record IsPart (names : List (List ℕ)) (total : ℕ) (p : PartData) : Type 0 where
+pub record IsDraftSection (names : List (List ℕ)) (total : ℕ) (p : DraftSectionData) : Type 0 where
   pub small : length p.bytes ≤ total
-  pub spaced : AreUsesSpaced 0 p.uses (length p.bytes)
-  pub uses : EachInDraft (IsUse names) p.uses
+  pub spaced : AreUsesDisjoint 0 p.uses (length p.bytes)
+  pub uses : EachInDraft (IsUseOfKnownSymbol names) p.uses
 
 -- the draft of lines that break no rule: distinct names, right counts, all within the limits of an
 -- object
@@ -65,7 +65,7 @@ pub record IsDraft (d : DraftData) : Type 0 where
   pub few_relocs : d.count < 2 ^ 16
   pub count : count_of_uses d.parts ≡ d.count
   pub total : d.total ≤ 2 ^ 24
-  pub parts_named : AreDistinctDraftNames (part_names d.parts)
+  pub parts_named : AreDistinctDraftNames (draft_section_names d.parts)
   pub symbols_named : AreDistinctDraftNames (symbol_names d.symbols)
-  pub places : EachInDraft (λ (s : SymbolData). IsPlaced d.parts s.entry.place) d.symbols
-  pub parts : EachInDraft (IsPart (symbol_names d.symbols) d.total) d.parts
+  pub places : EachInDraft (λ (s : SymbolData). IsLabelPlaceIfAny d.parts s.entry.place) d.symbols
+  pub parts : EachInDraft (IsDraftSection (symbol_names d.symbols) d.total) d.parts

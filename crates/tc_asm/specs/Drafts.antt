@@ -4,10 +4,10 @@ use Rattle.std.specs.Option.{option_map_or}
 use Rattle.std.specs.Str.{bytes_eq}
 use Rattle.tc_stmt.specs.SourceRules.{no_rule, misplaced_symbol}
 use Rattle.tc_isa.specs.declared.fields.Fields.{Fields}
-use Rattle.tc_isa.specs.Rows.{RowData, listed, is_long}
+use Rattle.tc_isa.specs.Rows.{RowData, table_rows, is_32_bit_row}
 use Rattle.tc_isa.specs.Spelling.{spelling}
 use Rattle.tc_isa.specs.Relocations.{is_relocation_kind}
-use Rattle.tc_encode.specs.Decoding.{are_fitting_fields}
+use Rattle.tc_encode.specs.Decoding.{decoded_fields_fit}
 use Rattle.tc_stmt.specs.Names.{is_source_name}
 use Rattle.tc_stmt.specs.RowFields.{RowFieldsData, with_rule}
 use Rattle.tc_stmt.specs.Items.{ReferenceData, ItemData, label, section, global, code, bytes, zeros}
@@ -21,7 +21,7 @@ pub record UseData : Type 0 where
   pub reference : ReferenceData
 
 -- a section of a draft: its name, its bytes, and its uses of symbols
-pub record PartData : Type 0 where
+pub record DraftSectionData : Type 0 where
   pub name : List ℕ
   pub bytes : List ℕ
   pub uses : List UseData
@@ -31,7 +31,7 @@ pub record PartData : Type 0 where
 -- section.
 pub record DraftData : Type 0 where
   pub section : ℕ
-  pub parts : List PartData
+  pub parts : List DraftSectionData
   pub symbols : List SymbolData
   pub total : ℕ
   pub count : ℕ
@@ -41,7 +41,7 @@ abbrev pub empty_draft : DraftData
 empty_draft = record { section = 64; parts = []; symbols = []; total = 0; count = 0 }
 
 -- the section with this name, these bytes, and these uses of symbols
-abbrev pub part : List ℕ → List ℕ → List UseData → PartData
+abbrev pub part : List ℕ → List ℕ → List UseData → DraftSectionData
 part name bs uses = record { name = name; bytes = bs; uses = uses }
 
 -- the offset of the draft's next byte in its current section, and 0 if there is none
@@ -49,8 +49,8 @@ unfoldable pub next_byte_offset : DraftData → ℕ
 next_byte_offset d = option_map_or (λ p. length p.bytes) (slice_get d.parts d.section) 0
 
 -- there is a current section
-abbrev pub has_section : DraftData → Bool
-has_section d = nat_lt d.section (length d.parts)
+abbrev pub has_current_section : DraftData → Bool
+has_current_section d = nat_lt d.section (length d.parts)
 
 -- a draft with n more bytes has no more than 16,777,216 in all its sections, so that they can be
 -- added to it
@@ -68,15 +68,15 @@ unfoldable pub with_label : DraftData → List ℕ → DraftData
 with_label d name = if is_source_name name then record d { symbols = with_symbol_label d.symbols name (next_byte_place d) } else d
 
 -- the number of the section with this name, and the number of sections if none has it
-abbrev pub number_of_part : List PartData → List ℕ → ℕ
-number_of_part parts name = unwrap_or (position (λ p. bytes_eq name p.name) parts) (length parts)
+abbrev pub section_number : List DraftSectionData → List ℕ → ℕ
+section_number parts name = unwrap_or (position (λ p. bytes_eq name p.name) parts) (length parts)
 
 -- the draft after a section's name: that section becomes the current one; a new one begins if there
 -- are fewer than 64
 unfoldable pub with_current_section : DraftData → List ℕ → DraftData
 with_current_section d name =
     if not (is_source_name name) then d
-    else (if nat_lt (number_of_part d.parts name) (length d.parts) then record d { section = number_of_part d.parts name }
+    else (if nat_lt (section_number d.parts name) (length d.parts) then record d { section = section_number d.parts name }
     else (if nat_lt (length d.parts) 64 then record d { section = length d.parts; parts = d.parts ++ part name [] [] ∷ [] }
     else d))
 
@@ -86,24 +86,24 @@ with_global d name = if is_source_name name then record d { symbols = with_globa
 
 -- ---- bytes
 -- the sections of a draft after bytes are added at the end of the one with this number
-unfoldable pub with_part_bytes : List PartData → ℕ → List ℕ → List PartData
-with_part_bytes parts i bs = option_map_or (λ p. slice_set parts i (record p { bytes = p.bytes ++ bs })) (slice_get parts i) parts
+unfoldable pub with_section_bytes : List DraftSectionData → ℕ → List ℕ → List DraftSectionData
+with_section_bytes parts i bs = option_map_or (λ p. slice_set parts i (record p { bytes = p.bytes ++ bs })) (slice_get parts i) parts
 
 -- the draft after bytes are added at the end of its current section, if they are within the limit
 unfoldable pub with_bytes : DraftData → List ℕ → DraftData
 with_bytes d bs =
-    if has_section d && has_room d (length bs) then record d { parts = with_part_bytes d.parts d.section bs; total = d.total + length bs } else d
+    if has_current_section d && has_room d (length bs) then record d { parts = with_section_bytes d.parts d.section bs; total = d.total + length bs } else d
 
 -- the sections of a draft after a further use of a symbol in the one with this number
-unfoldable pub with_part_use : List PartData → ℕ → UseData → List PartData
-with_part_use parts i u = option_map_or (λ p. slice_set parts i (record p { uses = p.uses ++ u ∷ [] })) (slice_get parts i) parts
+unfoldable pub with_section_use : List DraftSectionData → ℕ → UseData → List DraftSectionData
+with_section_use parts i u = option_map_or (λ p. slice_set parts i (record p { uses = p.uses ++ u ∷ [] })) (slice_get parts i) parts
 
 -- the draft of an object with a use of a symbol for a relocation, if its next bytes are four for
 -- which its section has room, and it has fewer than 65,535 relocations
 unfoldable pub with_use : DraftData → ℕ → ReferenceData → DraftData
 with_use d size r =
-    if has_section d && has_room d size && size == 4 && is_relocation_kind r.kind && nat_lt d.count 65535
-    then record d { parts = with_part_use d.parts d.section (record { offset = next_byte_offset d; reference = r }); count = d.count + 1 }
+    if has_current_section d && has_room d size && size == 4 && is_relocation_kind r.kind && nat_lt d.count 65535
+    then record d { parts = with_section_use d.parts d.section (record { offset = next_byte_offset d; reference = r }); count = d.count + 1 }
     else d
 
 -- the draft of an object with the symbol of its next `size` bytes in its table and, if these bytes
@@ -123,7 +123,7 @@ with_content d bs r = with_bytes (with_reference d (length bs) r) bs
 unfoldable pub label_distance : List SymbolData → DraftData → ReferenceData → Option (Bool × ℕ)
 label_distance labels d r =
     option_map_or
-    (λ (a : Place). if has_section d && a.section == d.section
+    (λ (a : Place). if has_current_section d && a.section == d.section
     then (if nat_le (next_byte_offset d + (if r.minus then r.size else 0)) (a.offset + (if r.minus then 0 else r.size))
     then Some (false, (a.offset + (if r.minus then 0 else r.size)) - (next_byte_offset d + (if r.minus then r.size else 0)))
     else Some (true, (next_byte_offset d + (if r.minus then r.size else 0)) - (a.offset + (if r.minus then 0 else r.size))))
@@ -131,34 +131,34 @@ label_distance labels d r =
     (place_in labels r.name) None
 
 -- these fields, with which a draft spells an instruction, with no broken rule and no symbol noted
-abbrev pub drafted_fields : Fields → RowFieldsData
-drafted_fields f = record { fields = f; rule = no_rule; reference = None }
+abbrev pub unbroken_fields : Fields → RowFieldsData
+unbroken_fields f = record { fields = f; rule = no_rule; reference = None }
 
 -- the fields with which a draft spells its next instruction, and the least rule that the target
 -- breaks: the displacement is the distance from the draft's current place to the target
 unfoldable pub fields_with_label_distance : List SymbolData → DraftData → RowData → Fields → ReferenceData → RowFieldsData
-fields_with_label_distance labels d row f r = option_map_or (λ n. with_displacement row n.0 n.1 (drafted_fields f)) (label_distance labels d r) (with_rule misplaced_symbol (drafted_fields f))
+fields_with_label_distance labels d row f r = option_map_or (λ n. with_displacement row n.0 n.1 (unbroken_fields f)) (label_distance labels d r) (with_rule misplaced_symbol (unbroken_fields f))
 
 -- the fields with which a draft spells its next instruction, of this row: its target is resolved
 -- here, unless a relocation will fill it in
 abbrev pub fields_with_target : List SymbolData → DraftData → RowData → Fields → Option ReferenceData → RowFieldsData
-fields_with_target labels d row f None = drafted_fields f
-fields_with_target labels d row f (Some r) = if r.kind == 0 then fields_with_label_distance labels d row f r else drafted_fields f
+fields_with_target labels d row f None = unbroken_fields f
+fields_with_target labels d row f (Some r) = if r.kind == 0 then fields_with_label_distance labels d row f r else unbroken_fields f
 
 -- the bytes that the assembler's draft of an object gets from an instruction of this row: its
 -- spelling if the fields fit the row, else none
 unfoldable pub assembled_row_code : RowData → Fields → List ℕ
-assembled_row_code row f = if are_fitting_fields row f then spelling row f else []
+assembled_row_code row f = if decoded_fields_fit row f then spelling row f else []
 
 -- the fields with which a draft spells its next instruction, of the row with this number: its
 -- target is resolved here, unless a relocation will fill it in
 abbrev pub row_fields_with_target : List SymbolData → DraftData → ℕ → Fields → Option ReferenceData → RowFieldsData
-row_fields_with_target labels d k f r = option_map_or (λ row. fields_with_target labels d row f r) (slice_get listed k) (drafted_fields f)
+row_fields_with_target labels d k f r = option_map_or (λ row. fields_with_target labels d row f r) (slice_get table_rows k) (unbroken_fields f)
 
 -- the bytes that a draft gets from an instruction: the spelling in the row with this number, and
 -- none if there is no such row
 abbrev pub assembled_code : ℕ → Fields → List ℕ
-assembled_code k f = option_map_or (λ row. assembled_row_code row f) (slice_get listed k) []
+assembled_code k f = option_map_or (λ row. assembled_row_code row f) (slice_get table_rows k) []
 
 -- the bytes of an instruction at the current place of a draft: its spelling with its target
 -- resolved
@@ -178,26 +178,26 @@ draft_after_item labels d (zeros n) = with_bytes d (replicate n 0)
 
 -- ---- names and counts
 -- the names of sections
-abbrev pub part_names : List PartData → List (List ℕ)
-part_names parts = map (λ (p : PartData). p.name) parts
+abbrev pub draft_section_names : List DraftSectionData → List (List ℕ)
+draft_section_names parts = map (λ (p : DraftSectionData). p.name) parts
 
 -- the number of uses of symbols in the sections
-abbrev pub count_of_uses : List PartData → ℕ
-count_of_uses parts = sum_by (λ (p : PartData). length p.uses) parts
+abbrev pub count_of_uses : List DraftSectionData → ℕ
+count_of_uses parts = sum_by (λ (p : DraftSectionData). length p.uses) parts
 
 -- the length of a draft's section of this number
-abbrev pub part_size_at : List PartData → ℕ → ℕ
-part_size_at [] n = 0
-part_size_at (p ∷ ps) zero = length p.bytes
-part_size_at (p ∷ ps) (suc n) = part_size_at ps n
+abbrev pub draft_section_size_at : List DraftSectionData → ℕ → ℕ
+draft_section_size_at [] n = 0
+draft_section_size_at (p ∷ ps) zero = length p.bytes
+draft_section_size_at (p ∷ ps) (suc n) = draft_section_size_at ps n
 
 -- the bytes of a draft's section of this number
-abbrev pub bytes_at : List PartData → ℕ → List ℕ
-bytes_at [] s = []
-bytes_at (p ∷ ps) zero = p.bytes
-bytes_at (p ∷ ps) (suc s) = bytes_at ps s
+abbrev pub draft_section_bytes_at : List DraftSectionData → ℕ → List ℕ
+draft_section_bytes_at [] s = []
+draft_section_bytes_at (p ∷ ps) zero = p.bytes
+draft_section_bytes_at (p ∷ ps) (suc s) = draft_section_bytes_at ps s
 
 -- the size in bytes that an instruction of the row with this number has in a draft, and 0 if there
 -- is no such row
 unfoldable pub assembled_code_size : ℕ → ℕ
-assembled_code_size k = option_map_or (λ row. if is_long row then 4 else 2) (slice_get listed k) 0
+assembled_code_size k = option_map_or (λ row. if is_32_bit_row row then 4 else 2) (slice_get table_rows k) 0

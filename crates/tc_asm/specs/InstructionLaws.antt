@@ -1,21 +1,21 @@
 -- The law of instructions: they spell their rows.
 use Rattle.std.specs.Prelude.{◌≡◌, ◌==◌, ◌++◌, ℕ, Bool, false, List, ◌∷◌, length, slice_get, Option, Some, None}
 use Rattle.tc_isa.specs.declared.fields.Fields.{Fields}
-use Rattle.tc_isa.specs.Rows.{RowData, listed}
+use Rattle.tc_isa.specs.Rows.{RowData, table_rows}
 use Rattle.tc_isa.specs.ValidRowFields.{FieldsFitRow}
 use Rattle.tc_isa.specs.Spelling.{spelling}
 use Rattle.tc_stmt.specs.Items.{ReferenceData, ItemData, code}
 use Rattle.tc_stmt.specs.Lines.{lines_in, items_in}
 use Rattle.tc_asm.specs.Drafts.{empty_draft}
-use Rattle.tc_asm.specs.DraftedSources.{symbols_of}
-use Rattle.tc_asm.specs.Rules.{KeepsRules}
+use Rattle.tc_asm.specs.DraftedSources.{symbols_of_lines}
+use Rattle.tc_asm.specs.Rules.{LinesKeepRules}
 use Rattle.tc_asm.specs.Statements.{statement_data, statements_from, statements_in}
 
 -- what the law of instructions says of assembled bytes: they spell an instruction of the listed row
 -- with this number, with fields that fit it
 pub record InstructionSpellsRow (place : ℕ) (bytes : List ℕ) : Type 0 where
   pub row : RowData
-  pub is_row : slice_get listed place ≡ Some row
+  pub is_row : slice_get table_rows place ≡ Some row
   pub fields : Fields
   pub fits : FieldsFitRow row fields
   pub spelled : bytes ≡ spelling row fields
@@ -33,9 +33,9 @@ pub record IsAssembledInstruction (source : List ℕ) (before : List ItemData) (
   pub spells : InstructionSpellsRow place bytes
   pub given : is_resolved_jump o ≡ false → spells.fields ≡ f
   pub section : ℕ
-  pub stands : slice_get (statements_in source) (length (statements_from (symbols_of (lines_in source)) empty_draft before)) ≡ Some (statement_data section bytes o)
+  pub stands : slice_get (statements_in source) (length (statements_from (symbols_of_lines (lines_in source)) empty_draft before)) ≡ Some (statement_data section bytes o)
 
 -- each instruction among the items of a source that breaks no rule spells its row
 abbrev pub InstructionsLaw : Type 0
-InstructionsLaw = (source : List ℕ) (before after : List ItemData) (place : ℕ) (f : Fields) (o : Option ReferenceData) → KeepsRules (lines_in source) (length (lines_in source))
+InstructionsLaw = (source : List ℕ) (before after : List ItemData) (place : ℕ) (f : Fields) (o : Option ReferenceData) → LinesKeepRules (lines_in source) (length (lines_in source))
     → items_in (lines_in source) ≡ before ++ code place f o ∷ after → IsAssembledInstruction source before place f o

@@ -1,7 +1,7 @@
 -- What holds of each item that a line of a source can add.
 use Rattle.std.specs.Prelude.{◌≡◌, ℕ, true, List, [], ◌∷◌, length, slice_get, Option, Some}
 use Rattle.tc_isa.specs.declared.fields.Fields.{Fields}
-use Rattle.tc_isa.specs.Rows.{RowData, listed}
+use Rattle.tc_isa.specs.Rows.{RowData, table_rows}
 use Rattle.tc_isa.specs.ValidRowFields.{FieldsFitRow}
 use Rattle.tc_isa.specs.Relocations.{is_relocation_kind}
 use Rattle.tc_stmt.specs.Names.{is_source_name}
@@ -19,7 +19,7 @@ pub record AddedBytesFitSymbol (bs : List ℕ) (o : Option ReferenceData) : Type
 -- symbol
 pub record IsAddedCode (k : ℕ) (f : Fields) (o : Option ReferenceData) : Type 0 where
   pub row : RowData
-  pub at : slice_get listed k ≡ Some row
+  pub at : slice_get table_rows k ≡ Some row
   pub fits : FieldsFitRow row f
   pub symbols : TakesAnySymbol row o
   pub zero : (r : ReferenceData) → o ≡ Some r → f.k ≡ 0

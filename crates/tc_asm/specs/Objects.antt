@@ -6,23 +6,23 @@ use Rattle.tc_object.specs.declared.relocs.Reloc.{Reloc}
 use Rattle.tc_stmt.specs.Items.{ReferenceData}
 use Rattle.tc_asm.specs.declared.symbols.Place.{Place}
 use Rattle.tc_asm.specs.Symbols.{SymbolData, symbol_number}
-use Rattle.tc_asm.specs.Drafts.{UseData, PartData, DraftData}
+use Rattle.tc_asm.specs.Drafts.{UseData, DraftSectionData, DraftData}
 use Rattle.tc_asm.specs.DraftedSources.{draft_in}
 use Rattle.tc_asm.specs.Statements.{sections_in}
 
 -- a section of the draft as one of the object
-abbrev pub section_of : PartData → SectionData
+abbrev pub section_of : DraftSectionData → SectionData
 section_of p = record { name = p.name; bytes = p.bytes }
 
 -- the symbol of an object made from a draft: undefined (0) without a label, else local (1) or
 -- global (2)
-abbrev pub symbol_at : List ℕ → Bool → Option Place → object.SymbolData
-symbol_at name is_global None = record { name = name; kind = undefined_symbol; section = 0; offset = 0 }
-symbol_at name is_global (Some p) = record { name = name; kind = if is_global then 2 else 1; section = p.section; offset = p.offset }
+abbrev pub object_symbol : List ℕ → Bool → Option Place → object.SymbolData
+object_symbol name is_global None = record { name = name; kind = undefined_symbol; section = 0; offset = 0 }
+object_symbol name is_global (Some p) = record { name = name; kind = if is_global then 2 else 1; section = p.section; offset = p.offset }
 
 -- a symbol of the draft as one of the object
 abbrev pub symbol_of : SymbolData → object.SymbolData
-symbol_of s = symbol_at s.name s.entry.is_global s.entry.place
+symbol_of s = object_symbol s.name s.entry.is_global s.entry.place
 
 -- the addend of an object's relocation: the number that a source adds to the symbol, modulo 2^32
 abbrev pub assembled_addend : ReferenceData → ℕ
@@ -33,14 +33,14 @@ abbrev pub reloc_of : List SymbolData → ℕ → UseData → Reloc
 reloc_of ss section u = record { section = section; offset = u.offset; kind = u.reference.kind; symbol = symbol_number ss u.reference.name; addend = assembled_addend u.reference }
 
 -- the relocations of these sections, numbered from this number on
-abbrev pub relocs_from : List SymbolData → ℕ → List PartData → List Reloc
-relocs_from ss section [] = []
-relocs_from ss section (p ∷ ps) = map (reloc_of ss section) p.uses ++ relocs_from ss (section + 1) ps
+abbrev pub relocs_of_sections : List SymbolData → ℕ → List DraftSectionData → List Reloc
+relocs_of_sections ss section [] = []
+relocs_of_sections ss section (p ∷ ps) = map (reloc_of ss section) p.uses ++ relocs_of_sections ss (section + 1) ps
 
 -- the object: sections and symbols in the order of the source, relocations in the order of their
 -- places
 abbrev pub object_of_draft : DraftData → ObjectData
-object_of_draft d = record { sections = map section_of d.parts; symbols = map symbol_of d.symbols; relocs = relocs_from d.symbols 0 d.parts }
+object_of_draft d = record { sections = map section_of d.parts; symbols = map symbol_of d.symbols; relocs = relocs_of_sections d.symbols 0 d.parts }
 
 -- the law of the object that a draft becomes: its sections are those that the source's statements
 -- make

@@ -6,9 +6,9 @@ use Rattle.tc_stmt.specs.Names.{is_source_name}
 use Rattle.tc_stmt.specs.Items.{ReferenceData, ItemData, label, section, global, code, bytes, zeros}
 use Rattle.tc_asm.specs.Symbols.{SymbolData, entry_in, place_in}
 use Rattle.tc_isa.specs.Relocations.{is_relocation_kind}
-use Rattle.tc_asm.specs.Drafts.{DraftData, has_section, has_room, number_of_part, row_fields_with_target, code_bytes, draft_after_item}
+use Rattle.tc_asm.specs.Drafts.{DraftData, has_current_section, has_room, section_number, row_fields_with_target, code_bytes, draft_after_item}
 use Rattle.tc_stmt.specs.Lines.{LineData}
-use Rattle.tc_asm.specs.DraftedSources.{draft_from_lines, symbols_of}
+use Rattle.tc_asm.specs.DraftedSources.{draft_from_lines, symbols_of_lines}
 
 -- rule 7 if the draft has a label of this name already, else no rule
 abbrev pub label_rule : DraftData → List ℕ → ℕ
@@ -17,7 +17,7 @@ label_rule d name = if is_some (place_in d.symbols name) then label_twice else n
 -- rule 8 if the draft has no current section, which labels, instructions and data need, else no
 -- rule
 abbrev pub section_rule : DraftData → ℕ
-section_rule d = if has_section d then no_rule else no_section
+section_rule d = if has_current_section d then no_rule else no_section
 
 -- rule 9 if these bytes are no name that a source may use, else no rule
 abbrev pub name_rule : List ℕ → ℕ
@@ -25,7 +25,7 @@ name_rule name = if is_source_name name then no_rule else bad_name
 
 -- rule 13 if a section of this name would be the draft's 65th, else no rule
 abbrev pub section_limit_rule : DraftData → List ℕ → ℕ
-section_limit_rule d name = if nat_lt (number_of_part d.parts name) (length d.parts) || nat_lt (length d.parts) 64 then no_rule else past_limits
+section_limit_rule d name = if nat_lt (section_number d.parts name) (length d.parts) || nat_lt (length d.parts) 64 then no_rule else past_limits
 
 -- one more symbol doesn't break rule 13: there are fewer than 65,535
 abbrev pub has_symbol_room : List SymbolData → Bool
@@ -79,12 +79,12 @@ unfoldable pub line_rule : List SymbolData → DraftData → LineData → ℕ
 line_rule labels d l = min l.rule (items_rule labels d l.items)
 
 -- the least rule that a source's line at this place breaks, after the draft of the lines before it
-abbrev pub rule_in : List LineData → ℕ → LineData → ℕ
-rule_in lines k l = line_rule (symbols_of lines) (draft_from_lines (symbols_of lines) (take k lines)) l
+abbrev pub rule_of_source_line : List LineData → ℕ → LineData → ℕ
+rule_of_source_line lines k l = line_rule (symbols_of_lines lines) (draft_from_lines (symbols_of_lines lines) (take k lines)) l
 
 -- no line of a source before this place breaks a rule, each after the draft of the lines before it
-abbrev pub KeepsRules : List LineData → ℕ → Type 0
-KeepsRules lines n = (k : ℕ) (d : LineData) → k < n → rule_in lines k (slice_index_or lines k d) ≡ no_rule
+abbrev pub LinesKeepRules : List LineData → ℕ → Type 0
+LinesKeepRules lines n = (k : ℕ) (d : LineData) → k < n → rule_of_source_line lines k (slice_index_or lines k d) ≡ no_rule
 
 -- the number of the first line of a source that breaks a rule, and the least of the rules that it
 -- breaks after the draft of the lines before it
@@ -92,6 +92,6 @@ pub record IsFirstBrokenLine (lines : List LineData) (line rule : ℕ) : Type 0 
   pub place : ℕ
   pub within : place < length lines
   pub is : line ≡ place + 1
-  pub broken : (d : LineData) → rule_in lines place (slice_index_or lines place d) ≡ rule
+  pub broken : (d : LineData) → rule_of_source_line lines place (slice_index_or lines place d) ≡ rule
   pub some : rule ≢ no_rule
-  pub before : KeepsRules lines place
+  pub before : LinesKeepRules lines place

@@ -10,9 +10,9 @@ use Rattle.tc_asm.specs.declared.symbols.Place.{Place}
 use Rattle.tc_stmt.specs.Lines.{lines_in}
 use Rattle.tc_asm.specs.Symbols.{place_in}
 use Rattle.tc_asm.specs.DraftedSources.{symbols_in}
-use Rattle.tc_asm.specs.Rules.{KeepsRules}
+use Rattle.tc_asm.specs.Rules.{LinesKeepRules}
 use Rattle.tc_asm.specs.Objects.{assembled_addend}
-use Rattle.tc_asm.specs.Statements.{StatementData, offset_of, statements_in}
+use Rattle.tc_asm.specs.Statements.{StatementData, statement_offset, statements_in}
 use Rattle.tc_asm.specs.InstructionLaws.{InstructionSpellsRow}
 
 -- the distance of a jump or call of 16 bits, modulo 2^32: SBR (form 13) only goes forwards, SB both
@@ -29,10 +29,10 @@ pub record ReachesLabel (source : List ℕ) (index : ℕ) (t : StatementData) (r
   pub label : Place
   pub is_label : place_in (symbols_in source) r.name ≡ Some label
   pub here : label.section ≡ t.section
-  pub reaches : (base : ℕ) → (base + offset_of (statements_in source) index t.section + short_jump_displacement spells.row spells.fields) % 2 ^ 32 ≡ ((base + label.offset) % 2 ^ 32 + assembled_addend r) % 2 ^ 32
+  pub reaches : (base : ℕ) → (base + statement_offset (statements_in source) index t.section + short_jump_displacement spells.row spells.fields) % 2 ^ 32 ≡ ((base + label.offset) % 2 ^ 32 + assembled_addend r) % 2 ^ 32
 
 -- each statement of a source that breaks no rule, if its symbol takes no relocation, reaches the
 -- symbol's label
 abbrev pub ShortJumpsLaw : Type 0
-ShortJumpsLaw = (source : List ℕ) (index : ℕ) (t : StatementData) (r : ReferenceData) → KeepsRules (lines_in source) (length (lines_in source)) → slice_get (statements_in source) index ≡ Some t → t.reference ≡ Some r → r.kind ≡ 0
+ShortJumpsLaw = (source : List ℕ) (index : ℕ) (t : StatementData) (r : ReferenceData) → LinesKeepRules (lines_in source) (length (lines_in source)) → slice_get (statements_in source) index ≡ Some t → t.reference ≡ Some r → r.kind ≡ 0
     → ReachesLabel source index t r

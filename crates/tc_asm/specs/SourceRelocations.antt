@@ -7,15 +7,15 @@ use Rattle.tc_object.specs.declared.relocs.Reloc.{Reloc}
 use Rattle.tc_stmt.specs.Lines.{lines_in}
 use Rattle.tc_asm.specs.Symbols.{SymbolData, symbol_number}
 use Rattle.tc_asm.specs.DraftedSources.{draft_in, symbols_in, section_names_in}
-use Rattle.tc_asm.specs.Rules.{KeepsRules}
+use Rattle.tc_asm.specs.Rules.{LinesKeepRules}
 use Rattle.tc_asm.specs.Objects.{object_of_draft, assembled_addend}
 use Rattle.tc_asm.specs.Statements.{StatementData, statements_in, has_unresolved_symbol}
 
 -- the relocation of a source for a statement in this section at this offset, whose symbol is given;
 -- none if the statement doesn't wait for an address
-abbrev pub reloc_at : List SymbolData → ℕ → ℕ → Option ReferenceData → List Reloc
-reloc_at symbols section offset None = []
-reloc_at symbols section offset (Some r) =
+abbrev pub statement_relocs : List SymbolData → ℕ → ℕ → Option ReferenceData → List Reloc
+statement_relocs symbols section offset None = []
+statement_relocs symbols section offset (Some r) =
     if has_unresolved_symbol (Some r)
     then record { section = section; offset = offset; kind = r.kind; symbol = symbol_number symbols r.name; addend = assembled_addend r } ∷ []
     else []
@@ -26,21 +26,21 @@ abbrev pub section_relocs_of : List SymbolData → ℕ → ℕ → List Statemen
 section_relocs_of symbols section offset [] = []
 section_relocs_of symbols section offset (t ∷ ts) =
     if t.section == section
-    then reloc_at symbols section offset t.reference ++ section_relocs_of symbols section (offset + length t.bytes) ts
+    then statement_relocs symbols section offset t.reference ++ section_relocs_of symbols section (offset + length t.bytes) ts
     else section_relocs_of symbols section offset ts
 
 -- the relocations that a source's statements need, section by section: the sections have these
 -- names, and are numbered from this number on
-abbrev pub relocs_of : List SymbolData → List StatementData → ℕ → List (List ℕ) → List Reloc
-relocs_of symbols ts section [] = []
-relocs_of symbols ts section (name ∷ names) = section_relocs_of symbols section 0 ts ++ relocs_of symbols ts (section + 1) names
+abbrev pub relocs_of_statements : List SymbolData → List StatementData → ℕ → List (List ℕ) → List Reloc
+relocs_of_statements symbols ts section [] = []
+relocs_of_statements symbols ts section (name ∷ names) = section_relocs_of symbols section 0 ts ++ relocs_of_statements symbols ts (section + 1) names
 
 -- ---- laws
 
 -- the relocations of an object are those of the statements that wait for addresses
 abbrev pub RelocationsLaw : Type 0
-RelocationsLaw = (source : List ℕ) → KeepsRules (lines_in source) (length (lines_in source))
-    → (object_of_draft (draft_in source)).relocs ≡ relocs_of (symbols_in source) (statements_in source) 0 (section_names_in source)
+RelocationsLaw = (source : List ℕ) → LinesKeepRules (lines_in source) (length (lines_in source))
+    → (object_of_draft (draft_in source)).relocs ≡ relocs_of_statements (symbols_in source) (statements_in source) 0 (section_names_in source)
 
 -- the fields that relocations fill are zero: writing zero there changes nothing
 abbrev pub ZeroFieldsLaw : Type 0

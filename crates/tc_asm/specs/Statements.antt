@@ -4,8 +4,8 @@ use Rattle.std.specs.List.{flat_map}
 use Rattle.tc_stmt.specs.Items.{ReferenceData, ItemData, label, section, global, code, bytes, zeros}
 use Rattle.tc_stmt.specs.Lines.{LineData, items_in, lines_in}
 use Rattle.tc_asm.specs.Symbols.{SymbolData}
-use Rattle.tc_asm.specs.Drafts.{DraftData, empty_draft, has_section, has_room, code_bytes, draft_after_item, bytes_at}
-use Rattle.tc_asm.specs.DraftedSources.{draft_from_lines, symbols_of, section_names_in}
+use Rattle.tc_asm.specs.Drafts.{DraftData, empty_draft, has_current_section, has_room, code_bytes, draft_after_item, draft_section_bytes_at}
+use Rattle.tc_asm.specs.DraftedSources.{draft_from_lines, symbols_of_lines, section_names_in}
 use Rattle.tc_isa.specs.Relocations.{is_relocation_kind}
 use Rattle.tc_object.specs.Objects.{SectionData}
 
@@ -33,7 +33,7 @@ statement_of_item labels d (zeros n) = Some (statement_data d.section (replicate
 -- list
 abbrev pub statement_with_room : DraftData → Option StatementData → List StatementData
 statement_with_room d None = []
-statement_with_room d (Some t) = if has_section d && has_room d (length t.bytes) then t ∷ [] else []
+statement_with_room d (Some t) = if has_current_section d && has_room d (length t.bytes) then t ∷ [] else []
 
 -- the statements of these items after a draft, in order
 abbrev pub statements_from : List SymbolData → DraftData → List ItemData → List StatementData
@@ -41,8 +41,8 @@ statements_from labels d [] = []
 statements_from labels d (i ∷ is) = statement_with_room d (statement_of_item labels d i) ++ statements_from labels (draft_after_item labels d i) is
 
 -- the statements of a source with these symbols, in order
-abbrev pub statements : List SymbolData → List LineData → List StatementData
-statements labels lines = statements_from labels empty_draft (items_in lines)
+abbrev pub statements_of_lines : List SymbolData → List LineData → List StatementData
+statements_of_lines labels lines = statements_from labels empty_draft (items_in lines)
 
 -- the bytes that a source's statements give the section of this number: those of each statement in
 -- it, in order
@@ -50,22 +50,22 @@ abbrev pub section_bytes : ℕ → List StatementData → List ℕ
 section_bytes s ts = flat_map (λ (t : StatementData). if t.section == s then t.bytes else []) ts
 
 -- the offset of a statement: the total size of the earlier statements of its section
-abbrev pub offset_of : List StatementData → ℕ → ℕ → ℕ
-offset_of ts place s = length (section_bytes s (take place ts))
+abbrev pub statement_offset : List StatementData → ℕ → ℕ → ℕ
+statement_offset ts place s = length (section_bytes s (take place ts))
 
 -- each section of the draft of any lines is the bytes of its statements in order
 abbrev pub SectionLaw : Type 0
-SectionLaw = (labels : List SymbolData) (lines : List LineData) (s : ℕ) → bytes_at (draft_from_lines labels lines).parts s ≡ section_bytes s (statements labels lines)
+SectionLaw = (labels : List SymbolData) (lines : List LineData) (s : ℕ) → draft_section_bytes_at (draft_from_lines labels lines).parts s ≡ section_bytes s (statements_of_lines labels lines)
 
 -- each statement of a source is found in its section: its bytes are there at its offset, the size
 -- of the section's statements before it
 abbrev pub OffsetLaw : Type 0
 OffsetLaw = (ts : List StatementData) (place : ℕ) (t : StatementData) → slice_get ts place ≡ Some t
-    → take (length t.bytes) (drop (offset_of ts place t.section) (section_bytes t.section ts)) ≡ t.bytes
+    → take (length t.bytes) (drop (statement_offset ts place t.section) (section_bytes t.section ts)) ≡ t.bytes
 
 -- the statements of a source that have bytes, in order
 abbrev pub statements_in : List ℕ → List StatementData
-statements_in source = statements (symbols_of (lines_in source)) (lines_in source)
+statements_in source = statements_of_lines (symbols_of_lines (lines_in source)) (lines_in source)
 
 -- the sections that statements make: they have these names, are numbered from this number on, and
 -- hold the bytes of their statements

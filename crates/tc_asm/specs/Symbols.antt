@@ -23,22 +23,22 @@ entry_in ss name = option_map (λ (s : SymbolData). s.entry) (find (λ s. bytes_
 
 -- the entry of a name in the assembler's table of symbols, or that of an undefined name if it isn't
 -- there
-abbrev pub entry_of : List SymbolData → List ℕ → Entry
-entry_of ss name = unwrap_or (entry_in ss name) undefined_entry
+abbrev pub entry_or_undefined : List SymbolData → List ℕ → Entry
+entry_or_undefined ss name = unwrap_or (entry_in ss name) undefined_entry
 
 -- the assembler's table of symbols with this entry of a name: a known symbol keeps its number, and
 -- a new one is the last
-abbrev pub put_entry : List SymbolData → List ℕ → Entry → List SymbolData
-put_entry [] name e = symbol name e ∷ []
-put_entry (s ∷ ss) name e = if bytes_eq name s.name then symbol s.name e ∷ ss else s ∷ put_entry ss name e
+abbrev pub with_symbol_entry : List SymbolData → List ℕ → Entry → List SymbolData
+with_symbol_entry [] name e = symbol name e ∷ []
+with_symbol_entry (s ∷ ss) name e = if bytes_eq name s.name then symbol s.name e ∷ ss else s ∷ with_symbol_entry ss name e
 
 -- the place of a name's label, if it has one
 abbrev pub place_in : List SymbolData → List ℕ → Option Place
-place_in ss name = (entry_of ss name).place
+place_in ss name = (entry_or_undefined ss name).place
 
 -- the assembler's table of symbols after a use of a name: a new name is added, without a label
 unfoldable pub with_name : List SymbolData → List ℕ → List SymbolData
-with_name ss name = put_entry ss name (entry_of ss name)
+with_name ss name = with_symbol_entry ss name (entry_or_undefined ss name)
 
 -- the entry of a new name whose label is at this place
 abbrev pub entry_of_new_label : Place → Entry
@@ -50,11 +50,11 @@ entry_with_label e place = if is_some e.place then e else record e { place = Som
 
 -- the assembler's table of symbols after a label of this name at this place
 unfoldable pub with_symbol_label : List SymbolData → List ℕ → Place → List SymbolData
-with_symbol_label ss name place = put_entry ss name (entry_with_label (entry_of ss name) place)
+with_symbol_label ss name place = with_symbol_entry ss name (entry_with_label (entry_or_undefined ss name) place)
 
 -- the assembler's table of symbols after `.global` with this name, which is added if it is new
 unfoldable pub with_global_symbol : List SymbolData → List ℕ → List SymbolData
-with_global_symbol ss name = put_entry ss name (record (entry_of ss name) { is_global = true })
+with_global_symbol ss name = with_symbol_entry ss name (record (entry_or_undefined ss name) { is_global = true })
 
 -- the number of a name in the assembler's table of symbols, and 0 if it isn't there
 abbrev pub symbol_number : List SymbolData → List ℕ → ℕ

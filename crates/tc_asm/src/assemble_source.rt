@@ -4,13 +4,13 @@ ghost use Rattle.tc_stmt.specs.Items.{item_of};
 ghost use Rattle.tc_stmt.specs.Lines.{lines_in, items_in};
 ghost use Rattle.tc_asm.specs.ItemInvariants.{IsAddedItem};
 ghost use Rattle.tc_asm.specs.Drafts.{empty_draft, draft_after_item};
-ghost use Rattle.tc_asm.specs.DraftedSources.{draft_from_lines, symbols_of as symbols_in};
-ghost use Rattle.tc_asm.specs.Rules.{KeepsRules, IsFirstBrokenLine};
+ghost use Rattle.tc_asm.specs.DraftedSources.{draft_from_lines, symbols_of_lines as symbols_in};
+ghost use Rattle.tc_asm.specs.Rules.{LinesKeepRules, IsFirstBrokenLine};
 ghost use Rattle.tc_asm.specs.KnownSymbols.{kept, are_new};
 ghost use Rattle.tc_asm.specs.Objects.{object_of_draft};
 ghost use Rattle.tc_asm.specs.Errors.{IfBadLine};
 ghost use Rattle.tc_asm.specs.DraftInvariants.{IsDraft};
-ghost use Rattle.tc_stmt.specs.SourceViews.{lines_of};
+ghost use Rattle.tc_stmt.specs.SourceViews.{source_lines};
 
 use crate::AsmErr;
 use crate::draft::Draft;
@@ -28,7 +28,7 @@ pub fn assemble(alloc: Global, source: &[u8]) -> Result<Object, AsmErr>
     ensures ok { IfOk result
         (λ o. o ≡ object_of_draft (draft_from_lines (symbols_in (lines_in source.now))
         (lines_in source.now))) }
-    ensures kept { OnOk result (KeepsRules (lines_in source.now) (length (lines_in source.now))) }
+    ensures kept { OnOk result (LinesKeepRules (lines_in source.now) (length (lines_in source.now))) }
     ensures bad { IfErr result (IfBadLine (IsFirstBrokenLine (lines_in source.now))) }
 {
     let read = read_source(alloc, source)?;
@@ -49,14 +49,14 @@ fn draft_of_lines<'a>(
     source: &Source<'a>,
 ) -> Result<Draft<'a>, AsmErr>
     requires few { length source.now.lines.items < 2 ^ 32 }
-    requires labels { labels.now ≡ symbols_in (lines_of source.now) }
+    requires labels { labels.now ≡ symbols_in (source_lines source.now) }
     requires known { known ≡ true
-        → are_new labels.now empty_draft (items_in (lines_of source.now)) ≡ true }
+        → are_new labels.now empty_draft (items_in (source_lines source.now)) ≡ true }
     ensures ok { IfOk result
-        (λ d. kept known d ≡ kept known (draft_from_lines labels.now (lines_of source.now))) }
-    ensures rules { OnOk result (KeepsRules (lines_of source.now) (length (lines_of source.now))) }
-    ensures whole { OnOk result (IsDraft (draft_from_lines labels.now (lines_of source.now))) }
-    ensures bad { IfErr result (IfBadLine (IsFirstBrokenLine (lines_of source.now))) }
+        (λ d. kept known d ≡ kept known (draft_from_lines labels.now (source_lines source.now))) }
+    ensures rules { OnOk result (LinesKeepRules (source_lines source.now) (length (source_lines source.now))) }
+    ensures whole { OnOk result (IsDraft (draft_from_lines labels.now (source_lines source.now))) }
+    ensures bad { IfErr result (IfBadLine (IsFirstBrokenLine (source_lines source.now))) }
 {
     let mut draft = Draft::new(alloc);
     let lines = source.lines.as_slice();

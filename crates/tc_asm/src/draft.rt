@@ -27,11 +27,11 @@ pub struct Draft<'a> {
 impl<'a> Model for Draft<'a> {
     ghost use Rattle.std.specs.Prelude.{map};
     ghost use Rattle.tc_asm.specs.Drafts.{DraftData};
-    ghost use Rattle.tc_asm.specs.DraftViews.{part_of};
+    ghost use Rattle.tc_asm.specs.DraftViews.{draft_section_of};
 
     ghost Value = { DraftData };
 
-    ghost view = { λ d. record { section = d.section; parts = map part_of d.parts.items; symbols = d.symbols; total = d.total; count = d.count } };
+    ghost view = { λ d. record { section = d.section; parts = map draft_section_of d.parts.items; symbols = d.symbols; total = d.total; count = d.count } };
 }
 
 /// The most bytes of all sections together.
@@ -50,8 +50,8 @@ impl<'a> Draft<'a> {
     ghost use Rattle.std.specs.Prelude.{◌≡◌, [], OnOk, IfOk, Some, option_map, replicate};
     ghost use Rattle.tc_stmt.specs.Items.{reference_of, item_of, label, code, bytes as data_item};
     ghost use Rattle.tc_asm.specs.ItemInvariants.{IsAddedCode, IsAddedData, IsAddedItem, AddedSymbolIsNamed};
-    ghost use Rattle.tc_asm.specs.AlikeDrafts.{HasSameSizesAndSymbols};
-    ghost use Rattle.tc_asm.specs.Drafts.{DraftData, empty_draft, next_byte_offset, has_section, has_room, with_label, with_current_section, with_global, with_bytes, with_use, with_reference, with_content, draft_after_item};
+    ghost use Rattle.tc_asm.specs.AlikeDrafts.{HaveSameSizesAndSymbols};
+    ghost use Rattle.tc_asm.specs.Drafts.{DraftData, empty_draft, next_byte_offset, has_current_section, has_room, with_label, with_current_section, with_global, with_bytes, with_use, with_reference, with_content, draft_after_item};
     ghost use Rattle.tc_asm.specs.Symbols.{with_name};
     ghost use Rattle.tc_asm.specs.KnownSymbols.{is_new};
 
@@ -82,7 +82,7 @@ impl<'a> Draft<'a> {
 
     /// Whether the draft of an object has a current section.
     pub fn has_current_section(&self) -> bool
-        ensures { result ≡ has_section self.now }
+        ensures { result ≡ has_current_section self.now }
     {
         self.section < self.parts.len()
     }
@@ -181,8 +181,8 @@ impl<'a> Draft<'a> {
     ) -> Result<bool, AllocError>
         requires none { none.now ≡ [] }
         requires added { IsAddedItem (item_of item.now) }
-        ensures alike { OnOk result ((d : DraftData) → HasSameSizesAndSymbols self.old d
-            → HasSameSizesAndSymbols self.new (draft_after_item [] d (item_of item.now))) }
+        ensures alike { OnOk result ((d : DraftData) → HaveSameSizesAndSymbols self.old d
+            → HaveSameSizesAndSymbols self.new (draft_after_item [] d (item_of item.now))) }
         ensures new { IfOk result (λ new. new ≡ is_new self.old.symbols (item_of item.now)) }
     {
         match item {
@@ -328,8 +328,8 @@ impl<'a> Draft<'a> {
 
     /// Adds a label to the first pass's draft, and returns whether its name has no label before it.
     fn scan_label(&mut self, name: &'a [u8]) -> Result<bool, AllocError>
-        ensures alike { OnOk result ((d : DraftData) → HasSameSizesAndSymbols self.old d
-            → HasSameSizesAndSymbols self.new (draft_after_item [] d (label name.entry.now))) }
+        ensures alike { OnOk result ((d : DraftData) → HaveSameSizesAndSymbols self.old d
+            → HaveSameSizesAndSymbols self.new (draft_after_item [] d (label name.entry.now))) }
         ensures new { IfOk result (λ new. new ≡ is_new self.old.symbols (label name.entry.now)) }
     {
         let new = self.add_label(name)?;
@@ -344,8 +344,8 @@ impl<'a> Draft<'a> {
         r: &Option<Reference<'a>>,
     ) -> Result<(), AllocError>
         requires { IsAddedCode row fields.now (option_map reference_of r.now) }
-        ensures { OnOk result ((d : DraftData) → HasSameSizesAndSymbols self.old d
-            → HasSameSizesAndSymbols self.new (draft_after_item [] d
+        ensures { OnOk result ((d : DraftData) → HaveSameSizesAndSymbols self.old d
+            → HaveSameSizesAndSymbols self.new (draft_after_item [] d
             (code row fields.now (option_map reference_of r.now)))) }
     {
         let size = usize::from(assembled_code_size(row));
@@ -356,8 +356,8 @@ impl<'a> Draft<'a> {
     /// Adds data to the first pass's draft as far as symbols depend on them.
     fn scan_data(&mut self, bytes: &[u8], r: &Option<Reference<'a>>) -> Result<(), AllocError>
         requires { IsAddedData bytes.now (option_map reference_of r.now) }
-        ensures { OnOk result ((d : DraftData) → HasSameSizesAndSymbols self.old d
-            → HasSameSizesAndSymbols self.new (draft_after_item [] d
+        ensures { OnOk result ((d : DraftData) → HaveSameSizesAndSymbols self.old d
+            → HaveSameSizesAndSymbols self.new (draft_after_item [] d
             (data_item bytes.now (option_map reference_of r.now)))) }
     {
         self.add_zeros_for_bytes(bytes.len(), r)?;
@@ -374,8 +374,8 @@ impl<'a> Draft<'a> {
     ) -> Result<(), AllocError>
         requires none { none.now ≡ [] }
         requires added { IsAddedItem (item_of item.now) }
-        ensures { OnOk result ((d : DraftData) → HasSameSizesAndSymbols self.old d
-            → HasSameSizesAndSymbols self.new (draft_after_item [] d (item_of item.now))) }
+        ensures { OnOk result ((d : DraftData) → HaveSameSizesAndSymbols self.old d
+            → HaveSameSizesAndSymbols self.new (draft_after_item [] d (item_of item.now))) }
     {
         self.add_item(alloc, none, item)?;
         Ok(())

@@ -1,8 +1,8 @@
 // The bytes of an instruction, with a target in the same section resolved at once.
 ghost use Rattle.std.specs.Prelude.{◌≡◌, take, if◌then◌else◌, ◌==◌, false, option_map, ◌<◌};
-ghost use Rattle.tc_isa.specs.Rows.{is_long, row_of};
+ghost use Rattle.tc_isa.specs.Rows.{is_32_bit_row, row_of};
 ghost use Rattle.tc_stmt.specs.RowFields.{row_fields_of};
-ghost use Rattle.tc_asm.specs.Drafts.{assembled_code_size as size_of_code, assembled_code, drafted_fields as found_in};
+ghost use Rattle.tc_asm.specs.Drafts.{assembled_code_size as size_of_code, assembled_code, unbroken_fields as found_in};
 ghost use Rattle.tc_stmt.specs.Items.{reference_of};
 
 use crate::draft::Draft;
@@ -62,7 +62,7 @@ fn unbroken_fields<'a>(fields: Fields) -> RowFields<'a>
 
 /// The size in bytes of instructions of this row.
 fn assembled_row_size(row: &Row) -> u8
-    ensures { result ≡ (if is_long (row_of row.now) then 4 else 2) }
+    ensures { result ≡ (if is_32_bit_row (row_of row.now) then 4 else 2) }
 {
     if row.op1 % 2 == 1 { 4 } else { 2 }
 }

@@ -1,8 +1,8 @@
 // Turns a draft into an object.
 ghost use Rattle.std.specs.Prelude.{◌≡◌, ◌<◌, ◌++◌, ◌+◌, ◌^◌, map, length, All, IfOk, OnOk, is_some, true, string_bytes, ◌≤◌};
 ghost use Rattle.tc_object.specs.Names.{object_name_of as name_in};
-ghost use Rattle.tc_asm.specs.DraftViews.{use_of, part_of};
-ghost use Rattle.tc_asm.specs.Objects.{section_of, symbol_of, reloc_of, object_of_draft, relocs_from};
+ghost use Rattle.tc_asm.specs.DraftViews.{use_of, draft_section_of};
+ghost use Rattle.tc_asm.specs.Objects.{section_of, symbol_of, reloc_of, object_of_draft, relocs_of_sections};
 ghost use Rattle.tc_asm.specs.Symbols.{symbol as known_as};
 ghost use Rattle.tc_asm.specs.DraftInvariants.{IsDraft, IsSmallLabelPlace};
 
@@ -73,7 +73,7 @@ pub(crate) fn emit_relocs(
     requires symbols { length known.now < 2 ^ 16 }
     requires few { length parts.now ≤ 64 }
     requires offsets { All (λ p. All (λ u. u.offset < 2 ^ 32) p.uses.items) parts.now }
-    ensures { IfOk result (λ v. v.items ≡ relocs_from known.now 0 (map part_of parts.now)) }
+    ensures { IfOk result (λ v. v.items ≡ relocs_of_sections known.now 0 (map draft_section_of parts.now)) }
 {
     let mut out = Vec::new(alloc);
     for i in 0..parts.len() {
@@ -142,7 +142,7 @@ fn emit_reloc(known: &Symbols, section: usize, u: Use<'_>) -> Reloc
 /// The sections of the object, in the order of the draft.
 fn emit_sections(alloc: Global, parts: &[Part]) -> Result<Vec<Section>, AllocError>
     requires { All (λ p. is_some (name_in p.name.now) ≡ true) parts.now }
-    ensures { IfOk result (λ v. v.items ≡ map section_of (map part_of parts.now)) }
+    ensures { IfOk result (λ v. v.items ≡ map section_of (map draft_section_of parts.now)) }
 {
     let mut out = Vec::new(alloc);
     for i in 0..parts.len() {
@@ -157,7 +157,7 @@ fn emit_sections(alloc: Global, parts: &[Part]) -> Result<Vec<Section>, AllocErr
 /// The bytes that the object gets from a section of the draft, with the zeros that are only
 /// counted.
 fn emit_section_bytes(alloc: Global, part: &Part) -> Result<Vec<u8>, AllocError>
-    ensures { IfOk result (λ v. v.items ≡ (part_of part.now).bytes) }
+    ensures { IfOk result (λ v. v.items ≡ (draft_section_of part.now).bytes) }
 {
     let mut bytes = Vec::from_slice(alloc, &part.bytes)?;
     bytes.resize(section_len(part), 0)?;

@@ -2,8 +2,8 @@
 ghost use Rattle.std.specs.Prelude.{◌≡◌, ◌<◌, ◌≤◌, ◌^◌, map, OnOk, length, position, replicate};
 ghost use Rattle.std.specs.Str.{bytes_eq};
 ghost use Rattle.tc_stmt.specs.Items.{reference_of};
-ghost use Rattle.tc_asm.specs.DraftViews.{part_of};
-ghost use Rattle.tc_asm.specs.Drafts.{with_part_bytes, with_part_use, number_of_part};
+ghost use Rattle.tc_asm.specs.DraftViews.{draft_section_of};
+ghost use Rattle.tc_asm.specs.Drafts.{with_section_bytes, with_section_use, section_number};
 
 use crate::draft::MOST_BYTES;
 use std::alloc::AllocError;
@@ -34,7 +34,7 @@ pub struct Part<'a> {
 
 /// The number of the draft's section with this name, or the number of sections if none has it.
 pub(crate) fn section_number(parts: &[Part], name: &[u8]) -> usize
-    ensures value { result ≡ number_of_part (map part_of parts.now) name.now }
+    ensures value { result ≡ section_number (map draft_section_of parts.now) name.now }
     ensures within { result ≤ length parts.now }
 {
     match find_section(parts, name) {
@@ -45,7 +45,7 @@ pub(crate) fn section_number(parts: &[Part], name: &[u8]) -> usize
 
 /// The number of bytes of a section so far.
 pub(crate) fn section_len(part: &Part) -> usize
-    ensures { result ≡ length (part_of part.now).bytes }
+    ensures { result ≡ length (draft_section_of part.now).bytes }
 {
     part.bytes.len() + part.zeros as usize
 }
@@ -55,7 +55,7 @@ pub(crate) fn section_len(part: &Part) -> usize
 pub(crate) fn grow_section(parts: &mut Vec<Part>, i: usize, bytes: &[u8]) -> Result<(), AllocError>
     requires { i < length parts.old.items }
     ensures { OnOk result
-        (map part_of parts.new.items ≡ with_part_bytes (map part_of parts.old.items) i bytes.now) }
+        (map draft_section_of parts.new.items ≡ with_section_bytes (map draft_section_of parts.old.items) i bytes.now) }
 {
     let part = &mut parts[i];
     write_zeros_if_any(part)?;
@@ -68,8 +68,8 @@ pub(crate) fn add_section_zeros(parts: &mut Vec<Part>, i: usize, n: usize) -> Re
     requires place { i < length parts.old.items }
     requires few { n ≤ 2 ^ 24 }
     ensures { OnOk result
-        (map part_of parts.new.items
-        ≡ with_part_bytes (map part_of parts.old.items) i (replicate n 0)) }
+        (map draft_section_of parts.new.items
+        ≡ with_section_bytes (map draft_section_of parts.old.items) i (replicate n 0)) }
 {
     let part = &mut parts[i];
     limit_counted_zeros(part)?;
@@ -85,8 +85,8 @@ pub(crate) fn add_section_use<'a>(
     reference: Reference<'a>,
 ) -> Result<(), AllocError>
     requires { i < length parts.old.items }
-    ensures { OnOk result (map part_of parts.new.items
-        ≡ with_part_use (map part_of parts.old.items) i
+    ensures { OnOk result (map draft_section_of parts.new.items
+        ≡ with_section_use (map draft_section_of parts.old.items) i
         (record { offset = offset; reference = reference_of reference.entry })) }
 {
     let part = &mut parts[i];
@@ -97,7 +97,7 @@ pub(crate) fn add_section_use<'a>(
 // Writes the zeros at the end of a section that are only counted.
 #[inline(never)]
 pub(crate) fn write_counted_zeros(part: &mut Part) -> Result<(), AllocError>
-    ensures same { OnOk result (part_of part.new ≡ part_of part.old) }
+    ensures same { OnOk result (draft_section_of part.new ≡ draft_section_of part.old) }
     ensures none { OnOk result (part.new.zeros ≡ 0) }
 {
     let len = section_len(part);
@@ -117,7 +117,7 @@ fn find_section(parts: &[Part], name: &[u8]) -> Option<usize>
 // in a draft's section.
 #[inline(always)]
 fn write_zeros_if_any(part: &mut Part) -> Result<(), AllocError>
-    ensures same { OnOk result (part_of part.new ≡ part_of part.old) }
+    ensures same { OnOk result (draft_section_of part.new ≡ draft_section_of part.old) }
     ensures none { OnOk result (part.new.zeros ≡ 0) }
 {
     if part.zeros == 0 {
@@ -129,7 +129,7 @@ fn write_zeros_if_any(part: &mut Part) -> Result<(), AllocError>
 // Writes the counted zeros at the end of a draft's section if they are more than `MOST_BYTES`, so
 // that their number stays small.
 fn limit_counted_zeros(part: &mut Part) -> Result<(), AllocError>
-    ensures same { OnOk result (part_of part.new ≡ part_of part.old) }
+    ensures same { OnOk result (draft_section_of part.new ≡ draft_section_of part.old) }
     ensures few { OnOk result (part.new.zeros ≤ 2 ^ 24) }
 {
     if part.zeros as usize <= MOST_BYTES {

@@ -63,7 +63,7 @@ impl<'a> Model for Symbols<'a> {
 
 impl<'a> Symbols<'a> {
     ghost use Rattle.std.specs.Prelude.{◌≡◌, ◌<◌, ◌≤◌, [], IfOk, OnOk, length, slice_get, Some};
-    ghost use Rattle.tc_asm.specs.Symbols.{symbol_number, symbol, entry_in, entry_of, put_entry, place_in, with_name, with_symbol_label, with_global_symbol};
+    ghost use Rattle.tc_asm.specs.Symbols.{symbol_number, symbol, entry_in, entry_or_undefined, with_symbol_entry, place_in, with_name, with_symbol_label, with_global_symbol};
 
     /// An empty table of the assembler's symbols.
     pub fn new(alloc: Global) -> Symbols<'a>
@@ -163,7 +163,7 @@ impl<'a> Symbols<'a> {
     /// The entry of a name in the assembler's table of symbols, or `UNSEEN` if it isn't in the
     /// table.
     fn entry_or_undefined(&self, name: &[u8]) -> Entry
-        ensures { result ≡ entry_of self.now name.now }
+        ensures { result ≡ entry_or_undefined self.now name.now }
     {
         self.get(name).unwrap_or(UNSEEN)
     }
@@ -171,7 +171,7 @@ impl<'a> Symbols<'a> {
     // Sets the entry of a name in the assembler's table of symbols, and returns the entry before,
     // if there was one.
     fn insert(&mut self, name: &'a [u8], entry: Entry) -> Result<Option<Entry>, AllocError>
-        ensures put { OnOk result (self.new ≡ put_entry self.old name.entry.now entry) }
+        ensures put { OnOk result (self.new ≡ with_symbol_entry self.old name.entry.now entry) }
         ensures old { IfOk result (λ old. old ≡ entry_in self.old name.entry.now) }
     {
         Ok(self.known.insert(name, entry)?)

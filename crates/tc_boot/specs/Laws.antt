@@ -57,5 +57,5 @@ BootReachesStart =
 
 -- an image that is safe from its start states is safe from reset on, if it holds a boot sequence
 -- that may run
-abbrev pub SafeBoots : Type 0
-SafeBoots = (image : ImageData) (plan : PlanData) (at most : ℕ) → IsPlan plan → IsImage image → HasBoot image plan at → Safe image plan most → BootsSafely image plan at most
+abbrev pub SafeImagesBootSafely : Type 0
+SafeImagesBootSafely = (image : ImageData) (plan : PlanData) (at most : ℕ) → IsPlan plan → IsImage image → HasBoot image plan at → Safe image plan most → BootsSafely image plan at most

@@ -4,18 +4,18 @@ use Rattle.std.specs.List.{flat_map}
 use Rattle.elf_image.specs.Images.{ImageData}
 use Rattle.tcd_plan.specs.PlanData.{PlanData}
 use Rattle.tc_isa.specs.Insts.{InstData}
-use Rattle.tc_isa.specs.NamedInstructions.{movh, addi, mov, movh_a, mtcr, mov_a, ji, isync, st_w_after, st_w_l, lea_l, loop_at, upper_half, lower_half}
+use Rattle.tc_isa.specs.NamedInstructions.{movh, addi, mov, movh_a, mtcr, mov_a, ji, isync, st_w_after, st_w_l, lea_l, loop_at, adjusted_upper_half, lower_half}
 use Rattle.tc_isa.specs.Spelling.{instruction_bytes}
 use Rattle.tc_machine.specs.PlanAreas.{first_link}
 
 -- ---- words into registers
 -- sets a core register to x, by D0; the register holds x from the next instruction on
-abbrev pub set_core_register_at_boot : ℕ → ℕ → List InstData
-set_core_register_at_boot number x = movh 0 (upper_half x) ∷ addi 0 0 (lower_half x) ∷ mtcr number 0 ∷ isync ∷ []
+abbrev pub core_register_write : ℕ → ℕ → List InstData
+core_register_write number x = movh 0 (adjusted_upper_half x) ∷ addi 0 0 (lower_half x) ∷ mtcr number 0 ∷ isync ∷ []
 
 -- sets an address register to x
-abbrev pub set_address_register_at_boot : ℕ → ℕ → List InstData
-set_address_register_at_boot r x = movh_a r (upper_half x) ∷ lea_l r r (lower_half x) ∷ []
+abbrev pub address_register_write : ℕ → ℕ → List InstData
+address_register_write r x = movh_a r (adjusted_upper_half x) ∷ lea_l r r (lower_half x) ∷ []
 
 -- ---- the sequence, which is the project's own; the numbers of core registers are the
 -- architecture's
@@ -29,38 +29,38 @@ abbrev pub boot_psw : PlanData → ℕ
 boot_psw plan = if plan.start_is then 0xb7f else 0x97f
 
 -- sets CCPN (in ICR, with interrupts off), PCXI, FCX, LCX, BIV, BTV, ISP and PSW
-abbrev pub boot_core_part : PlanData → List InstData
-boot_core_part plan =
-    set_core_register_at_boot 0xfe2c plan.start_ccpn ++ set_core_register_at_boot 0xfe00 0 ++ set_core_register_at_boot 0xfe38 (first_link plan) ++ set_core_register_at_boot 0xfe3c (boot_limit_link plan)
-    ++ set_core_register_at_boot 0xfe20 plan.biv ++ set_core_register_at_boot 0xfe24 plan.btv ++ set_core_register_at_boot 0xfe28 plan.isp ++ set_core_register_at_boot 0xfe04 (boot_psw plan)
+abbrev pub boot_core_setup : PlanData → List InstData
+boot_core_setup plan =
+    core_register_write 0xfe2c plan.start_ccpn ++ core_register_write 0xfe00 0 ++ core_register_write 0xfe38 (first_link plan) ++ core_register_write 0xfe3c (boot_limit_link plan)
+    ++ core_register_write 0xfe20 plan.biv ++ core_register_write 0xfe24 plan.btv ++ core_register_write 0xfe28 plan.isp ++ core_register_write 0xfe04 (boot_psw plan)
 
 -- sets D0 to the first link word, A2 to the first CSA, A3 to the number of CSAs less one
-abbrev pub boot_loop_start_part : PlanData → List InstData
-boot_loop_start_part plan =
-    movh 0 (upper_half (first_link plan)) ∷ addi 0 0 (lower_half (first_link plan)) ∷ set_address_register_at_boot 2 plan.csa_at
+abbrev pub boot_loop_setup : PlanData → List InstData
+boot_loop_setup plan =
+    movh 0 (adjusted_upper_half (first_link plan)) ∷ addi 0 0 (lower_half (first_link plan)) ∷ address_register_write 2 plan.csa_at
     ++ mov 1 (plan.areas - 1) ∷ mov_a 3 1 ∷ []
 
 -- writes into each CSA the link word of the next one; loop goes back by two instructions
-abbrev pub boot_link_part : List InstData
-boot_link_part = addi 0 0 1 ∷ st_w_after 2 64 0 ∷ loop_at 3 (2 ^ 15 - 4) ∷ []
+abbrev pub boot_link_loop : List InstData
+boot_link_loop = addi 0 0 1 ∷ st_w_after 2 64 0 ∷ loop_at 3 (2 ^ 15 - 4) ∷ []
 
 -- writes 0 into the last CSA, as the end of the list
-abbrev pub boot_last_part : List InstData
-boot_last_part = mov 1 0 ∷ st_w_l 2 (2 ^ 16 - 64) 1 ∷ []
+abbrev pub boot_list_end : List InstData
+boot_list_end = mov 1 0 ∷ st_w_l 2 (2 ^ 16 - 64) 1 ∷ []
 
 -- sets the global registers and the stack pointer
-abbrev pub boot_address_part : PlanData → List InstData
-boot_address_part plan =
-    set_address_register_at_boot 0 (slice_index plan.globals 0) ++ set_address_register_at_boot 1 (slice_index plan.globals 1) ++ set_address_register_at_boot 8 (slice_index plan.globals 2)
-    ++ set_address_register_at_boot 9 (slice_index plan.globals 3) ++ set_address_register_at_boot 10 plan.sp
+abbrev pub boot_address_setup : PlanData → List InstData
+boot_address_setup plan =
+    address_register_write 0 (slice_index plan.globals 0) ++ address_register_write 1 (slice_index plan.globals 1) ++ address_register_write 8 (slice_index plan.globals 2)
+    ++ address_register_write 9 (slice_index plan.globals 3) ++ address_register_write 10 plan.sp
 
 -- the jump to the entry
-abbrev pub boot_jump_part : ℕ → List InstData
-boot_jump_part entry = set_address_register_at_boot 15 entry ++ ji 15 ∷ []
+abbrev pub boot_jump : ℕ → List InstData
+boot_jump entry = address_register_write 15 entry ++ ji 15 ∷ []
 
 -- the whole sequence: 32, 6, 3, 2, 10 and 3 instructions
 abbrev pub boot_sequence : PlanData → ℕ → List InstData
-boot_sequence plan entry = boot_core_part plan ++ boot_loop_start_part plan ++ boot_link_part ++ boot_last_part ++ boot_address_part plan ++ boot_jump_part entry
+boot_sequence plan entry = boot_core_setup plan ++ boot_loop_setup plan ++ boot_link_loop ++ boot_list_end ++ boot_address_setup plan ++ boot_jump entry
 
 -- ---- its bytes
 

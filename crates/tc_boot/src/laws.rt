@@ -1,11 +1,11 @@
 // Public laws of the boot sequence.
-ghost use Rattle.tc_boot.specs.Laws.{AllAreAtReset, BootsStayInSequence, EveryBootIsSafe, BootTestHasOneResult, BootReachesStart, SafeBoots};
+ghost use Rattle.tc_boot.specs.Laws.{AllAreAtReset, BootsStayInSequence, EveryBootIsSafe, BootTestHasOneResult, BootReachesStart, SafeImagesBootSafely};
 
 /// From every state at reset, the boot sequence reaches a start state. It takes three events for
 /// each CSA, and 53 more. If an image is safe from its start states, it is safe from reset on.
 pub fn boot_reaches_the_start()
     ensures starts { BootReachesStart }
-    ensures safe { SafeBoots }
+    ensures safe { SafeImagesBootSafely }
 {}
 
 /// Consequences of this crate's definitions in plain equations: the machines at reset, the

@@ -3,7 +3,7 @@ use Rattle.std.proofs.Common.{◌≡◌, ◌<◌, ◌≤◌, ◌+◌, ◌-◌, z
 use Rattle.std.specs.List.{flat_map}
 use Rattle.std.proofs.lemmas.List.{drop-drop, drop_all, take_more, flat_map_more}
 use Rattle.elf_image.specs.Images.{SegmentData}
-use Rattle.tc_disasm.specs.Listing.{listed_size_at, listing_line_at, listing_lines_from, section_text, listing_sections_from}
+use Rattle.tc_disasm.specs.Listing.{instruction_or_data_size, listing_line_at, listing_lines_from, section_text, listing_sections_from}
 
 -- a further item
 pub flat_map_on : {X : Type 0} (f : X → List ℕ) (xs : List X) (i : ℕ) (d : X) (start before after : List ℕ) → i < length xs
@@ -22,17 +22,17 @@ lines-skip address (b ∷ bs) zero = rw add-zero refl
 lines-skip address (b ∷ bs) (suc n) = lines-skip (address + 1) bs n ∙ ap (λ a. listing_lines_from a (drop n bs) 0) (omega arith)
 
 -- the line at the front, and the others
-pub lines-front : (address : ℕ) (bs : List ℕ) (n : ℕ) → 0 < length bs → 0 < n → n ≡ listed_size_at bs → listing_lines_from address bs 0 ≡ listing_line_at address bs ++ listing_lines_from (address + n) (drop n bs) 0
+pub lines-front : (address : ℕ) (bs : List ℕ) (n : ℕ) → 0 < length bs → 0 < n → n ≡ instruction_or_data_size bs → listing_lines_from address bs 0 ≡ listing_line_at address bs ++ listing_lines_from (address + n) (drop n bs) 0
 unfolding listing_lines_from
 lines-front address [] n some more e = absurd (omega arith)
 lines-front address (b ∷ bs) zero some more e = absurd (omega arith)
 lines-front address (b ∷ bs) (suc n) some more e =
-    let one : listed_size_at (b ∷ bs) - 1 ≡ n = omega arith in
+    let one : instruction_or_data_size (b ∷ bs) - 1 ≡ n = omega arith in
     ap (λ m. listing_line_at address (b ∷ bs) ++ listing_lines_from (address + 1) bs m) one
     ∙ ap (λ ls. listing_line_at address (b ∷ bs) ++ ls) (lines-skip (address + 1) bs n ∙ ap (λ a. listing_lines_from a (drop n bs) 0) (omega arith))
 
 -- a further line
-pub lines_on : (address at n : ℕ) (bs start before after : List ℕ) → at < length bs → 0 < n → n ≡ listed_size_at (drop at bs)
+pub lines_on : (address at n : ℕ) (bs start before after : List ℕ) → at < length bs → 0 < n → n ≡ instruction_or_data_size (drop at bs)
     → before ++ listing_lines_from (address + at) (drop at bs) 0 ≡ start
     → after ≡ before ++ listing_line_at (address + at) (drop at bs)
     → after ++ listing_lines_from (address + (at + n)) (drop (at + n) bs) 0 ≡ start

@@ -3,7 +3,7 @@ use Rattle.std.proofs.Common.{◌<◌, ◌≤◌, ◌^◌, arith}
 use Rattle.tc_isa.specs.declared.table.Form.{Form}
 use Rattle.tc_isa.specs.declared.table.Form.TheVariants.{Rlc}
 use Rattle.tc_isa.specs.declared.fields.Fields.{Fields}
-use Rattle.tc_isa.specs.Forms.{bounds}
+use Rattle.tc_isa.specs.Forms.{field_bounds}
 use Rattle.tc_isa.specs.InBounds.{AreFieldsBelow}
 use Rattle.tc_stmt.specs.declared.want.Field.{Field}
 use Rattle.tc_stmt.specs.declared.want.Field.TheVariants.{C, S1, S2, N, K}
@@ -19,7 +19,7 @@ field_of-below N f b h = h.n
 field_of-below K f b h = h.k
 
 -- no field has more than 24 bits
-pub bounds-k : (form : Form) → (bounds form).k ≤ 2 ^ 24
-unfolding bounds
+pub bounds-k : (form : Form) → (field_bounds form).k ≤ 2 ^ 24
+unfolding field_bounds
 bounds-k Rlc = omega arith
 bounds-k _ = omega arith

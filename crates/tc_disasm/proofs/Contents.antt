@@ -13,8 +13,8 @@ use Rattle.tc_lex.specs.Numbers.{token_number}
 use Rattle.tc_stmt.specs.Lines.{LineData, line_data, line_in}
 use Rattle.tc_asm.specs.Symbols.{SymbolData}
 use Rattle.tc_stmt.specs.Items.{section}
-use Rattle.tc_asm.specs.Drafts.{PartData, DraftData, part}
-use Rattle.tc_disasm.specs.Listing.{listing_line_at, listing_lines_from, listed_size_at, listing_section_line, section_text, listing_sections_from}
+use Rattle.tc_asm.specs.Drafts.{DraftSectionData, DraftData, part}
+use Rattle.tc_disasm.specs.Listing.{listing_line_at, listing_lines_from, instruction_or_data_size, listing_section_line, section_text, listing_sections_from}
 use Rattle.tc_disasm.proofs.Appending.{lines-front}
 use Rattle.tc_disasm.proofs.Decimals.{number_of-decimal}
 use Rattle.tc_disasm.proofs.Partings.{split_at}
@@ -56,7 +56,7 @@ more_lines t u ls ms a b = record {
 pub record Content (address : ℕ) (bs : List ℕ) : Type 0 where
   pub ls : List LineData
   pub lines : AreLines (listing_lines_from address bs 0) ls
-  pub runs : (labels : List SymbolData) (ps : List PartData) (name before : List ℕ) (total : ℕ) → total + length bs ≤ 2 ^ 24
+  pub runs : (labels : List SymbolData) (ps : List DraftSectionData) (name before : List ℕ) (total : ℕ) → total + length bs ≤ 2 ^ 24
       → Runs labels (growing ps name before total) ls (growing ps name (before ++ bs) (total + length bs))
 
 content-none : (address : ℕ) → Content address []
@@ -68,7 +68,7 @@ content-none address = record {
       subst (λ (d : DraftData). Runs labels (growing ps name before total) [] d) (same ps name before total) (runs-none labels (growing ps name before total));
 }
   where
-    same : (ps : List PartData) (name before : List ℕ) (total : ℕ) → growing ps name before total ≡ growing ps name (before ++ []) (total + 0)
+    same : (ps : List DraftSectionData) (name before : List ℕ) (total : ℕ) → growing ps name before total ≡ growing ps name (before ++ []) (total + 0)
     same ps name before total = ap (λ bs. growing ps name bs total) (sym (append-nil before)) ∙ ap (λ n. growing ps name (before ++ []) n) (omega arith)
 
 pub all-drop : (p : ℕ → Bool) (n : ℕ) (bs : List ℕ) → list_all p bs ≡ true → list_all p (drop n bs) ≡ true
@@ -77,10 +77,10 @@ all-drop p (suc n) [] e = e
 all-drop p (suc n) (b ∷ bs) e = all-drop p n bs (and_parts (p b) (list_all p bs) e).1
 
 -- a line, and then the other ones
-content-more : (address : ℕ) (bs : List ℕ) → 0 < length bs → list_all is_byte bs ≡ true → Content (address + listed_size_at bs) (drop (listed_size_at bs) bs) → Content address bs
+content-more : (address : ℕ) (bs : List ℕ) → 0 < length bs → list_all is_byte bs ≡ true → Content (address + instruction_or_data_size bs) (drop (instruction_or_data_size bs) bs) → Content address bs
 content-more address bs some small next =
     let h = here address bs some small in
-    let n = listed_size_at bs in
+    let n = instruction_or_data_size bs in
     record {
       ls = h.line ∷ next.ls;
       lines = subst (λ (t : List ℕ). AreLines t (h.line ∷ next.ls)) (sym (lines-front address bs n some h.some refl))
@@ -104,17 +104,17 @@ content fuel address [] few small = content-none address
 content zero address (b ∷ bs) few small = absurd (omega arith)
 content (suc fuel) address (b ∷ bs) few small =
     let h = here address (b ∷ bs) (omega arith) small in
-    let n = listed_size_at (b ∷ bs) in
+    let n = instruction_or_data_size (b ∷ bs) in
     let some : 0 < n = h.some in
     let less : length (drop n (b ∷ bs)) ≤ fuel = omega (arith, length-drop n (b ∷ bs)) in
     content-more address (b ∷ bs) (omega arith) small (content fuel (address + n) (drop n (b ∷ bs)) less (all-drop is_byte n (b ∷ bs) small))
 
 -- ---- sections
-abbrev pub section_part : ℕ → SegmentData → PartData
+abbrev pub section_part : ℕ → SegmentData → DraftSectionData
 section_part n s = part (115 ∷ decimal n) s.bytes []
 
 -- the sections of these segments, numbered from here on
-abbrev pub parts_from : ℕ → List SegmentData → List PartData
+abbrev pub parts_from : ℕ → List SegmentData → List DraftSectionData
 parts_from n [] = []
 parts_from n (s ∷ ss) = section_part n s ∷ parts_from (n + 1) ss
 
@@ -122,11 +122,11 @@ abbrev pub total_of : List SegmentData → ℕ
 total_of ss = sum_by (λ (s : SegmentData). length s.bytes) ss
 
 -- the names of sections with numbers below this one
-abbrev pub AreBelow : ℕ → List PartData → Type 0
+abbrev pub AreBelow : ℕ → List DraftSectionData → Type 0
 AreBelow n [] = Unit {0}
 AreBelow n (p ∷ ps) = ((k : ℕ) × (k < n) × (p.name ≡ 115 ∷ decimal k)) × AreBelow n ps
 
-below-push : (n : ℕ) (ps : List PartData) (bs : List ℕ) → AreBelow n ps → AreBelow (n + 1) (ps ++ part (115 ∷ decimal n) bs [] ∷ [])
+below-push : (n : ℕ) (ps : List DraftSectionData) (bs : List ℕ) → AreBelow n ps → AreBelow (n + 1) (ps ++ part (115 ∷ decimal n) bs [] ∷ [])
 below-push n [] bs e = ((n, omega arith, refl), tt)
 below-push n (p ∷ ps) bs e = let less : e.0.0 < n = e.0.1 in ((e.0.0, omega arith, e.0.2), below-push n ps bs e.1)
 
@@ -144,7 +144,7 @@ other_name n k less small = by_test (bytes_eq (decimal n) (decimal k)) refl
     by_test true e = absurd (differ ((bytes_eq-Decides (decimal n) (decimal k)).0 e))
     by_test false e = e
 
-below-fresh : (n : ℕ) (ps : List PartData) → n < 64 → AreBelow n ps → is_fresh (115 ∷ decimal n) ps ≡ true
+below-fresh : (n : ℕ) (ps : List DraftSectionData) → n < 64 → AreBelow n ps → is_fresh (115 ∷ decimal n) ps ≡ true
 below-fresh n [] small e = refl
 below-fresh n (p ∷ ps) small e =
     let other : bytes_eq (115 ∷ decimal n) p.name ≡ false = ap (bytes_eq (115 ∷ decimal n)) e.0.2 ∙ other_name n e.0.0 e.0.1 small in
@@ -154,7 +154,7 @@ below-fresh n (p ∷ ps) small e =
 pub record Sections (n : ℕ) (ss : List SegmentData) : Type 0 where
   pub ls : List LineData
   pub lines : AreLines (listing_sections_from n ss) ls
-  pub runs : (labels : List SymbolData) (number total : ℕ) (ps : List PartData) → length ps ≡ n → n + length ss ≤ 64 → AreBelow n ps → total + total_of ss ≤ 2 ^ 24
+  pub runs : (labels : List SymbolData) (number total : ℕ) (ps : List DraftSectionData) → length ps ≡ n → n + length ss ≤ 64 → AreBelow n ps → total + total_of ss ≤ 2 ^ 24
       → (last : ℕ) × Runs labels (draft number ps total) ls (draft last (ps ++ parts_from n ss) (total + total_of ss))
 
 sections-none : (n : ℕ) → Sections n []
@@ -171,7 +171,7 @@ unfolding section_text
 section-lines n s small c =
     more_lines (listing_section_line n s.at) (listing_lines_from s.at s.bytes 0) (line_data 15 (section (115 ∷ decimal n) ∷ []) ∷ []) c.ls (one_line (listing_section_line n s.at) (line_data 15 (section (115 ∷ decimal n) ∷ [])) (section-is_line n s.at small)) c.lines
 
-section-runs : (labels : List SymbolData) (number total n : ℕ) (ps : List PartData) (s : SegmentData) (c : Content s.at s.bytes) → length ps ≡ n → n < 64 → AreBelow n ps → total + length s.bytes ≤ 2 ^ 24
+section-runs : (labels : List SymbolData) (number total n : ℕ) (ps : List DraftSectionData) (s : SegmentData) (c : Content s.at s.bytes) → length ps ≡ n → n < 64 → AreBelow n ps → total + length s.bytes ≤ 2 ^ 24
     → Runs labels (draft number ps total) (line_data 15 (section (115 ∷ decimal n) ∷ []) ∷ c.ls) (growing ps (115 ∷ decimal n) s.bytes (total + length s.bytes))
 section-runs labels number total n ps s c long few below room =
     runs-append labels (draft number ps total) (growing ps (115 ∷ decimal n) [] total) (growing ps (115 ∷ decimal n) s.bytes (total + length s.bytes)) (line_data 15 (section (115 ∷ decimal n) ∷ []) ∷ []) c.ls

@@ -4,21 +4,21 @@ use Rattle.std.specs.Prelude.{codes, nat_lt, fold}
 use Rattle.std.specs.Fmt.{decimal}
 use Rattle.std.proofs.lemmas.Bool.Decides.{nat_tests}
 use Rattle.tc_lex.specs.declared.kinds.TokenKind.TheVariants as kind
-use Rattle.tcd_base.specs.NameBytes.{is_name_byte, is_name_first}
+use Rattle.tcd_base.specs.NameBytes.{is_name_byte, is_name_start}
 use Rattle.tc_lex.specs.Bytes.{is_digit}
-use Rattle.tc_lex.specs.Cut.{has_hex_front}
+use Rattle.tc_lex.specs.Cut.{has_hex_prefix}
 use Rattle.tc_lex.specs.Pieces.{kind_index, PieceData, is_token_kind}
 use Rattle.tcd_base.specs.Bytes.{four_bytes}
 use Rattle.tc_lex.specs.declared.operand.Shape.TheVariants as shape
 use Rattle.tc_lex.specs.Numbers.{token_number, add_digit}
-use Rattle.tc_lex.specs.Operands.{OperandData, operand, operands, operand_value_data, plain_operand, plain_number}
+use Rattle.tc_lex.specs.Operands.{OperandData, operand, operands, value_with_shape, plain_operand, number_operand_value}
 use Rattle.tc_stmt.specs.OperandForms.{shape_index}
 use Rattle.tc_stmt.specs.Items.{bytes, section}
 use Rattle.tc_stmt.specs.DataValues.{value_rule, value_item, values_rule}
-use Rattle.tc_stmt.specs.Lines.{line_data, tokens_line, statement_line, values_line, named_line, only_operand_name, is_named_line_operand}
+use Rattle.tc_stmt.specs.Lines.{line_data, tokens_line, statement_line, values_line, named_line, only_operand_name, is_unbracketed_name}
 use Rattle.tcd_text.specs.HexNumbers.{hex_byte}
 use Rattle.tc_disasm.specs.Tokens.{printed_token}
-use Rattle.tc_disasm.specs.Lexed.{IsListingStop}
+use Rattle.tc_disasm.specs.Lexed.{IsTokenEnd}
 use Rattle.tc_disasm.proofs.Decimals.{decimal_is}
 use Rattle.tc_disasm.proofs.Hexes.{is_hex-digit, added-byte, last-byte}
 use Rattle.tc_disasm.proofs.OperandLaws.{operand-word}
@@ -34,12 +34,12 @@ unfolding operands is_token_kind kind_index
 one_operand name p no_colon no_comma = pieces_line-word name (p ∷ []) no_colon ∙ ap (statement_line name) (rw no_comma refl)
 
 -- ---- data
-front_half : (a b : ℕ) → b < 256 → has_hex_front (48 ∷ 120 ∷ (hex_byte b ++ hex_byte a)) ≡ true
-unfolding has_hex_front hex_byte
+front_half : (a b : ℕ) → b < 256 → has_hex_prefix (48 ∷ 120 ∷ (hex_byte b ++ hex_byte a)) ≡ true
+unfolding has_hex_prefix hex_byte
 front_half a b high = is_hex-digit (b / 16) (omega arith)
 
-front_byte : (a : ℕ) → a < 256 → has_hex_front (48 ∷ 120 ∷ hex_byte a) ≡ true
-unfolding has_hex_front hex_byte
+front_byte : (a : ℕ) → a < 256 → has_hex_prefix (48 ∷ 120 ∷ hex_byte a) ≡ true
+unfolding has_hex_prefix hex_byte
 front_byte a low = is_hex-digit (a / 16) (omega arith)
 
 half_number : (a b : ℕ) → a < 256 → b < 256 → token_number (48 ∷ 120 ∷ (hex_byte b ++ hex_byte a)) ≡ Some (b * 256 + a)
@@ -58,7 +58,7 @@ byte_number a low =
     ∙ ap (λ n. Some n) (omega arith)
 
 -- a value that is a number which fits
-values_one : (width n : ℕ) → nat_lt n (2 ^ (8 * width)) ≡ true → values_line width (plain_operand (operand_value_data shape.Number [] false n) ∷ []) ≡ line_data 15 (bytes (take width (four_bytes n)) None ∷ [])
+values_one : (width n : ℕ) → nat_lt n (2 ^ (8 * width)) ≡ true → values_line width (plain_operand (value_with_shape shape.Number [] false n) ∷ []) ≡ line_data 15 (bytes (take width (four_bytes n)) None ∷ [])
 unfolding values_line values_rule value_rule value_item shape_index
 values_one width n small = rw small refl
 
@@ -83,8 +83,8 @@ stated-section : (os : List OperandData) → statement_line (codes ".section") o
 unfolding statement_line
 stated-section os = refl
 
-lexes-half : (a b : ℕ) (rest : List ℕ) → a < 256 → b < 256 → IsListingStop rest → Lexes rest [] → Lexes ((codes ".half 0x" ++ (hex_byte b ++ hex_byte a)) ++ rest) (printed_token kind.Word (codes ".half") ∷ printed_token kind.Number (48 ∷ 120 ∷ (hex_byte b ++ hex_byte a)) ∷ [])
-unfolding is_name_first is_name_byte is_digit hex_byte
+lexes-half : (a b : ℕ) (rest : List ℕ) → a < 256 → b < 256 → IsTokenEnd rest → Lexes rest [] → Lexes ((codes ".half 0x" ++ (hex_byte b ++ hex_byte a)) ++ rest) (printed_token kind.Word (codes ".half") ∷ printed_token kind.Number (48 ∷ 120 ∷ (hex_byte b ++ hex_byte a)) ∷ [])
+unfolding is_name_start is_name_byte is_digit hex_byte
 lexes-half a b rest low high stop h =
     let digits : List ℕ = hex_byte b ++ hex_byte a in
     let p : PieceData = printed_token kind.Number (48 ∷ 120 ∷ digits) in
@@ -92,53 +92,53 @@ lexes-half a b rest low high stop h =
     (lexes-blank (48 ∷ 120 ∷ (digits ++ rest)) (p ∷ [])
     (lexes-hex digits rest [] (hex_byte-is b (hex_byte a) high (hex_byte-is a [] low refl)) (hex_byte-some b (hex_byte a)) stop h))
 
-pub reads-half : (a b : ℕ) (rest : List ℕ) → a < 256 → b < 256 → IsListingStop rest → Lexes rest [] → Reads ((codes ".half 0x" ++ (hex_byte b ++ hex_byte a)) ++ rest) (line_data 15 (bytes (a ∷ b ∷ []) None ∷ []))
+pub reads-half : (a b : ℕ) (rest : List ℕ) → a < 256 → b < 256 → IsTokenEnd rest → Lexes rest [] → Reads ((codes ".half 0x" ++ (hex_byte b ++ hex_byte a)) ++ rest) (line_data 15 (bytes (a ∷ b ∷ []) None ∷ []))
 reads-half a b rest low high stop h =
     let digits : List ℕ = hex_byte b ++ hex_byte a in
     let p : PieceData = printed_token kind.Number (48 ∷ 120 ∷ digits) in
     reads-tokens ((codes ".half 0x" ++ digits) ++ rest) (printed_token kind.Word (codes ".half") ∷ p ∷ []) _ (lexes-half a b rest low high stop h) (omega arith)
     (one_operand (codes ".half") p (unfold kind_index in refl) (unfold kind_index in refl)
-    ∙ ap (λ o. statement_line (codes ".half") (o ∷ [])) (operand-one (48 ∷ 120 ∷ digits) ∙ ap (λ n. plain_operand (plain_number false n)) (half_number a b low high))
-    ∙ stated-half (plain_operand (operand_value_data shape.Number [] false (b * 256 + a)) ∷ [])
+    ∙ ap (λ o. statement_line (codes ".half") (o ∷ [])) (operand-one (48 ∷ 120 ∷ digits) ∙ ap (λ n. plain_operand (number_operand_value false n)) (half_number a b low high))
+    ∙ stated-half (plain_operand (value_with_shape shape.Number [] false (b * 256 + a)) ∷ [])
     ∙ values_one 2 (b * 256 + a) (grind (arith, nat_tests))
     ∙ ap (λ bs. line_data 15 (bytes bs None ∷ [])) (half_bytes a b low high))
 
-lexes-byte : (a : ℕ) (rest : List ℕ) → a < 256 → IsListingStop rest → Lexes rest [] → Lexes ((codes ".byte 0x" ++ hex_byte a) ++ rest) (printed_token kind.Word (codes ".byte") ∷ printed_token kind.Number (48 ∷ 120 ∷ hex_byte a) ∷ [])
-unfolding is_name_first is_name_byte is_digit hex_byte
+lexes-byte : (a : ℕ) (rest : List ℕ) → a < 256 → IsTokenEnd rest → Lexes rest [] → Lexes ((codes ".byte 0x" ++ hex_byte a) ++ rest) (printed_token kind.Word (codes ".byte") ∷ printed_token kind.Number (48 ∷ 120 ∷ hex_byte a) ∷ [])
+unfolding is_name_start is_name_byte is_digit hex_byte
 lexes-byte a rest low stop h =
     let p : PieceData = printed_token kind.Number (48 ∷ 120 ∷ hex_byte a) in
     lexes-word 46 (98 ∷ 121 ∷ 116 ∷ 101 ∷ []) (32 ∷ 48 ∷ 120 ∷ (hex_byte a ++ rest)) (p ∷ []) refl refl refl
     (lexes-blank (48 ∷ 120 ∷ (hex_byte a ++ rest)) (p ∷ [])
     (lexes-hex (hex_byte a) rest [] (hex_byte-is a [] low refl) (hex_byte-some a []) stop h))
 
-pub reads-byte : (a : ℕ) (rest : List ℕ) → a < 256 → IsListingStop rest → Lexes rest [] → Reads ((codes ".byte 0x" ++ hex_byte a) ++ rest) (line_data 15 (bytes (a ∷ []) None ∷ []))
+pub reads-byte : (a : ℕ) (rest : List ℕ) → a < 256 → IsTokenEnd rest → Lexes rest [] → Reads ((codes ".byte 0x" ++ hex_byte a) ++ rest) (line_data 15 (bytes (a ∷ []) None ∷ []))
 reads-byte a rest low stop h =
     let p : PieceData = printed_token kind.Number (48 ∷ 120 ∷ hex_byte a) in
     reads-tokens ((codes ".byte 0x" ++ hex_byte a) ++ rest) (printed_token kind.Word (codes ".byte") ∷ p ∷ []) _ (lexes-byte a rest low stop h) (omega arith)
     (one_operand (codes ".byte") p (unfold kind_index in refl) (unfold kind_index in refl)
-    ∙ ap (λ o. statement_line (codes ".byte") (o ∷ [])) (operand-one (48 ∷ 120 ∷ hex_byte a) ∙ ap (λ n. plain_operand (plain_number false n)) (byte_number a low))
-    ∙ stated-byte (plain_operand (operand_value_data shape.Number [] false a) ∷ [])
+    ∙ ap (λ o. statement_line (codes ".byte") (o ∷ [])) (operand-one (48 ∷ 120 ∷ hex_byte a) ∙ ap (λ n. plain_operand (number_operand_value false n)) (byte_number a low))
+    ∙ stated-byte (plain_operand (value_with_shape shape.Number [] false a) ∷ [])
     ∙ values_one 1 a (grind (arith, nat_tests))
     ∙ ap (λ bs. line_data 15 (bytes bs None ∷ [])) (byte_bytes a low))
 
 -- ---- sections
-section_one : (text : List ℕ) → named_line section (plain_operand (operand_value_data shape.Word text false 0) ∷ []) ≡ line_data 15 (section text ∷ [])
-unfolding named_line only_operand_name is_named_line_operand shape_index
+section_one : (text : List ℕ) → named_line section (plain_operand (value_with_shape shape.Word text false 0) ∷ []) ≡ line_data 15 (section text ∷ [])
+unfolding named_line only_operand_name is_unbracketed_name shape_index
 section_one text = refl
 
-lexes-section : (n : ℕ) (rest : List ℕ) → n < 2 ^ 64 → IsListingStop rest → Lexes rest [] → Lexes (codes ".section s" ++ (decimal n ++ rest)) (printed_token kind.Word (codes ".section") ∷ printed_token kind.Word (115 ∷ decimal n) ∷ [])
-unfolding is_name_first is_name_byte is_digit
+lexes-section : (n : ℕ) (rest : List ℕ) → n < 2 ^ 64 → IsTokenEnd rest → Lexes rest [] → Lexes (codes ".section s" ++ (decimal n ++ rest)) (printed_token kind.Word (codes ".section") ∷ printed_token kind.Word (115 ∷ decimal n) ∷ [])
+unfolding is_name_start is_name_byte is_digit
 lexes-section n rest small stop h =
     let p : PieceData = printed_token kind.Word (115 ∷ decimal n) in
     lexes-word 46 (115 ∷ 101 ∷ 99 ∷ 116 ∷ 105 ∷ 111 ∷ 110 ∷ []) (32 ∷ 115 ∷ (decimal n ++ rest)) (p ∷ []) refl refl refl
     (lexes-blank (115 ∷ (decimal n ++ rest)) (p ∷ [])
     (lexes-word 115 (decimal n) rest [] refl (digits_are_names (decimal n) (decimal_is n small).digits) stop h))
 
-pub reads-section : (n : ℕ) (rest : List ℕ) → n < 2 ^ 64 → IsListingStop rest → Lexes rest [] → Reads (codes ".section s" ++ (decimal n ++ rest)) (line_data 15 (section (115 ∷ decimal n) ∷ []))
+pub reads-section : (n : ℕ) (rest : List ℕ) → n < 2 ^ 64 → IsTokenEnd rest → Lexes rest [] → Reads (codes ".section s" ++ (decimal n ++ rest)) (line_data 15 (section (115 ∷ decimal n) ∷ []))
 reads-section n rest small stop h =
     let p : PieceData = printed_token kind.Word (115 ∷ decimal n) in
     reads-tokens (codes ".section s" ++ (decimal n ++ rest)) (printed_token kind.Word (codes ".section") ∷ p ∷ []) _ (lexes-section n rest small stop h) (omega arith)
     (one_operand (codes ".section") p (unfold kind_index in refl) (unfold kind_index in refl)
     ∙ ap (λ o. statement_line (codes ".section") (o ∷ [])) (operand-word (115 ∷ decimal n))
-    ∙ stated-section (plain_operand (operand_value_data shape.Word (115 ∷ decimal n) false 0) ∷ [])
+    ∙ stated-section (plain_operand (value_with_shape shape.Word (115 ∷ decimal n) false 0) ∷ [])
     ∙ section_one (115 ∷ decimal n))

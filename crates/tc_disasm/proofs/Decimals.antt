@@ -8,8 +8,8 @@ use Rattle.std.proofs.lemmas.Fmt.{decimal_by_steps}
 use Rattle.std.proofs.lemmas.List.Sums.{fold_push}
 use Rattle.std.proofs.lemmas.List.Folds.{list_all-append}
 use Rattle.std.proofs.lemmas.Bool.Decides.{nat_tests}
-use Rattle.tc_lex.specs.Bytes.{is_digit, is_hex}
-use Rattle.tc_lex.specs.Cut.{has_hex_front}
+use Rattle.tc_lex.specs.Bytes.{is_digit, is_hex_digit}
+use Rattle.tc_lex.specs.Cut.{has_hex_prefix}
 use Rattle.tc_lex.specs.Numbers.{token_digit_value, add_digit, token_number, below_2_128}
 
 is_digit-of : (n : ℕ) → n < 10 → is_digit (48 + n) ≡ true
@@ -71,14 +71,14 @@ unfolding is_digit
 not_x b e = grind (arith, nat_tests)
 
 -- an `x` is no digit, so digits are no hex number
-no_hex : (ds : List ℕ) → list_all is_digit ds ≡ true → has_hex_front ds ≡ false
-unfolding has_hex_front
+no_hex : (ds : List ℕ) → list_all is_digit ds ≡ true → has_hex_prefix ds ≡ false
+unfolding has_hex_prefix
 no_hex [] e = refl
 no_hex (a ∷ []) e = refl
 no_hex (a ∷ b ∷ []) e = refl
 no_hex (a ∷ b ∷ c ∷ cs) e =
     let second : is_digit b ≡ true = (and_parts _ _ (and_parts _ _ e).1).0 in
-    rw (not_x b second) (dead _ (a == 48) (is_hex c))
+    rw (not_x b second) (dead _ (a == 48) (is_hex_digit c))
 
 pub number_of-decimal : (n : ℕ) → n < 2 ^ 64 → token_number (decimal n) ≡ Some n
 unfolding token_number

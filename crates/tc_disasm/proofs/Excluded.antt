@@ -12,14 +12,14 @@ use Rattle.tc_stmt.specs.declared.want.Want.{Want}
 use Rattle.tc_stmt.specs.declared.want.Want.TheVariants.{Reg, A10, Number, Target, Absolute, Memory}
 use Rattle.tc_lex.specs.Operands.{OperandData, ValueData, bracketed_operand}
 use Rattle.tc_stmt.specs.RowFields.{RowFieldsData, with_rule, with_value}
-use Rattle.tc_stmt.specs.Filling.{reference, fill, fill_plain, fill_register, fill_a10, fill_constant, fill_memory, fill_target, fill_absolute, put_register, put_number, put_absolute, with_symbol, with_misplaced, half_operand_relocation}
+use Rattle.tc_stmt.specs.Filling.{reference, fill, fill_plain, fill_register, fill_a10, fill_constant, fill_memory, fill_target, fill_absolute, fill_named_register, fill_number, fill_address, with_symbol, with_misplaced, half_operand_relocation}
 use Rattle.tc_stmt.specs.Names.{symbol_rule}
 use Rattle.tc_stmt.specs.Displacements.{target_operand_relocation, with_displacement}
-use Rattle.tc_stmt.specs.OperandForms.{shape_index, register_by_name, is_symbol_operand, is_half_operand}
+use Rattle.tc_stmt.specs.OperandForms.{shape_index, register_number, is_symbol_operand, is_half_operand}
 use Rattle.tc_disasm.specs.Texts.{register_text}
 use Rattle.tc_disasm.specs.Refused.{AreRefusedOperands, StaysRefusedFolded}
 use Rattle.tc_disasm.specs.Printable.{IsPrintableFor}
-use Rattle.tc_disasm.specs.RowsApart.{is_want_apart}
+use Rattle.tc_disasm.specs.RowsApart.{is_want_refused_by}
 use Rattle.tc_disasm.proofs.Registers.{register_of-text}
 
 lower : (a b : ℕ) → min a b ≤ a
@@ -44,12 +44,12 @@ module _ (acc : RowFieldsData) where
   or_else true f g p q = p
   or_else false f g p q = q
 
-  falls-put_register : (bank : Bool) (field : Field) (name : List ℕ) → (put_register bank field name acc).rule ≤ acc.rule
-  unfolding put_register
+  falls-put_register : (bank : Bool) (field : Field) (name : List ℕ) → (fill_named_register bank field name acc).rule ≤ acc.rule
+  unfolding fill_named_register
   falls-put_register bank field name = chosen _ _ _ (same acc.rule) (lower acc.rule 4)
 
-  falls-put_number : (r : RowData) (signed : Bool) (field : Field) (v : ValueData) → (put_number r.form signed field v.minus v.size acc).rule ≤ acc.rule
-  unfolding put_number
+  falls-put_number : (r : RowData) (signed : Bool) (field : Field) (v : ValueData) → (fill_number r.form signed field v.minus v.size acc).rule ≤ acc.rule
+  unfolding fill_number
   falls-put_number r signed field v = chosen _ _ _ (same acc.rule) (lower acc.rule 5)
 
   falls-with_symbol : (kind : ℕ) (v : ValueData) → (with_symbol kind v acc).rule ≤ acc.rule
@@ -59,7 +59,7 @@ module _ (acc : RowFieldsData) where
   falls-value : (r : RowData) (signed : Bool) (field : Field) (v : ValueData) → StaysRefusedFolded acc (fill_constant r signed field v acc)
   unfolding fill_constant
   falls-value r signed field v =
-      or_else (shape_index v.shape == 1) _ _ (fell (put_number r.form signed field v.minus v.size acc) (falls-put_number r signed field v))
+      or_else (shape_index v.shape == 1) _ _ (fell (fill_number r.form signed field v.minus v.size acc) (falls-put_number r signed field v))
       (or_else (shape_index v.shape == 7) _ _ (fell (with_rule 5 acc) (lower acc.rule 5))
       (or_else (is_symbol_operand (shape_index v.shape)) _ _ (fell (with_misplaced v acc) (lower acc.rule (min 10 (symbol_rule v))))
       (or_else (is_half_operand (shape_index v.shape)) _ _ (or_else (half_operand_relocation r v.shape == 0) _ _ (fell (with_misplaced v acc) (lower acc.rule (min 10 (symbol_rule v)))) (fell (with_symbol (half_operand_relocation r v.shape) v acc) (falls-with_symbol (half_operand_relocation r v.shape) v))) none)))
@@ -75,8 +75,8 @@ module _ (acc : RowFieldsData) where
       (or_else (is_symbol_operand (shape_index v.shape)) _ _ (fell (with_symbol (target_operand_relocation r) v acc) (falls-with_symbol (target_operand_relocation r) v))
       (or_else (is_half_operand (shape_index v.shape)) _ _ (fell (with_misplaced v acc) (lower acc.rule (min 10 (symbol_rule v)))) none))
 
-  falls-put_absolute : (r : RowData) (minus : Bool) (size : ℕ) → (put_absolute r.form minus size acc).rule ≤ acc.rule
-  unfolding put_absolute
+  falls-put_absolute : (r : RowData) (minus : Bool) (size : ℕ) → (fill_address r.form minus size acc).rule ≤ acc.rule
+  unfolding fill_address
   falls-put_absolute r minus size =
       let abs = with_value K (size / 2 ^ 28 * 2 ^ 14 + size % 2 ^ 14) acc in
       let far = with_value K (size / 2 ^ 28 * 2 ^ 20 + size % 2 ^ 21 / 2) acc in
@@ -88,7 +88,7 @@ module _ (acc : RowFieldsData) where
   falls-absolute : (r : RowData) (v : ValueData) → StaysRefusedFolded acc (fill_absolute r v acc)
   unfolding fill_absolute
   falls-absolute r v =
-      or_else (shape_index v.shape == 1) _ _ (fell (put_absolute r.form v.minus v.size acc) (falls-put_absolute r v.minus v.size))
+      or_else (shape_index v.shape == 1) _ _ (fell (fill_address r.form v.minus v.size acc) (falls-put_absolute r v.minus v.size))
       (or_else (shape_index v.shape == 7) _ _ (fell (with_rule 5 acc) (lower acc.rule 5))
       (or_else (is_symbol_operand (shape_index v.shape)) _ _ (or_else (form_index r.form == 8) _ _ (fell (with_misplaced v acc) (lower acc.rule (min 10 (symbol_rule v)))) (fell (with_symbol 2 v acc) (falls-with_symbol 2 v)))
       (or_else (is_half_operand (shape_index v.shape)) _ _ (fell (with_misplaced v acc) (lower acc.rule (min 10 (symbol_rule v)))) none)))
@@ -99,7 +99,7 @@ module _ (acc : RowFieldsData) where
 
   falls-register : (bank : Bool) (field : Field) (v : ValueData) → StaysRefusedFolded acc (fill_register bank field v acc)
   unfolding fill_register
-  falls-register bank field v = or_else (shape_index v.shape == 2) _ _ (fell (put_register bank field v.name acc) (falls-put_register bank field v.name)) none
+  falls-register bank field v = or_else (shape_index v.shape == 2) _ _ (fell (fill_named_register bank field v.name acc) (falls-put_register bank field v.name)) none
 
 under : (acc b : RowFieldsData) (o : Option RowFieldsData) → b.rule ≤ acc.rule → StaysRefusedFolded b o → StaysRefusedFolded acc o
 under acc b None h p = record { is = tt }
@@ -108,7 +108,7 @@ under acc b (Some f) h p = let at : f.rule ≤ b.rule = p.is in record { is = om
 falls-memory : (acc : RowFieldsData) (r : RowData) (plus offset : Bool) (o : OperandData) → StaysRefusedFolded acc (fill_memory r plus offset o acc)
 unfolding fill_memory
 falls-memory acc r plus offset o =
-    let first = put_register true S2 o.base acc in
+    let first = fill_named_register true S2 o.base acc in
     let below = falls-put_register acc true S2 o.base in
     or_else acc (o.is_memory && (if o.plus then plus else not plus)) _ _ (or_else acc (shape_index o.value.shape == 0) _ _ (fell acc first below) (or_else acc offset _ _ (under acc first _ below (falls-value first r true K o.value)) (none acc))) (none acc)
 
@@ -124,18 +124,18 @@ falls acc r (Memory p u) o = falls-memory acc r p u o
 misplaced_there : (a n : ℕ) → min a (min 10 n) < 15
 misplaced_there a n = omega arith
 
-refused-bank : (acc : RowFieldsData) (p q : Bool) (y : Field) (n : ℕ) → n < 16 → not (are_bools_equal p q) ≡ true → (put_register q y (register_text p n) acc).rule < 15
-unfolding put_register
+refused-bank : (acc : RowFieldsData) (p q : Bool) (y : Field) (n : ℕ) → n < 16 → not (are_bools_equal p q) ≡ true → (fill_named_register q y (register_text p n) acc).rule < 15
+unfolding fill_named_register
 refused-bank acc true true y n h e = absurd (false≢true e)
 refused-bank acc false false y n h e = absurd (false≢true e)
 refused-bank acc true false y n h e =
     let bank : (16 + n) / 16 ≡ 1 = omega arith in
-    let reg : register_by_name (register_text true n) / 16 ≡ 1 = ap (λ m. m / 16) (register_of-text true n h) ∙ bank in
-    subst (λ (m : ℕ). (cond (m == 0) (with_value y (register_by_name (register_text true n) % 16) acc) (with_rule 4 acc)).rule < 15) (sym reg) (omega arith)
+    let reg : register_number (register_text true n) / 16 ≡ 1 = ap (λ m. m / 16) (register_of-text true n h) ∙ bank in
+    subst (λ (m : ℕ). (cond (m == 0) (with_value y (register_number (register_text true n) % 16) acc) (with_rule 4 acc)).rule < 15) (sym reg) (omega arith)
 refused-bank acc false true y n h e =
     let bank : (0 + n) / 16 ≡ 0 = omega arith in
-    let reg : register_by_name (register_text false n) / 16 ≡ 0 = ap (λ m. m / 16) (register_of-text false n h) ∙ bank in
-    subst (λ (m : ℕ). (cond (m == 1) (with_value y (register_by_name (register_text false n) % 16) acc) (with_rule 4 acc)).rule < 15) (sym reg) (omega arith)
+    let reg : register_number (register_text false n) / 16 ≡ 0 = ap (λ m. m / 16) (register_of-text false n h) ∙ bank in
+    subst (λ (m : ℕ). (cond (m == 1) (with_value y (register_number (register_text false n) % 16) acc) (with_rule 4 acc)).rule < 15) (sym reg) (omega arith)
 
 refused-plus : (r : RowData) (acc : RowFieldsData) (p q offset : Bool) (text : List ℕ) (v : ValueData) → not (are_bools_equal p q) ≡ true → AreRefusedOperands (fill r (Memory q offset) (bracketed_operand p text v) acc)
 unfolding fill fill_memory
@@ -145,8 +145,8 @@ refused-plus r acc true false offset text v e = tt
 refused-plus r acc false true offset text v e = tt
 
 -- the operand printed for a want is refused by each want that it excludes
-pub refused-there : (r : RowData) (acc : RowFieldsData) (w v : Want) (o : OperandData) → is_want_apart w v ≡ true → IsPrintableFor w o → AreRefusedOperands (fill r v o acc)
-unfolding is_want_apart fill fill_plain fill_register fill_a10 fill_constant fill_memory fill_target fill_absolute shape_index
+pub refused-there : (r : RowData) (acc : RowFieldsData) (w v : Want) (o : OperandData) → is_want_refused_by w v ≡ true → IsPrintableFor w o → AreRefusedOperands (fill r v o acc)
+unfolding is_want_refused_by fill fill_plain fill_register fill_a10 fill_constant fill_memory fill_target fill_absolute shape_index
 refused-there r acc (Reg p x) (Reg q y) o e b = subst (λ (q2 : OperandData). AreRefusedOperands (fill r (Reg q y) q2 acc)) (sym b.2) (refused-bank acc p q y b.0 b.1 e)
 refused-there r acc (Reg p x) A10 o e b = absurd (false≢true e)
 refused-there r acc (Reg p x) (Number s2 y) o e b = subst (λ (q2 : OperandData). AreRefusedOperands (fill r (Number s2 y) q2 acc)) (sym b.2) (misplaced_there acc.rule _)

@@ -6,17 +6,17 @@ use Rattle.std.specs.Str.{bytes_eq}
 use Rattle.std.proofs.lemmas.Bool.{false≢true}
 use Rattle.std.proofs.lemmas.Bool.Decides.{nat_tests}
 use Rattle.tc_isa.specs.Rows.{RowData}
-use Rattle.tc_isa.specs.ValidRowFields.{are_registers_apart}
+use Rattle.tc_isa.specs.ValidRowFields.{are_registers_allowed}
 use Rattle.tc_stmt.specs.declared.tally.Tally.{Tally}
 use Rattle.tc_stmt.specs.declared.want.Want.{Want}
 use Rattle.tc_stmt.specs.Wants.{wants_of}
 use Rattle.tc_lex.specs.Operands.{OperandData}
-use Rattle.tc_stmt.specs.RowFields.{RowFieldsData, no_fields, with_rule}
-use Rattle.tc_stmt.specs.Filling.{fill, fill_operands, fields_of_row, check_registers_apart}
-use Rattle.tc_stmt.specs.StatementRow.{after_row}
+use Rattle.tc_stmt.specs.RowFields.{RowFieldsData, zero_fields, with_rule}
+use Rattle.tc_stmt.specs.Filling.{fill, fill_operands, fields_of_row, note_equal_registers}
+use Rattle.tc_stmt.specs.StatementRow.{row_outcome}
 use Rattle.tc_disasm.specs.Refused.{AreRefusedOperands, StaysRefused}
 use Rattle.tc_disasm.specs.Printable.{ArePrintableFor}
-use Rattle.tc_disasm.specs.RowsApart.{is_want_apart, are_wants_apart}
+use Rattle.tc_disasm.specs.RowsApart.{is_want_refused_by, are_wants_refused_by}
 use Rattle.tc_disasm.proofs.Excluded.{falls, refused-there}
 
 then_refused : (next : RowFieldsData → Option RowFieldsData) (o : Option RowFieldsData) → ((f : RowFieldsData) → o ≡ Some f → AreRefusedOperands (next f)) → AreRefusedOperands (option_and_then next o)
@@ -33,33 +33,33 @@ stays-refused r (v ∷ vs) (o ∷ os) acc h =
     then_refused (fill_operands r vs os) (fill r v o acc)
     (λ f e. let less : f.rule ≤ acc.rule = subst (StaysRefused acc) e (falls acc r v o).is in stays-refused r vs os f (omega (arith, less)))
 
-refused-all : (r : RowData) (ws vs : List Want) (os : List OperandData) (acc : RowFieldsData) → are_wants_apart ws vs ≡ true → ArePrintableFor ws os → AreRefusedOperands (fill_operands r vs os acc)
-unfolding fill_operands are_wants_apart
+refused-all : (r : RowData) (ws vs : List Want) (os : List OperandData) (acc : RowFieldsData) → are_wants_refused_by ws vs ≡ true → ArePrintableFor ws os → AreRefusedOperands (fill_operands r vs os acc)
+unfolding fill_operands are_wants_refused_by
 refused-all r [] [] os acc e p = absurd (false≢true e)
 refused-all r [] (v ∷ vs) [] acc e p = tt
 refused-all r [] (v ∷ vs) (o ∷ os) acc e p = absurd p
 refused-all r (w ∷ ws) vs [] acc e p = absurd p
 refused-all r (w ∷ ws) [] (o ∷ os) acc e p = tt
-refused-all r (w ∷ ws) (v ∷ vs) (o ∷ os) acc e p = by_first (is_want_apart w v) refl e (λ d f. refused-all r ws vs os f d p.1)
+refused-all r (w ∷ ws) (v ∷ vs) (o ∷ os) acc e p = by_first (is_want_refused_by w v) refl e (λ d f. refused-all r ws vs os f d p.1)
   where
-    by_first : (b : Bool) → is_want_apart w v ≡ b → (b || are_wants_apart ws vs) ≡ true → (are_wants_apart ws vs ≡ true → (f : RowFieldsData) → AreRefusedOperands (fill_operands r vs os f)) → AreRefusedOperands (option_and_then (fill_operands r vs os) (fill r v o acc))
+    by_first : (b : Bool) → is_want_refused_by w v ≡ b → (b || are_wants_refused_by ws vs) ≡ true → (are_wants_refused_by ws vs ≡ true → (f : RowFieldsData) → AreRefusedOperands (fill_operands r vs os f)) → AreRefusedOperands (option_and_then (fill_operands r vs os) (fill r v o acc))
     by_first true is d rest = then_refused (fill_operands r vs os) (fill r v o acc) (λ f at. stays-refused r vs os f (subst AreRefusedOperands at (refused-there r acc w v o is p.0)))
     by_first false is d rest = then_refused (fill_operands r vs os) (fill r v o acc) (λ f at. rest d f)
 
-lower : (r : RowData) (f : RowFieldsData) → f.rule < 15 → (check_registers_apart r f).rule < 15
-lower r f h = by_test (are_registers_apart r f.fields)
+lower : (r : RowData) (f : RowFieldsData) → f.rule < 15 → (note_equal_registers r f).rule < 15
+lower r f h = by_test (are_registers_allowed r f.fields)
   where
     by_test : (b : Bool) → (cond b f (with_rule 12 f)).rule < 15
     by_test true = h
     by_test false = omega (arith, h)
 
-pub refused-judged : (r : RowData) (ws vs : List Want) (os : List OperandData) → are_wants_apart ws vs ≡ true → ArePrintableFor ws os → AreRefusedOperands (fields_of_row r vs os)
+pub refused-judged : (r : RowData) (ws vs : List Want) (os : List OperandData) → are_wants_refused_by ws vs ≡ true → ArePrintableFor ws os → AreRefusedOperands (fields_of_row r vs os)
 unfolding fields_of_row
-refused-judged r ws vs os d p = then_refused (λ f. Some (check_registers_apart r f)) (fill_operands r vs os no_fields) (λ f e. lower r f (subst AreRefusedOperands e (refused-all r ws vs os no_fields d p)))
+refused-judged r ws vs os d p = then_refused (λ f. Some (note_equal_registers r f)) (fill_operands r vs os zero_fields) (λ f e. lower r f (subst AreRefusedOperands e (refused-all r ws vs os zero_fields d p)))
 
 -- the search continues after a row that refuses
-pub goes_on : (name : List ℕ) (os : List OperandData) (r : RowData) (t : Tally) → AreRefusedOperands (fields_of_row r (wants_of r) os) → (u : Tally) × (after_row name os r t ≡ Err u)
-unfolding after_row
+pub goes_on : (name : List ℕ) (os : List OperandData) (r : RowData) (t : Tally) → AreRefusedOperands (fields_of_row r (wants_of r) os) → (u : Tally) × (row_outcome name os r t ≡ Err u)
+unfolding row_outcome
 goes_on name os r t refused = by_name (bytes_eq r.name name) (fields_of_row r (wants_of r) os) refused
   where
     small : (f : RowFieldsData) → f.rule < 15 → (f.rule == 15) ≡ false

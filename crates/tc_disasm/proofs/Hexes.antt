@@ -2,14 +2,14 @@
 use Rattle.std.proofs.Common.{◌≡◌, ◌<◌, ◌+◌, ◌*◌, ◌/◌, ◌%◌, ◌^◌, ℕ, true, cond, List, [], ◌∷◌, ◌++◌, Some, ap, ◌∙◌, arith}
 use Rattle.std.specs.Prelude.{fold}
 use Rattle.std.proofs.lemmas.Bool.Decides.{nat_tests}
-use Rattle.tc_lex.specs.Bytes.{is_digit, is_hex}
-use Rattle.tc_lex.specs.Cut.{has_hex_front}
+use Rattle.tc_lex.specs.Bytes.{is_digit, is_hex_digit}
+use Rattle.tc_lex.specs.Cut.{has_hex_prefix}
 use Rattle.tc_lex.specs.Numbers.{token_digit_value, add_digit, token_number, below_2_128}
 use Rattle.tcd_text.specs.HexNumbers.{hex_digit, hex_byte, hex_word}
 use Rattle.tc_disasm.proofs.Decimals.{bounded-small}
 
-pub is_hex-digit : (n : ℕ) → n < 16 → is_hex (hex_digit n) ≡ true
-unfolding is_hex is_digit hex_digit
+pub is_hex-digit : (n : ℕ) → n < 16 → is_hex_digit (hex_digit n) ≡ true
+unfolding is_hex_digit is_digit hex_digit
 is_hex-digit n h = grind (arith, nat_tests)
 
 digit_of-hex : (n : ℕ) → n < 16 → token_digit_value (hex_digit n) ≡ n
@@ -37,8 +37,8 @@ pub last-byte : (m b : ℕ) → b < 256 → m < 2 ^ 24 → fold (add_digit 16) (
 unfolding hex_byte
 last-byte m b h small = added-byte m b [] h small
 
-front_hex : (x : ℕ) → x < 2 ^ 32 → has_hex_front (48 ∷ 120 ∷ hex_word x) ≡ true
-unfolding has_hex_front hex_word hex_byte
+front_hex : (x : ℕ) → x < 2 ^ 32 → has_hex_prefix (48 ∷ 120 ∷ hex_word x) ≡ true
+unfolding has_hex_prefix hex_word hex_byte
 front_hex x h = is_hex-digit (x / 2 ^ 24 / 16) (omega arith)
 
 pub number_of-hex : (x : ℕ) → x < 2 ^ 32 → token_number (48 ∷ 120 ∷ hex_word x) ≡ Some x

@@ -5,18 +5,18 @@ use Rattle.std.specs.List.{list_all, flat_map}
 use Rattle.std.specs.Fmt.{decimal}
 use Rattle.std.proofs.lemmas.Bool.Decides.{nat_tests}
 use Rattle.std.proofs.lemmas.Bool.{ltb-true, and_parts}
-use Rattle.tc_isa.specs.Insts.{InstData, fields_in}
+use Rattle.tc_isa.specs.Insts.{InstData, inst_fields}
 use Rattle.tc_encode.specs.declared.errors.DecodeErr.{DecodeErr}
 use Rattle.tc_encode.specs.Decoding.{decoded_of}
 use Rattle.tc_encode.proofs.DecodeProofs.{decode_laws}
 use Rattle.tc_stmt.specs.Items.{bytes, section, code}
 use Rattle.tc_stmt.specs.Lines.{LineData, line_data}
-use Rattle.tcd_base.specs.NameBytes.{is_name_byte, is_name_first}
+use Rattle.tcd_base.specs.NameBytes.{is_name_byte, is_name_start}
 use Rattle.tc_lex.specs.Bytes.{is_digit}
 use Rattle.tcd_text.specs.HexNumbers.{hex_digit, hex_byte, hex_word}
 use Rattle.tc_disasm.specs.Texts.{instruction_text}
-use Rattle.tc_disasm.specs.Listing.{decoded_or_data_text, decoded_or_data_size, listed_text_at, listed_size_at, listing_remark, listing_line_at, listing_section_line}
-use Rattle.tc_disasm.specs.Lexed.{IsListingStop}
+use Rattle.tc_disasm.specs.Listing.{decoded_or_data_text, decoded_or_data_size, instruction_or_data_text, instruction_or_data_size, listing_comment, listing_line_at, listing_section_line}
+use Rattle.tc_disasm.specs.Lexed.{IsTokenEnd}
 use Rattle.tc_disasm.proofs.LineTokens.{Lexes, Reads, is_plain, lexes-blank, lexes-comment}
 use Rattle.tc_disasm.proofs.RowLines.{reads-row}
 use Rattle.tc_disasm.proofs.DataLines.{reads-half, reads-byte, reads-section}
@@ -60,8 +60,8 @@ comment address more = codes " # " ++ (hex_word address ++ more)
 comment-lexes : (address : ℕ) (more : List ℕ) → list_all is_plain more ≡ true → Lexes (comment address more) []
 comment-lexes address more e = lexes-blank (35 ∷ 32 ∷ (hex_word address ++ more)) [] (lexes-comment (32 ∷ (hex_word address ++ more)) (hex_word-plain address more e))
 
-comment-stops : (address : ℕ) (more : List ℕ) → IsListingStop (comment address more)
-unfolding is_name_byte is_name_first is_digit
+comment-stops : (address : ℕ) (more : List ℕ) → IsTokenEnd (comment address more)
+unfolding is_name_byte is_name_start is_digit
 comment-stops address more = refl
 
 -- a line of a source, with its line feed
@@ -74,13 +74,13 @@ module _ (address : ℕ) (text bs : List ℕ) where
   abbrev list : List ℕ
   list = 32 ∷ flat_map hex_byte bs
 
-  ended : text ++ listing_remark address bs ≡ (text ++ comment address list) ++ 10 ∷ []
-  unfolding listing_remark
+  ended : text ++ listing_comment address bs ≡ (text ++ comment address list) ++ 10 ∷ []
+  unfolding listing_comment
   ended =
       ap (λ t. text ++ (32 ∷ 35 ∷ 32 ∷ t)) (sym (append_assoc (hex_word address) list (10 ∷ [])))
       ∙ sym (append_assoc text (comment address list) (10 ∷ []))
 
-  is_line : (l : LineData) → ((rest : List ℕ) → IsListingStop rest → Lexes rest [] → Reads (text ++ rest) l) → IsLine (text ++ listing_remark address bs) l
+  is_line : (l : LineData) → ((rest : List ℕ) → IsTokenEnd rest → Lexes rest [] → Reads (text ++ rest) l) → IsLine (text ++ listing_comment address bs) l
   is_line l reads = record {
     body = text ++ comment address list;
     whole = ended;
@@ -91,27 +91,27 @@ module _ (address : ℕ) (text bs : List ℕ) where
 pub record Here (address : ℕ) (bs : List ℕ) : Type 0 where
   pub line : LineData
   pub is : IsLine (listing_line_at address bs) line
-  pub adds : Adds line (take (listed_size_at bs) bs)
-  pub some : 0 < listed_size_at bs
-  pub within : listed_size_at bs ≤ length bs
+  pub adds : Adds line (take (instruction_or_data_size bs) bs)
+  pub some : 0 < instruction_or_data_size bs
+  pub within : instruction_or_data_size bs ≤ length bs
 
-made : (address : ℕ) (bs text : List ℕ) (n : ℕ) (l : LineData) → listed_text_at bs ≡ text → listed_size_at bs ≡ n → 0 < n → n ≤ length bs
-    → ((rest : List ℕ) → IsListingStop rest → Lexes rest [] → Reads (text ++ rest) l) → Adds l (take n bs) → Here address bs
+made : (address : ℕ) (bs text : List ℕ) (n : ℕ) (l : LineData) → instruction_or_data_text bs ≡ text → instruction_or_data_size bs ≡ n → 0 < n → n ≤ length bs
+    → ((rest : List ℕ) → IsTokenEnd rest → Lexes rest [] → Reads (text ++ rest) l) → Adds l (take n bs) → Here address bs
 unfolding listing_line_at
 made address bs text n l t s some within reads adds = record {
   line = l;
-  is = subst (λ (x : List ℕ). IsLine (x ++ listing_remark address (take (listed_size_at bs) bs)) l) (sym t) (is_line address text (take (listed_size_at bs) bs) l reads);
+  is = subst (λ (x : List ℕ). IsLine (x ++ listing_comment address (take (instruction_or_data_size bs) bs)) l) (sym t) (is_line address text (take (instruction_or_data_size bs) bs) l reads);
   adds = subst (λ (m : ℕ). Adds l (take m bs)) (sym s) adds;
   some = omega arith;
   within = omega arith;
 }
 
-pub text_at-is : (bs : List ℕ) (d : Result (InstData × ℕ) DecodeErr) → decoded_of bs ≡ d → listed_text_at bs ≡ decoded_or_data_text d bs
-unfolding listed_text_at
+pub text_at-is : (bs : List ℕ) (d : Result (InstData × ℕ) DecodeErr) → decoded_of bs ≡ d → instruction_or_data_text bs ≡ decoded_or_data_text d bs
+unfolding instruction_or_data_text
 text_at-is bs d e = ap (λ x. decoded_or_data_text x bs) e
 
-pub size_at-is : (bs : List ℕ) (d : Result (InstData × ℕ) DecodeErr) → decoded_of bs ≡ d → listed_size_at bs ≡ decoded_or_data_size d bs
-unfolding listed_size_at
+pub size_at-is : (bs : List ℕ) (d : Result (InstData × ℕ) DecodeErr) → decoded_of bs ≡ d → instruction_or_data_size bs ≡ decoded_or_data_size d bs
+unfolding instruction_or_data_size
 size_at-is bs d e = ap (λ x. decoded_or_data_size x bs) e
 
 below : (b : ℕ) → nat_lt b 256 ≡ true → b < 256
@@ -137,7 +137,7 @@ here-inst : (address : ℕ) (bs : List ℕ) (found : InstData × ℕ) → decode
 here-inst address bs found e =
     let spells = decode_laws.decoded bs found.0 found.1 e in
     let lengths = decode_laws.lengths bs found.0 found.1 e in
-    made address bs (instruction_text found.0) found.1 (line_data 15 (code found.0.row (fields_in found.0) None ∷ [])) (text_at-is bs (Ok found) e) (size_at-is bs (Ok found) e) (some lengths.2) lengths.0
+    made address bs (instruction_text found.0) found.1 (line_data 15 (code found.0.row (inst_fields found.0) None ∷ [])) (text_at-is bs (Ok found) e) (size_at-is bs (Ok found) e) (some lengths.2) lengths.0
     (λ rest stop h. reads-row found.0 spells.inst rest stop h) (adds-code found.0 spells.inst (take found.1 bs) spells.is)
   where
     some : (found.1 ≡ 2) ⊎ (found.1 ≡ 4) → 0 < found.1

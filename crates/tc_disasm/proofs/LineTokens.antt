@@ -9,7 +9,7 @@ use Rattle.std.proofs.lemmas.List.Folds.{list_all-append}
 use Rattle.tc_lex.specs.declared.kinds.Token.{Token}
 use Rattle.tc_lex.specs.declared.kinds.TokenKind.{TokenKind}
 use Rattle.tc_lex.specs.declared.kinds.Front.TheVariants as front
-use Rattle.tc_lex.specs.Cut.{cut, token_front_of, token_front_by_byte, cut_from_front, with_first_tokens, token}
+use Rattle.tc_lex.specs.Cut.{cut, token_front_of, token_front_by_byte, tokens_after_front, with_first_tokens, token}
 use Rattle.tc_lex.proofs.CutLaws.{cut-skip}
 use Rattle.tc_lex.specs.Pieces.{PieceData}
 use Rattle.tc_stmt.specs.Lines.{LineData, line_in, meaning_of_cut_line, tokens_line, line_token_with_text}
@@ -79,7 +79,7 @@ lexes-token kind c cs rest ps e plain h = record { tokens = by_room; plain = lis
         let less : suc room - 1 ≡ room = omega arith in
         record {
           ts = first ∷ next.ts;
-          is = ap (λ f. cut_from_front f (suc room) (length pre) (cut (cs ++ rest))) e
+          is = ap (λ f. tokens_after_front f (suc room) (length pre) (cut (cs ++ rest))) e
               ∙ ap (λ b. cond b (Err (length pre)) (with_first_tokens (first ∷ []) (cut (cs ++ rest) (suc room - 1) (length pre + 1) (length (c ∷ cs) - 1)))) (eqb-suc-zero room)
               ∙ ap (λ r. with_first_tokens (first ∷ []) (cut (cs ++ rest) r (length pre + 1) (length (c ∷ cs) - 1))) less
               ∙ ap (λ n. with_first_tokens (first ∷ []) (cut (cs ++ rest) room (length pre + 1) n)) one

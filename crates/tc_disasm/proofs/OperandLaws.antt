@@ -5,16 +5,16 @@ use Rattle.tc_lex.specs.declared.kinds.TokenKind.TheVariants as kind
 use Rattle.tc_lex.specs.declared.operand.Shape.TheVariants as shape
 use Rattle.tc_lex.specs.Pieces.{is_token_kind, token_text, kind_index}
 use Rattle.tc_lex.specs.Numbers.{token_number}
-use Rattle.tc_lex.specs.Operands.{operand, operand_value_at, operand_number_at, symbol_value_at, name_or_sum_at, operand_value_data, plain_operand, bracketed_operand, plain_number, sum_operand_value}
+use Rattle.tc_lex.specs.Operands.{operand, operand_value_at, operand_number_at, symbol_value_at, name_or_sum_at, value_with_shape, plain_operand, bracketed_operand, number_operand_value, sum_operand_value}
 use Rattle.std.specs.Fmt.{decimal}
 use Rattle.tc_disasm.specs.Texts.{register_text}
-use Rattle.tc_disasm.specs.Tokens.{printed_token, number_tokens, base_tokens}
+use Rattle.tc_disasm.specs.Tokens.{printed_token, number_tokens, base_register_tokens}
 
-pub operand-word : (text : List ℕ) → operand (printed_token kind.Word text ∷ []) ≡ plain_operand (operand_value_data shape.Word text false 0)
+pub operand-word : (text : List ℕ) → operand (printed_token kind.Word text ∷ []) ≡ plain_operand (value_with_shape shape.Word text false 0)
 unfolding operand operand_value_at operand_number_at symbol_value_at name_or_sum_at is_token_kind token_text kind_index
 operand-word text = refl
 
-pub operand-number : (minus : Bool) (size : ℕ) → operand (number_tokens minus size) ≡ plain_operand (plain_number minus (token_number (decimal size)))
+pub operand-number : (minus : Bool) (size : ℕ) → operand (number_tokens minus size) ≡ plain_operand (number_operand_value minus (token_number (decimal size)))
 unfolding operand operand_value_at operand_number_at symbol_value_at name_or_sum_at is_token_kind token_text kind_index
 operand-number true size = refl
 operand-number false size = refl
@@ -24,12 +24,12 @@ unfolding operand operand_value_at operand_number_at symbol_value_at name_or_sum
 operand-target true text digits = refl
 operand-target false text digits = refl
 
-pub operand-base : (plus : Bool) (n : ℕ) → operand (base_tokens plus n) ≡ bracketed_operand plus (register_text true n) (operand_value_data shape.Absent [] false 0)
+pub operand-base : (plus : Bool) (n : ℕ) → operand (base_register_tokens plus n) ≡ bracketed_operand plus (register_text true n) (value_with_shape shape.Absent [] false 0)
 unfolding operand operand_value_at operand_number_at symbol_value_at name_or_sum_at is_token_kind token_text kind_index
 operand-base true n = refl
 operand-base false n = refl
 
-pub operand-offset : (plus minus : Bool) (n size : ℕ) → operand (base_tokens plus n ++ number_tokens minus size) ≡ bracketed_operand plus (register_text true n) (plain_number minus (token_number (decimal size)))
+pub operand-offset : (plus minus : Bool) (n size : ℕ) → operand (base_register_tokens plus n ++ number_tokens minus size) ≡ bracketed_operand plus (register_text true n) (number_operand_value minus (token_number (decimal size)))
 unfolding operand operand_value_at operand_number_at symbol_value_at name_or_sum_at is_token_kind token_text kind_index
 operand-offset true true n size = refl
 operand-offset true false n size = refl

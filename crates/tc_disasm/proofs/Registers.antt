@@ -1,7 +1,7 @@
 -- Registers are read back.
 use Rattle.std.proofs.Common.{◌≡◌, ◌<◌, ◌+◌, zero, suc, ℕ, Bool, true, false, cond, refl, arith}
 use Rattle.tc_lex.specs.Bytes.{is_digit}
-use Rattle.tc_stmt.specs.OperandForms.{register_by_name}
+use Rattle.tc_stmt.specs.OperandForms.{register_number}
 use Rattle.std.specs.Fmt.{digits}
 use Rattle.tc_disasm.specs.Texts.{register_text}
 
@@ -24,7 +24,7 @@ sixteen P a0 a1 a2 a3 a4 a5 a6 a7 a8 a9 a10 a11 a12 a13 a14 a15 (suc (suc (suc (
 sixteen P a0 a1 a2 a3 a4 a5 a6 a7 a8 a9 a10 a11 a12 a13 a14 a15 (suc (suc (suc (suc (suc (suc (suc (suc (suc (suc (suc (suc (suc (suc (suc zero))))))))))))))) h = a15
 sixteen P a0 a1 a2 a3 a4 a5 a6 a7 a8 a9 a10 a11 a12 a13 a14 a15 (suc (suc (suc (suc (suc (suc (suc (suc (suc (suc (suc (suc (suc (suc (suc (suc n)))))))))))))))) h = absurd (omega arith)
 
-pub register_of-text : (bank : Bool) (n : ℕ) → n < 16 → register_by_name (register_text bank n) ≡ cond bank 16 0 + n
-unfolding register_by_name is_digit register_text digits
-register_of-text true n h = sixteen (λ m. register_by_name (register_text true m) ≡ 16 + m) refl refl refl refl refl refl refl refl refl refl refl refl refl refl refl refl n h
-register_of-text false n h = sixteen (λ m. register_by_name (register_text false m) ≡ 0 + m) refl refl refl refl refl refl refl refl refl refl refl refl refl refl refl refl n h
+pub register_of-text : (bank : Bool) (n : ℕ) → n < 16 → register_number (register_text bank n) ≡ cond bank 16 0 + n
+unfolding register_number is_digit register_text digits
+register_of-text true n h = sixteen (λ m. register_number (register_text true m) ≡ 16 + m) refl refl refl refl refl refl refl refl refl refl refl refl refl refl refl refl n h
+register_of-text false n h = sixteen (λ m. register_number (register_text false m) ≡ 0 + m) refl refl refl refl refl refl refl refl refl refl refl refl refl refl refl refl n h

@@ -6,13 +6,13 @@ use Rattle.std.specs.Option.{option_map_or}
 use Rattle.std.specs.List.{list_all, slice_split}
 use Rattle.std.proofs.Math.Dec.{eqb-suc-zero}
 use Rattle.tc_lex.specs.declared.kinds.TokenKind.TheVariants as kind
-use Rattle.tcd_base.specs.NameBytes.{is_name_byte, is_name_first}
+use Rattle.tcd_base.specs.NameBytes.{is_name_byte, is_name_start}
 use Rattle.tc_lex.specs.Texts.{is_run}
 use Rattle.tc_isa.specs.Rows.{RowData}
 use Rattle.tc_isa.specs.declared.table.Form.{Form}
 use Rattle.tc_isa.specs.declared.fields.Fields.{Fields}
-use Rattle.tc_isa.specs.Forms.{bounds}
-use Rattle.tc_isa.specs.Insts.{InstData, IsInst, fields_in}
+use Rattle.tc_isa.specs.Forms.{field_bounds}
+use Rattle.tc_isa.specs.Insts.{InstData, IsInst, inst_fields}
 use Rattle.tc_stmt.specs.declared.want.Want.{Want}
 use Rattle.tc_stmt.specs.declared.want.Want.TheVariants.{Number, Target, Memory}
 use Rattle.tc_stmt.specs.Wants.{wants_of}
@@ -22,10 +22,10 @@ use Rattle.tc_lex.specs.Operands.{OperandData, operand, operands, is_comma}
 use Rattle.tc_stmt.specs.StatementRow.{statement}
 use Rattle.tc_stmt.specs.Items.{code, label}
 use Rattle.tc_stmt.specs.Lines.{LineData, line_data, tokens_line, line_from, statement_line, code_line}
-use Rattle.tc_disasm.specs.Texts.{is_printed_minus, row_text, operands_text, instruction_text}
-use Rattle.tc_stmt.specs.Displacements.{is_two_way}
-use Rattle.tc_disasm.specs.Tokens.{printed_token, operand_tokens, base_tokens, field_number_tokens, number_tokens}
-use Rattle.tc_disasm.specs.Lexed.{IsListingStop}
+use Rattle.tc_disasm.specs.Texts.{is_printed_negative, row_text, operands_text, instruction_text}
+use Rattle.tc_stmt.specs.Displacements.{can_jump_back}
+use Rattle.tc_disasm.specs.Tokens.{printed_token, operand_tokens, base_register_tokens, field_number_tokens, number_tokens}
+use Rattle.tc_disasm.specs.Lexed.{IsTokenEnd}
 use Rattle.tc_disasm.proofs.Suits.{wants_suit}
 use Rattle.tc_disasm.proofs.Printing.{statement-printed}
 use Rattle.tc_disasm.proofs.LineTokens.{Lexes, Reads, reads-tokens}
@@ -48,7 +48,7 @@ begins-number false n = record { first = _; others = _; is = refl; other = refl 
 
 begins-operand : (form : Form) (f : Fields) (w : Want) → Begins (operand_tokens form f w)
 unfolding operand_tokens kind_index
-begins-operand form f (Number signed field) = begins-number (is_printed_minus signed (field_of field (bounds form)) (field_of field f)) _
+begins-operand form f (Number signed field) = begins-number (is_printed_negative signed (field_of field (field_bounds form)) (field_of field f)) _
 begins-operand form f _ = record { first = _; others = _; is = refl; other = refl }
 
 -- ---- no comma inside an operand, and few tokens
@@ -69,7 +69,7 @@ unfolding kind_index
 inner-target true name digits = record { none = refl; few = omega arith }
 inner-target false name digits = record { none = refl; few = omega arith }
 
-inner-base : (plus : Bool) (n : ℕ) (ps : List PieceData) → Inner ps 2 → Inner (base_tokens plus n ++ ps) 6
+inner-base : (plus : Bool) (n : ℕ) (ps : List PieceData) → Inner ps 2 → Inner (base_register_tokens plus n ++ ps) 6
 unfolding kind_index
 inner-base true n ps h = record { none = h.none; few = let two = h.few in omega arith }
 inner-base false n ps h = record { none = h.none; few = let two = h.few in omega arith }
@@ -79,9 +79,9 @@ wider ps h = record { none = h.none; few = let two = h.few in omega arith }
 
 inner-operand : (form : Form) (f : Fields) (w : Want) → Inner (operand_tokens form f w) 6
 unfolding operand_tokens kind_index
-inner-operand form f (Number signed field) = wider _ (inner-number (is_printed_minus signed (field_of field (bounds form)) (field_of field f)) _)
-inner-operand form f Target = inner-target (is_printed_minus (is_two_way form) (bounds form).k f.k) _ _
-inner-operand form f (Memory plus true) = inner-base plus f.s2 (field_number_tokens true (bounds form).k f.k) (inner-number (is_printed_minus true (bounds form).k f.k) _)
+inner-operand form f (Number signed field) = wider _ (inner-number (is_printed_negative signed (field_of field (field_bounds form)) (field_of field f)) _)
+inner-operand form f Target = inner-target (is_printed_negative (can_jump_back form) (field_bounds form).k f.k) _ _
+inner-operand form f (Memory plus true) = inner-base plus f.s2 (field_number_tokens true (field_bounds form).k f.k) (inner-number (is_printed_negative true (field_bounds form).k f.k) _)
 inner-operand form f (Memory plus false) = inner-base plus f.s2 [] (record { none = refl; few = omega arith })
 inner-operand form f _ = record { none = refl; few = omega arith }
 
@@ -156,24 +156,24 @@ no_colon r f (w ∷ ws) =
     subst (λ (qs : List PieceData). is_token_kind (qs ++ other_tokens r f ws) 0 kind.Colon ≡ false) (sym b.is) b.other
 
 -- ---- the whole line
-lexes-name : (name rest : List ℕ) (ps : List PieceData) → is_run is_name_first is_name_byte name ≡ true → IsListingStop rest → Lexes rest ps → Lexes (name ++ rest) (printed_token kind.Word name ∷ ps)
+lexes-name : (name rest : List ℕ) (ps : List PieceData) → is_run is_name_start is_name_byte name ≡ true → IsTokenEnd rest → Lexes rest ps → Lexes (name ++ rest) (printed_token kind.Word name ∷ ps)
 lexes-name [] rest ps e stop h = cc
 lexes-name (c ∷ cs) rest ps e stop h =
-    let two = and_parts (is_name_first c) (list_all is_name_byte (c ∷ cs)) e in
+    let two = and_parts (is_name_start c) (list_all is_name_byte (c ∷ cs)) e in
     lexes-word c cs rest ps two.0 two.1 stop h
 
-pub text_is : (i : InstData) (is : IsInst i) → instruction_text i ≡ row_text is.row (fields_in i)
+pub text_is : (i : InstData) (is : IsInst i) → instruction_text i ≡ row_text is.row (inst_fields i)
 unfolding instruction_text
-text_is i is = ap (λ (o : Option RowData). option_map_or (λ r. row_text r (fields_in i)) o []) is.at
+text_is i is = ap (λ (o : Option RowData). option_map_or (λ r. row_text r (inst_fields i)) o []) is.at
 
 from_row : (r : RowData) (f : Fields) (more : List ℕ) (ps : List PieceData) → Lexes (r.name ++ (operands_text r.form f (wants_of r) ++ more)) ps → Lexes (row_text r f ++ more) ps
 unfolding row_text
 from_row r f more ps w = as_parted r.name (operands_text r.form f (wants_of r)) more ps w
 
-lexes-row : (i : InstData) (is : IsInst i) (rest : List ℕ) → IsListingStop rest → Lexes rest [] → Lexes (instruction_text i ++ rest) (printed_token kind.Word is.row.name ∷ row_tokens is.row (fields_in i) (wants_of is.row))
+lexes-row : (i : InstData) (is : IsInst i) (rest : List ℕ) → IsTokenEnd rest → Lexes rest [] → Lexes (instruction_text i ++ rest) (printed_token kind.Word is.row.name ∷ row_tokens is.row (inst_fields i) (wants_of is.row))
 lexes-row i is rest stop h =
     let r = is.row in
-    let f = fields_in i in
+    let f = inst_fields i in
     let tokens : List PieceData = row_tokens r f (wants_of r) in
     let operands_are = lexes-operands r f (wants_of r) rest [] (wants_suit i.row r is.at) is.fits.below stop h in
     let there = subst (λ (ps : List PieceData). Lexes (operands_text r.form f (wants_of r) ++ rest) ps) (append-nil tokens) operands_are in
@@ -181,14 +181,14 @@ lexes-row i is rest stop h =
     subst (λ (t : List ℕ). Lexes (t ++ rest) (printed_token kind.Word r.name ∷ tokens)) (sym (text_is i is)) (from_row r f rest (printed_token kind.Word r.name ∷ tokens) whole)
 
 -- the line of an instruction breaks no rule, and adds the instruction
-pub reads-row : (i : InstData) (is : IsInst i) (rest : List ℕ) → IsListingStop rest → Lexes rest [] → Reads (instruction_text i ++ rest) (line_data 15 (code i.row (fields_in i) None ∷ []))
+pub reads-row : (i : InstData) (is : IsInst i) (rest : List ℕ) → IsTokenEnd rest → Lexes rest [] → Reads (instruction_text i ++ rest) (line_data 15 (code i.row (inst_fields i) None ∷ []))
 reads-row i is rest stop h =
     let r = is.row in
-    let f = fields_in i in
+    let f = inst_fields i in
     let name = named_at i.row r is.at in
     let tokens = few-tokens r f (wants_of r) in
     let wants = name.few in
-    reads-tokens (instruction_text i ++ rest) (printed_token kind.Word r.name ∷ row_tokens r f (wants_of r)) (line_data 15 (code i.row (fields_in i) None ∷ [])) (lexes-row i is rest stop h) (omega arith)
+    reads-tokens (instruction_text i ++ rest) (printed_token kind.Word r.name ∷ row_tokens r f (wants_of r)) (line_data 15 (code i.row (inst_fields i) None ∷ [])) (lexes-row i is rest stop h) (omega arith)
     (pieces_line-word r.name (row_tokens r f (wants_of r)) (no_colon r f (wants_of r))
     ∙ stated_line-other r.name (operands (row_tokens r f (wants_of r))) name.other
     ∙ ap (λ os. code_line r.name (statement r.name os)) (operands-row r f (wants_of r))

@@ -5,10 +5,10 @@ use Rattle.std.specs.Prelude.{slice_get, nat_le, not, codes}
 use Rattle.std.specs.List.{list_all}
 use Rattle.std.specs.Str.{bytes_eq}
 use Rattle.std.proofs.lemmas.Bool.Decides.{nat_tests}
-use Rattle.tcd_base.specs.NameBytes.{is_name_byte, is_name_first}
+use Rattle.tcd_base.specs.NameBytes.{is_name_byte, is_name_start}
 use Rattle.tc_lex.specs.Bytes.{is_digit}
 use Rattle.tc_lex.specs.Texts.{is_run}
-use Rattle.tc_isa.specs.Rows.{RowData, listed}
+use Rattle.tc_isa.specs.Rows.{RowData, table_rows}
 use Rattle.tc_stmt.specs.Wants.{wants_of, want_of}
 use Rattle.tc_lex.specs.Operands.{OperandData}
 use Rattle.tc_stmt.specs.StatementRow.{statement}
@@ -21,10 +21,10 @@ is_directive name =
     bytes_eq name (codes ".section") || (bytes_eq name (codes ".global") || (bytes_eq name (codes ".byte") || (bytes_eq name (codes ".half") || (bytes_eq name (codes ".word") || bytes_eq name (codes ".space")))))
 
 abbrev is_mnemonic : RowData → Bool
-is_mnemonic r = (is_run is_name_first is_name_byte r.name && not (is_directive r.name)) && (nat_le (length r.name) 16 && nat_le (length (wants_of r)) 4)
+is_mnemonic r = (is_run is_name_start is_name_byte r.name && not (is_directive r.name)) && (nat_le (length r.name) 16 && nat_le (length (wants_of r)) 4)
 
-rows_named : list_all is_mnemonic listed ≡ true
-unfolding wants_of want_of is_name_first is_name_byte is_digit
+rows_named : list_all is_mnemonic table_rows ≡ true
+unfolding wants_of want_of is_name_start is_name_byte is_digit
 rows_named = refl
 
 all_at : (p : RowData → Bool) (rows : List RowData) (k : ℕ) (r : RowData) → list_all p rows ≡ true → slice_get rows k ≡ Some r → p r ≡ true
@@ -34,15 +34,15 @@ all_at p (x ∷ xs) (suc k) r e at = all_at p xs k r (and_parts (p x) (list_all 
 
 -- facts of a row's name, and the number of its operands
 pub record Named (r : RowData) : Type 0 where
-  pub word : is_run is_name_first is_name_byte r.name ≡ true
+  pub word : is_run is_name_start is_name_byte r.name ≡ true
   pub other : is_directive r.name ≡ false
   pub short : length r.name ≤ 16
   pub few : length (wants_of r) ≤ 4
 
-pub named_at : (k : ℕ) (r : RowData) → slice_get listed k ≡ Some r → Named r
+pub named_at : (k : ℕ) (r : RowData) → slice_get table_rows k ≡ Some r → Named r
 named_at k r at =
-    let all = and_parts (is_run is_name_first is_name_byte r.name && not (is_directive r.name)) (nat_le (length r.name) 16 && nat_le (length (wants_of r)) 4) (all_at is_mnemonic listed k r rows_named at) in
-    let first = and_parts (is_run is_name_first is_name_byte r.name) (not (is_directive r.name)) all.0 in
+    let all = and_parts (is_run is_name_start is_name_byte r.name && not (is_directive r.name)) (nat_le (length r.name) 16 && nat_le (length (wants_of r)) 4) (all_at is_mnemonic table_rows k r rows_named at) in
+    let first = and_parts (is_run is_name_start is_name_byte r.name) (not (is_directive r.name)) all.0 in
     let second = and_parts (nat_le (length r.name) 16) (nat_le (length (wants_of r)) 4) all.1 in
     record { word = first.0; other = turned (is_directive r.name) first.1; short = at_most (length r.name) 16 second.0; few = at_most (length (wants_of r)) 4 second.1 }
   where

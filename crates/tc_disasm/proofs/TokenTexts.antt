@@ -7,14 +7,14 @@ use Rattle.std.specs.Fmt.{decimal}
 use Rattle.std.proofs.lemmas.Bool.Decides.{nat_tests}
 use Rattle.tc_lex.specs.declared.kinds.TokenKind.TheVariants as kind
 use Rattle.tc_lex.specs.declared.kinds.Front.TheVariants as front
-use Rattle.tcd_base.specs.NameBytes.{is_name_byte, is_name_first}
-use Rattle.tc_lex.specs.Bytes.{is_digit, is_hex}
-use Rattle.tc_lex.specs.Cut.{token_front_of, token_front_by_byte, number_len, has_hex_front}
+use Rattle.tcd_base.specs.NameBytes.{is_name_byte, is_name_start}
+use Rattle.tc_lex.specs.Bytes.{is_digit, is_hex_digit}
+use Rattle.tc_lex.specs.Cut.{token_front_of, token_front_by_byte, number_len, has_hex_prefix}
 use Rattle.tc_lex.specs.Pieces.{PieceData}
 use Rattle.tcd_text.specs.HexNumbers.{hex_byte, hex_word}
 use Rattle.tc_disasm.specs.Texts.{register_text}
 use Rattle.tc_disasm.specs.Tokens.{printed_token}
-use Rattle.tc_disasm.specs.Lexed.{IsListingStop}
+use Rattle.tc_disasm.specs.Lexed.{IsTokenEnd}
 use Rattle.tc_disasm.proofs.Decimals.{decimal_is}
 use Rattle.tc_disasm.proofs.Hexes.{is_hex-digit}
 use Rattle.tc_disasm.proofs.Lexing.{front_of-word, front_of-digits, prefix_len-front}
@@ -28,20 +28,20 @@ list_all-from p q h (c ∷ cs) e =
     rw (h c two.0) (list_all-from p q h cs two.1)
 
 name_is_plain : (c : ℕ) → is_name_byte c ≡ true → is_plain c ≡ true
-unfolding is_name_byte is_name_first is_digit
+unfolding is_name_byte is_name_start is_digit
 name_is_plain c e = grind (arith, nat_tests)
 
 digit_is_plain : (c : ℕ) → is_digit c ≡ true → is_plain c ≡ true
 unfolding is_digit
 digit_is_plain c e = grind (arith, nat_tests)
 
-hex_is_plain : (c : ℕ) → is_hex c ≡ true → is_plain c ≡ true
-unfolding is_hex is_digit
+hex_is_plain : (c : ℕ) → is_hex_digit c ≡ true → is_plain c ≡ true
+unfolding is_hex_digit is_digit
 hex_is_plain c e = grind (arith, nat_tests)
 
 digit_is_named : (c : ℕ) → is_digit c ≡ true → is_name_byte c ≡ true
 unfolding is_name_byte is_digit
-digit_is_named c e = ap (λ (b : Bool). is_name_first c || b) e ∙ by_first (is_name_first c)
+digit_is_named c e = ap (λ (b : Bool). is_name_start c || b) e ∙ by_first (is_name_start c)
   where
     by_first : (b : Bool) → (b || true) ≡ true
     by_first true = refl
@@ -51,55 +51,55 @@ pub digits_are_names : (ds : List ℕ) → list_all is_digit ds ≡ true → lis
 digits_are_names ds e = list_all-from is_digit is_name_byte digit_is_named ds e
 
 -- ---- words
-pub lexes-word : (c : ℕ) (cs rest : List ℕ) (ps : List PieceData) → is_name_first c ≡ true → list_all is_name_byte (c ∷ cs) ≡ true → IsListingStop rest → Lexes rest ps
+pub lexes-word : (c : ℕ) (cs rest : List ℕ) (ps : List PieceData) → is_name_start c ≡ true → list_all is_name_byte (c ∷ cs) ≡ true → IsTokenEnd rest → Lexes rest ps
     → Lexes ((c ∷ cs) ++ rest) (printed_token kind.Word (c ∷ cs) ∷ ps)
 lexes-word c cs rest ps first all stop h =
     lexes-token kind.Word c cs rest ps (front_of-word c cs rest first all stop) (list_all-from is_name_byte is_plain name_is_plain (c ∷ cs) all) h
 
-pub lexes-register : (bank : Bool) (n : ℕ) (rest : List ℕ) (ps : List PieceData) → n < 2 ^ 64 → IsListingStop rest → Lexes rest ps → Lexes (register_text bank n ++ rest) (printed_token kind.Word (register_text bank n) ∷ ps)
-unfolding register_text is_name_byte is_name_first is_digit
+pub lexes-register : (bank : Bool) (n : ℕ) (rest : List ℕ) (ps : List PieceData) → n < 2 ^ 64 → IsTokenEnd rest → Lexes rest ps → Lexes (register_text bank n ++ rest) (printed_token kind.Word (register_text bank n) ∷ ps)
+unfolding register_text is_name_byte is_name_start is_digit
 lexes-register true n rest ps small stop h = lexes-word 97 (decimal n) rest ps refl (digits_are_names (decimal n) (decimal_is n small).digits) stop h
 lexes-register false n rest ps small stop h = lexes-word 100 (decimal n) rest ps refl (digits_are_names (decimal n) (decimal_is n small).digits) stop h
 
 -- ---- numbers
-lexes-digits : (ds rest : List ℕ) (ps : List PieceData) → list_all is_digit ds ≡ true → 0 < length ds → IsListingStop rest → Lexes rest ps → Lexes (ds ++ rest) (printed_token kind.Number ds ∷ ps)
+lexes-digits : (ds rest : List ℕ) (ps : List PieceData) → list_all is_digit ds ≡ true → 0 < length ds → IsTokenEnd rest → Lexes rest ps → Lexes (ds ++ rest) (printed_token kind.Number ds ∷ ps)
 lexes-digits [] rest ps digits some stop h = absurd (omega arith)
 lexes-digits (c ∷ cs) rest ps digits some stop h =
     lexes-token kind.Number c cs rest ps (front_of-digits c cs rest digits stop) (list_all-from is_digit is_plain digit_is_plain (c ∷ cs) digits) h
 
-pub lexes-decimal : (n : ℕ) (rest : List ℕ) (ps : List PieceData) → n < 2 ^ 64 → IsListingStop rest → Lexes rest ps → Lexes (decimal n ++ rest) (printed_token kind.Number (decimal n) ∷ ps)
+pub lexes-decimal : (n : ℕ) (rest : List ℕ) (ps : List PieceData) → n < 2 ^ 64 → IsTokenEnd rest → Lexes rest ps → Lexes (decimal n ++ rest) (printed_token kind.Number (decimal n) ∷ ps)
 lexes-decimal n rest ps small stop h = let d = decimal_is n small in lexes-digits (decimal n) rest ps d.digits d.some stop h
 
-hex_is_named : (c : ℕ) → is_name_byte c ≡ false → is_hex c ≡ false
-unfolding is_name_byte is_name_first is_hex is_digit
+hex_is_named : (c : ℕ) → is_name_byte c ≡ false → is_hex_digit c ≡ false
+unfolding is_name_byte is_name_start is_hex_digit is_digit
 hex_is_named c e = grind (arith, nat_tests)
 
-hex_stops : (rest : List ℕ) → IsListingStop rest → prefix_len is_hex rest ≡ 0
+hex_stops : (rest : List ℕ) → IsTokenEnd rest → prefix_len is_hex_digit rest ≡ 0
 hex_stops [] h = refl
 hex_stops (c ∷ cs) h = rw (hex_is_named c h) refl
 
-front_of-hex : (hs rest : List ℕ) → list_all is_hex hs ≡ true → 0 < length hs → IsListingStop rest → token_front_of (48 ∷ 120 ∷ (hs ++ rest)) ≡ front.Token kind.Number (length (48 ∷ 120 ∷ hs))
-unfolding token_front_by_byte is_name_first is_digit number_len has_hex_front
+front_of-hex : (hs rest : List ℕ) → list_all is_hex_digit hs ≡ true → 0 < length hs → IsTokenEnd rest → token_front_of (48 ∷ 120 ∷ (hs ++ rest)) ≡ front.Token kind.Number (length (48 ∷ 120 ∷ hs))
+unfolding token_front_by_byte is_name_start is_digit number_len has_hex_prefix
 front_of-hex [] rest hex some stop = absurd (omega arith)
 front_of-hex (x ∷ xs) rest hex some stop =
     let long : nat_lt 2 (length (48 ∷ 120 ∷ x ∷ (xs ++ rest))) ≡ true = grind (arith, nat_tests) in
-    let run : prefix_len is_hex ((x ∷ xs) ++ rest) ≡ length (x ∷ xs) = prefix_len-front is_hex (x ∷ xs) rest hex (hex_stops rest stop) in
-    let first : is_hex x ≡ true = (and_parts (is_hex x) (list_all is_hex xs) hex).0 in
-    ap (λ b. front.Token kind.Number (cond (b && true && true && is_hex x) (2 + prefix_len is_hex ((x ∷ xs) ++ rest)) (prefix_len is_digit (48 ∷ 120 ∷ ((x ∷ xs) ++ rest))))) long
-    ∙ ap (λ b. front.Token kind.Number (cond b (2 + prefix_len is_hex ((x ∷ xs) ++ rest)) (prefix_len is_digit (48 ∷ 120 ∷ ((x ∷ xs) ++ rest))))) first
+    let run : prefix_len is_hex_digit ((x ∷ xs) ++ rest) ≡ length (x ∷ xs) = prefix_len-front is_hex_digit (x ∷ xs) rest hex (hex_stops rest stop) in
+    let first : is_hex_digit x ≡ true = (and_parts (is_hex_digit x) (list_all is_hex_digit xs) hex).0 in
+    ap (λ b. front.Token kind.Number (cond (b && true && true && is_hex_digit x) (2 + prefix_len is_hex_digit ((x ∷ xs) ++ rest)) (prefix_len is_digit (48 ∷ 120 ∷ ((x ∷ xs) ++ rest))))) long
+    ∙ ap (λ b. front.Token kind.Number (cond b (2 + prefix_len is_hex_digit ((x ∷ xs) ++ rest)) (prefix_len is_digit (48 ∷ 120 ∷ ((x ∷ xs) ++ rest))))) first
     ∙ ap (λ n. front.Token kind.Number (2 + n)) run
     ∙ ap (λ n. front.Token kind.Number n) (omega arith)
 
-pub lexes-hex : (hs rest : List ℕ) (ps : List PieceData) → list_all is_hex hs ≡ true → 0 < length hs → IsListingStop rest → Lexes rest ps → Lexes (48 ∷ 120 ∷ (hs ++ rest)) (printed_token kind.Number (48 ∷ 120 ∷ hs) ∷ ps)
+pub lexes-hex : (hs rest : List ℕ) (ps : List PieceData) → list_all is_hex_digit hs ≡ true → 0 < length hs → IsTokenEnd rest → Lexes rest ps → Lexes (48 ∷ 120 ∷ (hs ++ rest)) (printed_token kind.Number (48 ∷ 120 ∷ hs) ∷ ps)
 lexes-hex hs rest ps hex some stop h =
-    lexes-token kind.Number 48 (120 ∷ hs) rest ps (front_of-hex hs rest hex some stop) (list_all-from is_hex is_plain hex_is_plain hs hex) h
+    lexes-token kind.Number 48 (120 ∷ hs) rest ps (front_of-hex hs rest hex some stop) (list_all-from is_hex_digit is_plain hex_is_plain hs hex) h
 
 -- bytes and words in hex digits
-pub hex_byte-is : (b : ℕ) (rest : List ℕ) → b < 256 → list_all is_hex rest ≡ true → list_all is_hex (hex_byte b ++ rest) ≡ true
+pub hex_byte-is : (b : ℕ) (rest : List ℕ) → b < 256 → list_all is_hex_digit rest ≡ true → list_all is_hex_digit (hex_byte b ++ rest) ≡ true
 unfolding hex_byte
 hex_byte-is b rest small e = rw (is_hex-digit (b / 16) (omega arith), is_hex-digit (b % 16) (omega arith)) e
 
-pub hex_word-is : (x : ℕ) → x < 2 ^ 32 → list_all is_hex (hex_word x) ≡ true
+pub hex_word-is : (x : ℕ) → x < 2 ^ 32 → list_all is_hex_digit (hex_word x) ≡ true
 unfolding hex_word hex_byte
 hex_word-is x small =
     rw (

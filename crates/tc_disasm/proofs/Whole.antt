@@ -10,14 +10,14 @@ use Rattle.tc_lex.specs.Pieces.{is_token_kind}
 use Rattle.tc_stmt.specs.Lines.{LineData, line_data, line_in, lines_in, tokens_line, line_from}
 use Rattle.tc_asm.specs.Symbols.{SymbolData}
 use Rattle.tc_asm.specs.Drafts.{DraftData, empty_draft}
-use Rattle.tc_asm.specs.DraftedSources.{draft_from_lines, with_line, symbols_of}
-use Rattle.tc_asm.specs.Rules.{KeepsRules, IsFirstBrokenLine, line_rule}
+use Rattle.tc_asm.specs.DraftedSources.{draft_from_lines, draft_after_line, symbols_of_lines}
+use Rattle.tc_asm.specs.Rules.{LinesKeepRules, IsFirstBrokenLine, line_rule}
 use Rattle.tc_asm.specs.declared.errors.AsmErr.{AsmErr}
 use Rattle.tc_asm.specs.declared.errors.AsmErr.TheVariants.{Bad, NoMemory}
 use Rattle.tc_asm.specs.Errors.{IfBadLine}
-use Rattle.tc_asm.specs.Objects.{section_of, relocs_from, object_of_draft}
+use Rattle.tc_asm.specs.Objects.{section_of, relocs_of_sections, object_of_draft}
 use Rattle.tc_disasm.specs.Listing.{segments_in_listing_order, listing_sections_from, listing_of}
-use Rattle.tc_disasm.specs.Assembled.{listed_section_name, HoldsSegments, ReadsBack}
+use Rattle.tc_disasm.specs.Assembled.{listed_section_name, HoldsSegments, ListingReadsBack}
 use Rattle.tc_disasm.proofs.LineTokens.{reads-tokens, lexes-end}
 use Rattle.tc_disasm.proofs.LineAt.{is_byte}
 use Rattle.tc_disasm.proofs.Runs.{Runs, runs-append, keeps-at}
@@ -36,7 +36,7 @@ sections-names n [] k d less = absurd (omega arith)
 sections-names n (s ∷ ss) zero d less = ap listed_section_name (omega arith)
 sections-names n (s ∷ ss) (suc k) d less = sections-names (n + 1) ss k d (omega arith) ∙ ap listed_section_name (omega arith)
 
-no_relocs : (number n : ℕ) (ss : List SegmentData) → relocs_from [] number (parts_from n ss) ≡ []
+no_relocs : (number n : ℕ) (ss : List SegmentData) → relocs_of_sections [] number (parts_from n ss) ≡ []
 no_relocs number n [] = refl
 no_relocs number n (s ∷ ss) = no_relocs (number + 1) (n + 1) ss
 
@@ -57,7 +57,7 @@ unfolding tokens_line line_from is_token_kind
 empty_line = (reads-tokens [] [] (line_data 15 []) lexes-end (omega arith) refl).is
 
 runs-empty : (labels : List SymbolData) (d : DraftData) → Runs labels d (line_data 15 [] ∷ []) d
-unfolding with_line line_rule
+unfolding draft_after_line line_rule
 runs-empty labels d = record { keeps = (refl, tt); makes = refl }
 
 list_all-from : {X : Type 0} (P : X → Type 0) (p : X → Bool) → ((x : X) → P x → p x ≡ true) → (xs : List X) → All P xs → list_all p xs ≡ true
@@ -100,18 +100,18 @@ module _ (i : ImageData) (is : IsImage i) where
 
   -- of these lines, whatever list they are
   module _ (ls : List LineData) (same : ls ≡ text.ls ++ (line_data 15 [] ∷ [])) where
-    keeps-lines : KeepsRules ls (length ls)
+    keeps-lines : LinesKeepRules ls (length ls)
     keeps-lines =
-        subst (λ (xs : List LineData). KeepsRules xs (length xs)) (sym same)
-        (λ k d less. keeps-at (symbols_of (text.ls ++ (line_data 15 [] ∷ []))) empty_draft (text.ls ++ (line_data 15 [] ∷ [])) (runs (symbols_of (text.ls ++ (line_data 15 [] ∷ [])))).1.keeps k d less)
+        subst (λ (xs : List LineData). LinesKeepRules xs (length xs)) (sym same)
+        (λ k d less. keeps-at (symbols_of_lines (text.ls ++ (line_data 15 [] ∷ []))) empty_draft (text.ls ++ (line_data 15 [] ∷ [])) (runs (symbols_of_lines (text.ls ++ (line_data 15 [] ∷ [])))).1.keeps k d less)
 
     never-breaks : (line rule : ℕ) → IsFirstBrokenLine ls line rule → ⊥
     never-breaks line rule least = least.some (sym (least.broken (line_data 15 [])) ∙ keeps-lines least.place (line_data 15 []) least.within)
 
-    holds-lines : HoldsSegments i.segments (object_of_draft (draft_from_lines (symbols_of ls) ls))
+    holds-lines : HoldsSegments i.segments (object_of_draft (draft_from_lines (symbols_of_lines ls) ls))
     holds-lines =
-        let r = runs (symbols_of ls) in
-        subst (λ (d : DraftData). HoldsSegments i.segments (object_of_draft d)) (sym (ap (draft_from_lines (symbols_of ls)) same ∙ r.1.makes)) (holds-sections i.segments r.0 (0 + total_of (segments_in_listing_order i.segments)))
+        let r = runs (symbols_of_lines ls) in
+        subst (λ (d : DraftData). HoldsSegments i.segments (object_of_draft d)) (sym (ap (draft_from_lines (symbols_of_lines ls)) same ∙ r.1.makes)) (holds-sections i.segments r.0 (0 + total_of (segments_in_listing_order i.segments)))
 
   short : length (listing_of i) ≤ 2 ^ 30
   unfolding listing_of
@@ -121,7 +121,7 @@ module _ (i : ImageData) (is : IsImage i) where
       let whole = short-sections 0 (segments_in_listing_order i.segments) few all_bytes in
       omega arith
 
-  pub reads_back : ReadsBack i
+  pub reads_back : ListingReadsBack i
   reads_back = record {
     short = short;
     keeps = keeps-lines (lines_in (listing_of i)) lines-are;
@@ -131,16 +131,16 @@ module _ (i : ImageData) (is : IsImage i) where
 
 -- ---- calls
 -- the image of a call
-pub reads_back-of : (image now : ImageData) → image ≡ now → IsImage image → ReadsBack now
-reads_back-of image now same is = subst ReadsBack same (reads_back image is)
+pub reads_back-of : (image now : ImageData) → image ≡ now → IsImage image → ListingReadsBack now
+reads_back-of image now same is = subst ListingReadsBack same (reads_back image is)
 
-module _ (i : ImageData) (back : ReadsBack i) (source : List ℕ) (is : source ≡ listing_of i) where
+module _ (i : ImageData) (back : ListingReadsBack i) (source : List ℕ) (is : source ≡ listing_of i) where
   pub short_source : length source ≤ 2 ^ 30
   short_source = subst (λ (xs : List ℕ). length xs ≤ 2 ^ 30) (sym is) back.short
 
-  pub holds_of : (r : Result ObjectData AsmErr) → IfOk r (λ o. o ≡ object_of_draft (draft_from_lines (symbols_of (lines_in source)) (lines_in source))) → IfOk r (λ o. HoldsSegments i.segments o)
+  pub holds_of : (r : Result ObjectData AsmErr) → IfOk r (λ o. o ≡ object_of_draft (draft_from_lines (symbols_of_lines (lines_in source)) (lines_in source))) → IfOk r (λ o. HoldsSegments i.segments o)
   holds_of (Ok o) e =
-      subst (HoldsSegments i.segments) (sym (e ∙ ap (λ xs. object_of_draft (draft_from_lines (symbols_of (lines_in xs)) (lines_in xs))) is)) back.holds
+      subst (HoldsSegments i.segments) (sym (e ∙ ap (λ xs. object_of_draft (draft_from_lines (symbols_of_lines (lines_in xs)) (lines_in xs))) is)) back.holds
   holds_of (Err x) e = e
 
   pub never_of : (r : Result ObjectData AsmErr) → IfErr r (IfBadLine (IsFirstBrokenLine (lines_in source))) → IfErr r (λ e. e ≡ NoMemory)

@@ -6,8 +6,8 @@ use Rattle.elf_image.specs.Images.{SegmentData, ImageData, IsImage}
 use Rattle.tc_object.specs.Objects.{SectionData, ObjectData}
 use Rattle.tc_stmt.specs.Lines.{lines_in}
 use Rattle.tc_asm.specs.Objects.{object_of_draft}
-use Rattle.tc_asm.specs.DraftedSources.{symbols_of, draft_from_lines}
-use Rattle.tc_asm.specs.Rules.{KeepsRules, IsFirstBrokenLine}
+use Rattle.tc_asm.specs.DraftedSources.{symbols_of_lines, draft_from_lines}
+use Rattle.tc_asm.specs.Rules.{LinesKeepRules, IsFirstBrokenLine}
 use Rattle.tc_disasm.specs.Listing.{listing_of}
 
 -- the name of a section in the object that a listing is assembled to, by its number: `s0`, `s1` and
@@ -28,13 +28,13 @@ pub record HoldsSegments (segments : List SegmentData) (o : ObjectData) : Type 0
 
 -- The listing of the image is short enough for a source, and no line breaks a rule. So there is no
 -- first line that breaks one. The object of the listing has the segments as its sections.
-pub record ReadsBack (i : ImageData) : Type 0 where
+pub record ListingReadsBack (i : ImageData) : Type 0 where
   pub short : length (listing_of i) ≤ 2 ^ 30
-  pub keeps : KeepsRules (lines_in (listing_of i)) (length (lines_in (listing_of i)))
+  pub keeps : LinesKeepRules (lines_in (listing_of i)) (length (lines_in (listing_of i)))
   pub never : (line rule : ℕ) → IsFirstBrokenLine (lines_in (listing_of i)) line rule → ⊥
-  pub holds : HoldsSegments i.segments (object_of_draft (draft_from_lines (symbols_of (lines_in (listing_of i))) (lines_in (listing_of i))))
+  pub holds : HoldsSegments i.segments (object_of_draft (draft_from_lines (symbols_of_lines (lines_in (listing_of i))) (lines_in (listing_of i))))
 
 -- the listing of each image, when it is assembled, gives an object with the image's segments as its
 -- sections
 abbrev pub ListingLaw : Type 0
-ListingLaw = (i : ImageData) → IsImage i → ReadsBack i
+ListingLaw = (i : ImageData) → IsImage i → ListingReadsBack i

@@ -11,14 +11,14 @@ use Rattle.tc_stmt.specs.RowFields.{set_field, field_of}
 
 -- the fields g with those of the fields f that are given by this operand of a row, as a listing
 -- prints it
-unfoldable pub with_wanted_fields : Fields → Fields → Want → Fields
-with_wanted_fields f g (Reg p x) = set_field x (field_of x f) g
-with_wanted_fields f g A10 = g
-with_wanted_fields f g (Number s x) = set_field x (field_of x f) g
-with_wanted_fields f g Target = set_field K f.k g
-with_wanted_fields f g Absolute = set_field K f.k g
-with_wanted_fields f g (Memory p true) = set_field K f.k (set_field S2 f.s2 g)
-with_wanted_fields f g (Memory p false) = set_field S2 f.s2 g
+unfoldable pub with_fields_set_by_want : Fields → Fields → Want → Fields
+with_fields_set_by_want f g (Reg p x) = set_field x (field_of x f) g
+with_fields_set_by_want f g A10 = g
+with_fields_set_by_want f g (Number s x) = set_field x (field_of x f) g
+with_fields_set_by_want f g Target = set_field K f.k g
+with_fields_set_by_want f g Absolute = set_field K f.k g
+with_fields_set_by_want f g (Memory p true) = set_field K f.k (set_field S2 f.s2 g)
+with_fields_set_by_want f g (Memory p false) = set_field S2 f.s2 g
 
 -- a printed operand for this want sets the field
 unfoldable pub is_field_set_by_want : Field → Want → Bool
@@ -39,5 +39,5 @@ is_field_set_by_want K Absolute = true
 is_field_set_by_want f w = false
 
 -- the fields that the printed operands of these wants set
-unfoldable pub uses_by_wants : List Want → Uses
-uses_by_wants ws = record { c = list_any (is_field_set_by_want C) ws; s1 = list_any (is_field_set_by_want S1) ws; s2 = list_any (is_field_set_by_want S2) ws; n = list_any (is_field_set_by_want N) ws; k = list_any (is_field_set_by_want K) ws }
+unfoldable pub fields_set_by_wants : List Want → Uses
+fields_set_by_wants ws = record { c = list_any (is_field_set_by_want C) ws; s1 = list_any (is_field_set_by_want S1) ws; s2 = list_any (is_field_set_by_want S2) ws; n = list_any (is_field_set_by_want N) ws; k = list_any (is_field_set_by_want K) ws }

@@ -3,30 +3,30 @@ use Rattle.std.specs.Prelude.{◌≡◌, ℕ, zero, suc, ◌-◌, ◌==◌, fals
 use Rattle.tc_lex.specs.declared.kinds.Front.{Front}
 use Rattle.tc_lex.specs.declared.kinds.Front.TheVariants as front
 use Rattle.tc_lex.specs.Cut.{token_front_of}
-use Rattle.tc_lex.specs.Pieces.{PieceData, text_in as text_between}
+use Rattle.tc_lex.specs.Pieces.{PieceData, line_text_between as text_between}
 use Rattle.tc_disasm.specs.Tokens.{printed_token}
 use Rattle.tcd_base.specs.NameBytes.{is_name_byte}
 
 -- the tokens that follow from the front of a text: `next room skip` is the answer for the rest
 -- after its first byte
-abbrev pub lexed_listing_after : Front → List ℕ → ℕ → (ℕ → ℕ → Option (List PieceData)) → Option (List PieceData)
-lexed_listing_after front.End text room next = Some []
-lexed_listing_after front.Blank text room next = next room 0
-lexed_listing_after front.Bad text room next = None
-lexed_listing_after (front.Token kind len) text room next = if room == 0 then None else option_map (λ ps. printed_token kind (take len text) ∷ ps) (next (room - 1) (len - 1))
+abbrev pub listing_tokens_after : Front → List ℕ → ℕ → (ℕ → ℕ → Option (List PieceData)) → Option (List PieceData)
+listing_tokens_after front.End text room next = Some []
+listing_tokens_after front.Blank text room next = next room 0
+listing_tokens_after front.Bad text room next = None
+listing_tokens_after (front.Token kind len) text room next = if room == 0 then None else option_map (λ ps. printed_token kind (take len text) ∷ ps) (next (room - 1) (len - 1))
 
 -- the tokens of a listing's text with their texts, at most `room` after the first `skip` bytes;
 -- None if the text can't be cut
-unfoldable pub lexed_listing : List ℕ → ℕ → ℕ → Option (List PieceData)
-lexed_listing [] room skip = Some []
-lexed_listing (c ∷ cs) room zero = lexed_listing_after (token_front_of (c ∷ cs)) (c ∷ cs) room (lexed_listing cs)
-lexed_listing (c ∷ cs) room (suc skip) = lexed_listing cs room skip
+unfoldable pub listing_tokens : List ℕ → ℕ → ℕ → Option (List PieceData)
+listing_tokens [] room skip = Some []
+listing_tokens (c ∷ cs) room zero = listing_tokens_after (token_front_of (c ∷ cs)) (c ∷ cs) room (listing_tokens cs)
+listing_tokens (c ∷ cs) room (suc skip) = listing_tokens cs room skip
 
 -- where a word or a number can end as a listing is lexed: the text is over, or goes on with a byte
 -- that no name has
-abbrev pub IsListingStop : List ℕ → Type 0
-IsListingStop [] = Unit {0}
-IsListingStop (c ∷ cs) = is_name_byte c ≡ false
+abbrev pub IsTokenEnd : List ℕ → Type 0
+IsTokenEnd [] = Unit {0}
+IsTokenEnd (c ∷ cs) = is_name_byte c ≡ false
 
 -- the text of a token in a line of a listing, from one place to another, as the line is lexed
 abbrev pub lexed_text_between : List ℕ → ℕ → ℕ → List ℕ

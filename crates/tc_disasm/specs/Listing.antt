@@ -22,25 +22,25 @@ decoded_or_data_size (Ok found) bytes = found.1
 decoded_or_data_size (Err e) bytes = min 2 (length bytes)
 
 -- the text of the instruction or data at the start of the bytes
-unfoldable pub listed_text_at : List ℕ → List ℕ
-listed_text_at bytes = decoded_or_data_text (decoded_of bytes) bytes
+unfoldable pub instruction_or_data_text : List ℕ → List ℕ
+instruction_or_data_text bytes = decoded_or_data_text (decoded_of bytes) bytes
 
 -- the size in bytes of the instruction or data at the start of the bytes
-unfoldable pub listed_size_at : List ℕ → ℕ
-listed_size_at bytes = decoded_or_data_size (decoded_of bytes) bytes
+unfoldable pub instruction_or_data_size : List ℕ → ℕ
+instruction_or_data_size bytes = decoded_or_data_size (decoded_of bytes) bytes
 
 -- the comment of a line: an address, its bytes, and a line feed
-unfoldable pub listing_remark : ℕ → List ℕ → List ℕ
-listing_remark address bytes = codes " # " ++ (hex_word address ++ (32 ∷ (flat_map hex_byte bytes ++ 10 ∷ [])))
+unfoldable pub listing_comment : ℕ → List ℕ → List ℕ
+listing_comment address bytes = codes " # " ++ (hex_word address ++ (32 ∷ (flat_map hex_byte bytes ++ 10 ∷ [])))
 
 -- the line of the instruction or data at the start of the bytes, which begin at an address
 unfoldable pub listing_line_at : ℕ → List ℕ → List ℕ
-listing_line_at address bytes = listed_text_at bytes ++ listing_remark address (take (listed_size_at bytes) bytes)
+listing_line_at address bytes = instruction_or_data_text bytes ++ listing_comment address (take (instruction_or_data_size bytes) bytes)
 
 -- the lines of bytes that begin at an address, after the first `skip` bytes
 unfoldable pub listing_lines_from : ℕ → List ℕ → ℕ → List ℕ
 listing_lines_from address [] skip = []
-listing_lines_from address (b ∷ bs) zero = listing_line_at address (b ∷ bs) ++ listing_lines_from (address + 1) bs (listed_size_at (b ∷ bs) - 1)
+listing_lines_from address (b ∷ bs) zero = listing_line_at address (b ∷ bs) ++ listing_lines_from (address + 1) bs (instruction_or_data_size (b ∷ bs) - 1)
 listing_lines_from address (b ∷ bs) (suc skip) = listing_lines_from (address + 1) bs skip
 
 -- the line that begins the section of this number
@@ -57,13 +57,13 @@ listing_sections_from number [] = []
 listing_sections_from number (s ∷ ss) = section_text number s ++ listing_sections_from (number + 1) ss
 
 -- a segment inserted into the segments of a listing, in ascending order of addresses
-unfoldable pub with_segment : SegmentData → List SegmentData → List SegmentData
-with_segment s [] = s ∷ []
-with_segment s (t ∷ ts) = if nat_lt s.at t.at then s ∷ t ∷ ts else t ∷ with_segment s ts
+unfoldable pub with_inserted_segment : SegmentData → List SegmentData → List SegmentData
+with_inserted_segment s [] = s ∷ []
+with_inserted_segment s (t ∷ ts) = if nat_lt s.at t.at then s ∷ t ∷ ts else t ∷ with_inserted_segment s ts
 
 -- the segments in ascending order of their addresses
 abbrev pub segments_in_listing_order : List SegmentData → List SegmentData
-segments_in_listing_order ss = fold (λ sorted s. with_segment s sorted) [] ss
+segments_in_listing_order ss = fold (λ sorted s. with_inserted_segment s sorted) [] ss
 
 -- the listing: the segments in ascending order of addresses, numbered from 0
 unfoldable pub listing_of : ImageData → List ℕ

@@ -6,15 +6,15 @@ use Rattle.std.specs.Option.{option_map_or}
 use Rattle.tcd_text.specs.HexNumbers.{hex_word, hex_byte}
 use Rattle.tc_isa.specs.declared.table.Form.{Form}
 use Rattle.tc_isa.specs.declared.fields.Fields.{Fields}
-use Rattle.tc_isa.specs.Forms.{bounds, is_abs_form}
-use Rattle.tc_isa.specs.Rows.{RowData, listed}
-use Rattle.tc_isa.specs.Insts.{InstData, fields_in}
+use Rattle.tc_isa.specs.Forms.{field_bounds, is_abs_form}
+use Rattle.tc_isa.specs.Rows.{RowData, table_rows}
+use Rattle.tc_isa.specs.Insts.{InstData, inst_fields}
 use Rattle.tc_isa.specs.FromFields.{address_in_constant, code_address_in_constant}
 use Rattle.tc_stmt.specs.declared.want.Want.{Want}
 use Rattle.tc_stmt.specs.declared.want.Want.TheVariants.{Reg, A10, Number, Target, Absolute, Memory}
 use Rattle.tc_stmt.specs.Wants.{wants_of}
 use Rattle.tc_stmt.specs.RowFields.{field_of}
-use Rattle.tc_stmt.specs.Displacements.{is_two_way}
+use Rattle.tc_stmt.specs.Displacements.{can_jump_back}
 
 -- the text of a register in a listing: `d0` to `d15`, or `a0` to `a15` if bank is true
 unfoldable pub register_text : Bool → ℕ → List ℕ
@@ -22,21 +22,21 @@ register_text bank n = (if bank then 97 else 100) ∷ decimal n
 
 -- the number in a field is printed with a minus: the field is signed, and its raw value, at least
 -- half of this bound, stands for a negative number
-abbrev pub is_printed_minus : Bool → ℕ → ℕ → Bool
-is_printed_minus signed bound v = signed && nat_le (bound / 2) v
+abbrev pub is_printed_negative : Bool → ℕ → ℕ → Bool
+is_printed_negative signed bound v = signed && nat_le (bound / 2) v
 
 -- the absolute value of the number in a field
-abbrev pub printed_size : Bool → ℕ → ℕ → ℕ
-printed_size signed bound v = if is_printed_minus signed bound v then bound - v else v
+abbrev pub printed_magnitude : Bool → ℕ → ℕ → ℕ
+printed_magnitude signed bound v = if is_printed_negative signed bound v then bound - v else v
 
 -- the text of a constant operand in a listing: decimal, with a minus if it is negative
 unfoldable pub number_text : Bool → ℕ → ℕ → List ℕ
-number_text signed bound v = if is_printed_minus signed bound v then 45 ∷ decimal (bound - v) else decimal v
+number_text signed bound v = if is_printed_negative signed bound v then 45 ∷ decimal (bound - v) else decimal v
 
 -- the text of a jump's target in a listing: `.+` or `.-` and a number of bytes, twice the
 -- displacement
 unfoldable pub target_text : Bool → ℕ → ℕ → List ℕ
-target_text both bound k = 46 ∷ (if is_printed_minus both bound k then 45 ∷ decimal (2 * (bound - k)) else 43 ∷ decimal (2 * k))
+target_text both bound k = 46 ∷ (if is_printed_negative both bound k then 45 ∷ decimal (2 * (bound - k)) else 43 ∷ decimal (2 * k))
 
 -- the address in the fields of an ABS row or of a B row
 unfoldable pub absolute_operand_address : Form → Fields → ℕ
@@ -47,17 +47,17 @@ unfoldable pub absolute_text : Form → Fields → List ℕ
 absolute_text form f = 48 ∷ 120 ∷ hex_word (absolute_operand_address form f)
 
 -- the text of a memory operand's base register in a listing: `[aN]` or `[aN+]`
-unfoldable pub base_text : Bool → ℕ → List ℕ
-base_text plus n = 91 ∷ (register_text true n ++ (if plus then codes "+]" else codes "]"))
+unfoldable pub base_register_text : Bool → ℕ → List ℕ
+base_register_text plus n = 91 ∷ (register_text true n ++ (if plus then codes "+]" else codes "]"))
 
 -- the text of the operand that a row wants, with these fields, in a listing
 unfoldable pub operand_text : Form → Fields → Want → List ℕ
 operand_text form f (Reg bank field) = register_text bank (field_of field f)
 operand_text form f A10 = codes "a10"
-operand_text form f (Number signed field) = number_text signed (field_of field (bounds form)) (field_of field f)
-operand_text form f Target = target_text (is_two_way form) (bounds form).k f.k
+operand_text form f (Number signed field) = number_text signed (field_of field (field_bounds form)) (field_of field f)
+operand_text form f Target = target_text (can_jump_back form) (field_bounds form).k f.k
 operand_text form f Absolute = absolute_text form f
-operand_text form f (Memory plus offset) = base_text plus f.s2 ++ (if offset then number_text true (bounds form).k f.k else [])
+operand_text form f (Memory plus offset) = base_register_text plus f.s2 ++ (if offset then number_text true (field_bounds form).k f.k else [])
 
 -- the operands after a blank, separated by a comma and a blank
 unfoldable pub operands_text : Form → Fields → List Want → List ℕ
@@ -70,7 +70,7 @@ row_text r f = r.name ++ operands_text r.form f (wants_of r)
 
 -- the text of an instruction
 unfoldable pub instruction_text : InstData → List ℕ
-instruction_text i = option_map_or (λ r. row_text r (fields_in i)) (slice_get listed i.row) []
+instruction_text i = option_map_or (λ r. row_text r (inst_fields i)) (slice_get table_rows i.row) []
 
 -- the text of data in a listing: `.half` with two bytes as a little-endian number, or `.byte` with
 -- a single last byte

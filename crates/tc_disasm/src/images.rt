@@ -3,7 +3,7 @@ ghost use Rattle.std.specs.Prelude.{◌≡◌, ◌++◌, ◌≤◌, ◌+◌, ◌
 ghost use Rattle.std.specs.List.{list_all};
 ghost use Rattle.elf_image.specs.Images.{segment_data, is_segment};
 ghost use Rattle.tc_disasm.specs.Listing.{section_text, listing_sections_from, listing_of};
-ghost use Rattle.tc_disasm.specs.LentSegments.{lent_segment_data};
+ghost use Rattle.tc_disasm.specs.LentSegments.{borrowed_segment_data};
 
 use crate::lines::append_listing;
 use crate::ordering::segments_in_listing_order;
@@ -34,10 +34,10 @@ pub fn listing(alloc: Global, image: &Image) -> Result<String, NoMemory>
 // Appends the sections of a listing, one for each segment, numbered from 0.
 fn append_sections(text: &mut String, segments: &[&Segment]) -> Result<(), NoMemory>
     requires few { length segments.now ≤ 64 }
-    requires segments { IsTrue (list_all is_segment (map lent_segment_data segments.now)) }
+    requires segments { IsTrue (list_all is_segment (map borrowed_segment_data segments.now)) }
     ensures { OnOk result
         (string_bytes text.new
-        ≡ string_bytes text.old ++ listing_sections_from 0 (map lent_segment_data segments.now)) }
+        ≡ string_bytes text.old ++ listing_sections_from 0 (map borrowed_segment_data segments.now)) }
 {
     for i in 0..segments.len() {
         append_section(text, i as u32, segments[i])?;

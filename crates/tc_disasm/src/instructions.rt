@@ -1,6 +1,6 @@
 // Appends the text of an instruction.
 ghost use Rattle.std.specs.Prelude.{◌≡◌, ◌++◌, OnOk, string_bytes};
-ghost use Rattle.tc_isa.specs.Forms.{bounds};
+ghost use Rattle.tc_isa.specs.Forms.{field_bounds};
 ghost use Rattle.tc_isa.specs.InBounds.{AreFieldsBelow};
 ghost use Rattle.tc_isa.specs.Rows.{row_of};
 ghost use Rattle.tc_stmt.specs.Wants.{wants_of};
@@ -32,7 +32,7 @@ pub(crate) fn append_instruction(text: &mut String, inst: &Inst) -> Result<(), N
 #[tactic(auto, unfolding(crate::specs::Texts::row_text))]
 fn append_row_text(text: &mut String, row: &Row, wants: &[Want], f: &Fields) -> Result<(), NoMemory>
     requires wants { wants.now ≡ wants_of (row_of row.now) }
-    requires fits { AreFieldsBelow f.now (bounds row.now.form) }
+    requires fits { AreFieldsBelow f.now (field_bounds row.now.form) }
     ensures { OnOk result
         (string_bytes text.new ≡ string_bytes text.old ++ row_text (row_of row.now) f.now) }
 {

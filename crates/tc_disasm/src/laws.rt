@@ -2,21 +2,21 @@
 ghost use Rattle.std.specs.Prelude.{◌≡◌, ◌<◌, ◌^◌, ◌++◌, ◌∷◌, ℕ, suc, true, Bool, if◌then◌else◌, ◌+◌, List, length, Ok, Some, option_map};
 ghost use Rattle.std.specs.Fmt.{decimal};
 ghost use Rattle.std.specs.List.{list_all};
-ghost use Rattle.tcd_base.specs.NameBytes.{is_name_byte, is_name_first};
+ghost use Rattle.tcd_base.specs.NameBytes.{is_name_byte, is_name_start};
 ghost use Rattle.tc_lex.specs.Bytes.{is_digit};
 ghost use Rattle.tc_lex.specs.Cut.{token_front_of};
 ghost use Rattle.tc_lex.specs.declared.kinds.TokenKind.{TokenKind};
 ghost use Rattle.tc_lex.specs.declared.kinds.TokenKind.TheVariants as kind;
 ghost use Rattle.tc_lex.specs.declared.kinds.Front.TheVariants.{Token};
-ghost use Rattle.tc_isa.specs.Insts.{InstData, IsInst, fields_in};
+ghost use Rattle.tc_isa.specs.Insts.{InstData, IsInst, inst_fields};
 ghost use Rattle.tc_lex.specs.Numbers.{token_number};
-ghost use Rattle.tc_stmt.specs.RowFields.{no_fields};
-ghost use Rattle.tc_stmt.specs.OperandForms.{register_by_name};
+ghost use Rattle.tc_stmt.specs.RowFields.{zero_fields};
+ghost use Rattle.tc_stmt.specs.OperandForms.{register_number};
 ghost use Rattle.tc_stmt.specs.StatementRow.{statement};
 ghost use Rattle.tcd_text.specs.HexNumbers.{hex_word};
 ghost use Rattle.tc_disasm.specs.Texts.{register_text};
 ghost use Rattle.tc_disasm.specs.Tokens.{printed_token, printed_operands};
-ghost use Rattle.tc_disasm.specs.Lexed.{IsListingStop, lexed_listing};
+ghost use Rattle.tc_disasm.specs.Lexed.{IsTokenEnd, listing_tokens};
 ghost use Rattle.tc_disasm.specs.Assembled.{ListingLaw};
 
 /// The numbers, addresses and registers of a listing are read as the values that were printed.
@@ -24,31 +24,31 @@ pub fn number_laws()
     ensures decimals { (n : ℕ) → n < 2 ^ 64 → token_number (decimal n) ≡ Some n }
     ensures addresses { (x : ℕ) → x < 2 ^ 32 → token_number (48 ∷ 120 ∷ hex_word x) ≡ Some x }
     ensures registers { (bank : Bool) (n : ℕ) → n < 16
-        → register_by_name (register_text bank n) ≡ (if bank then 16 else 0) + n }
+        → register_number (register_text bank n) ≡ (if bank then 16 else 0) + n }
 {}
 
 /// A word or decimal number at the start of a text is its first token, and the tokens of the rest
 /// follow.
 pub fn token_laws()
-    ensures words { (c : ℕ) (cs rest : List ℕ) → is_name_first c ≡ true
+    ensures words { (c : ℕ) (cs rest : List ℕ) → is_name_start c ≡ true
         → list_all is_name_byte (c ∷ cs) ≡ true
-        → IsListingStop rest → token_front_of ((c ∷ cs) ++ rest)
+        → IsTokenEnd rest → token_front_of ((c ∷ cs) ++ rest)
         ≡ Token kind.Word (length (c ∷ cs)) }
     ensures digits { (c : ℕ) (cs rest : List ℕ) → list_all is_digit (c ∷ cs) ≡ true
-        → IsListingStop rest
+        → IsTokenEnd rest
         → token_front_of ((c ∷ cs) ++ rest) ≡ Token kind.Number (length (c ∷ cs)) }
     ensures fronts { (k : TokenKind) (c : ℕ) (cs rest : List ℕ) (room : ℕ)
         → token_front_of ((c ∷ cs) ++ rest) ≡ Token k (length (c ∷ cs))
-        → lexed_listing ((c ∷ cs) ++ rest) (suc room) 0
-        ≡ option_map (λ ps. printed_token k (c ∷ cs) ∷ ps) (lexed_listing rest room 0) }
+        → listing_tokens ((c ∷ cs) ++ rest) (suc room) 0
+        ≡ option_map (λ ps. printed_token k (c ∷ cs) ∷ ps) (listing_tokens rest room 0) }
 {}
 
 /// An instruction's name and its printed operands are a statement of that instruction: its row and
 /// its fields, with no symbol, and no rule broken.
 pub fn statement_law()
     ensures { (i : InstData) (is : IsInst i)
-        → statement is.row.name (printed_operands is.row (fields_in i))
-        ≡ Ok (i.row, record no_fields { fields = fields_in i }) }
+        → statement is.row.name (printed_operands is.row (inst_fields i))
+        ≡ Ok (i.row, record zero_fields { fields = inst_fields i }) }
 {}
 
 /// The listing of an image can be assembled: it is short enough for `assemble`, and no line breaks

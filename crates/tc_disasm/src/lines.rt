@@ -2,7 +2,7 @@
 ghost use Rattle.std.specs.Prelude.{◌≡◌, ◌<◌, ◌≤◌, ◌+◌, ◌^◌, ◌++◌, ◌∷◌, [], OnOk, IfOk, string_bytes, codes, length, min, drop};
 ghost use Rattle.std.specs.List.{flat_map};
 ghost use Rattle.tcd_text.specs.HexNumbers.{hex_byte, hex_word};
-ghost use Rattle.tc_disasm.specs.Listing.{listed_text_at, listed_size_at, listing_remark, listing_line_at, listing_lines_from};
+ghost use Rattle.tc_disasm.specs.Listing.{instruction_or_data_text, instruction_or_data_size, listing_comment, listing_line_at, listing_lines_from};
 ghost use Rattle.tc_disasm.specs.Texts.{data_text};
 
 use crate::instructions::append_instruction;
@@ -37,7 +37,7 @@ fn append_line_at(
     ensures text { OnOk result
         (string_bytes text.new
         ≡ string_bytes text.old ++ listing_line_at (address + at) (drop at bytes.now)) }
-    ensures size { IfOk result (λ n. n ≡ listed_size_at (drop at bytes.now)) }
+    ensures size { IfOk result (λ n. n ≡ instruction_or_data_size (drop at bytes.now)) }
     ensures some { IfOk result (λ n. 0 < n) }
     ensures within { IfOk result (λ n. at + n ≤ length bytes.now) }
 {
@@ -50,7 +50,7 @@ fn append_line(text: &mut String, address: u32, bytes: &[u8]) -> Result<usize, N
     requires { 0 < length bytes.now }
     ensures text { OnOk result
         (string_bytes text.new ≡ string_bytes text.old ++ listing_line_at address bytes.now) }
-    ensures size { IfOk result (λ n. n ≡ listed_size_at bytes.now) }
+    ensures size { IfOk result (λ n. n ≡ instruction_or_data_size bytes.now) }
     ensures some { IfOk result (λ n. 0 < n) }
     ensures within { IfOk result (λ n. n ≤ length bytes.now) }
 {
@@ -61,12 +61,12 @@ fn append_line(text: &mut String, address: u32, bytes: &[u8]) -> Result<usize, N
 
 // Appends the first instruction of these bytes, or data if there is none, to a listing as text, and
 // returns its size in bytes.
-#[tactic(auto, unfolding(crate::specs::Listing::listed_text_at, crate::specs::Listing::listed_size_at))]
+#[tactic(auto, unfolding(crate::specs::Listing::instruction_or_data_text, crate::specs::Listing::instruction_or_data_size))]
 fn append_instruction_or_data(text: &mut String, bytes: &[u8]) -> Result<usize, NoMemory>
     requires { 0 < length bytes.now }
     ensures text { OnOk result
-        (string_bytes text.new ≡ string_bytes text.old ++ listed_text_at bytes.now) }
-    ensures size { IfOk result (λ n. n ≡ listed_size_at bytes.now) }
+        (string_bytes text.new ≡ string_bytes text.old ++ instruction_or_data_text bytes.now) }
+    ensures size { IfOk result (λ n. n ≡ instruction_or_data_size bytes.now) }
     ensures some { IfOk result (λ n. 0 < n) }
     ensures within { IfOk result (λ n. n ≤ length bytes.now) }
 {
@@ -83,10 +83,10 @@ fn append_instruction_or_data(text: &mut String, bytes: &[u8]) -> Result<usize, 
 }
 
 /// Appends the comment of a line: an address, its bytes and a line feed.
-#[tactic(auto, unfolding(crate::specs::Listing::listing_remark))]
+#[tactic(auto, unfolding(crate::specs::Listing::listing_comment))]
 fn append_comment(text: &mut String, address: u32, bytes: &[u8]) -> Result<(), NoMemory>
     ensures { OnOk result
-        (string_bytes text.new ≡ string_bytes text.old ++ listing_remark address bytes.now) }
+        (string_bytes text.new ≡ string_bytes text.old ++ listing_comment address bytes.now) }
 {
     match bytes {
         [a, b] => append_two_byte_comment(text, address, *a, *b),
@@ -154,10 +154,10 @@ fn append_four_byte_comment(
 }
 
 /// Appends the comment of a line: an address, any number of bytes and a line feed.
-#[tactic(auto, unfolding(crate::specs::Listing::listing_remark))]
+#[tactic(auto, unfolding(crate::specs::Listing::listing_comment))]
 fn append_long_comment(text: &mut String, address: u32, bytes: &[u8]) -> Result<(), NoMemory>
     ensures { OnOk result
-        (string_bytes text.new ≡ string_bytes text.old ++ listing_remark address bytes.now) }
+        (string_bytes text.new ≡ string_bytes text.old ++ listing_comment address bytes.now) }
 {
     append_listing_address(text, address)?;
     append_hex_bytes(text, bytes)?;

@@ -1,12 +1,12 @@
 // Appends the text of an operand.
 ghost use Rattle.std.specs.Prelude.{◌≡◌, ◌≤◌, ◌*◌, ◌++◌, OnOk, string_bytes, ◌<◌, ◌^◌, codes};
-ghost use Rattle.tc_isa.specs.Forms.{bounds};
+ghost use Rattle.tc_isa.specs.Forms.{field_bounds};
 ghost use Rattle.tc_isa.specs.InBounds.{AreFieldsBelow};
 ghost use Rattle.tc_isa.specs.FromFields.{code_address_in_constant};
 ghost use Rattle.tc_stmt.specs.declared.want.Want.TheVariants.{Memory};
 ghost use Rattle.tc_stmt.specs.RowFields.{field_of};
 ghost use Rattle.tc_disasm.specs.Texts.{register_text, number_text, target_text, absolute_operand_address, absolute_text, operand_text, operands_text};
-ghost use Rattle.tc_stmt.specs.Displacements.{is_two_way};
+ghost use Rattle.tc_stmt.specs.Displacements.{can_jump_back};
 ghost use Rattle.std.specs.List.{flat_map};
 
 use crate::texts::append_listing_decimal;
@@ -24,7 +24,7 @@ pub(crate) fn append_operand(
     f: &Fields,
     want: Want,
 ) -> Result<(), NoMemory>
-    requires { AreFieldsBelow f.now (bounds form) }
+    requires { AreFieldsBelow f.now (field_bounds form) }
     ensures { OnOk result
         (string_bytes text.new ≡ string_bytes text.old ++ operand_text form f.now want) }
 {
@@ -46,7 +46,7 @@ pub(crate) fn append_operands(
     f: &Fields,
     wants: &[Want],
 ) -> Result<(), NoMemory>
-    requires { AreFieldsBelow f.now (bounds form) }
+    requires { AreFieldsBelow f.now (field_bounds form) }
     ensures { OnOk result
         (string_bytes text.new ≡ string_bytes text.old ++ operands_text form f.now wants.now) }
 {
@@ -76,11 +76,11 @@ fn append_constant_operand(
     form: Form,
     f: &Fields,
 ) -> Result<(), NoMemory>
-    requires { AreFieldsBelow f.now (bounds form) }
+    requires { AreFieldsBelow f.now (field_bounds form) }
     ensures { OnOk result
         (string_bytes text.new
         ≡ string_bytes text.old
-        ++ number_text signed (field_of field (bounds form)) (field_of field f.now)) }
+        ++ number_text signed (field_of field (field_bounds form)) (field_of field f.now)) }
 {
     append_number(
         text,
@@ -109,9 +109,9 @@ fn append_target_operand(text: &mut String, both: bool, bound: u32, k: u32) -> R
 
 /// Returns true if the text of a target operand may have a `-`: a displacement of this form can be
 /// negative.
-#[tactic(auto, unfolding(tc_stmt::specs::Displacements::is_two_way, tc_isa::specs::Forms::form_index))]
+#[tactic(auto, unfolding(tc_stmt::specs::Displacements::can_jump_back, tc_isa::specs::Forms::form_index))]
 fn can_jump_back(form: Form) -> bool
-    ensures { result ≡ is_two_way form }
+    ensures { result ≡ can_jump_back form }
 {
     match form {
         Form::Sbr => false,
@@ -134,7 +134,7 @@ fn append_absolute_operand(text: &mut String, form: Form, f: &Fields) -> Result<
 
 /// Appends a memory operand: its base register, `[aN]` or `[aN+]`, and its offset if the row has
 /// one.
-#[tactic(auto, unfolding(crate::specs::Texts::operand_text, crate::specs::Texts::base_text))]
+#[tactic(auto, unfolding(crate::specs::Texts::operand_text, crate::specs::Texts::base_register_text))]
 fn append_memory_operand(
     text: &mut String,
     form: Form,
@@ -142,7 +142,7 @@ fn append_memory_operand(
     plus: bool,
     offset: bool,
 ) -> Result<(), NoMemory>
-    requires { AreFieldsBelow f.now (bounds form) }
+    requires { AreFieldsBelow f.now (field_bounds form) }
     ensures { OnOk result
         (string_bytes text.new
         ≡ string_bytes text.old ++ operand_text form f.now (Memory plus offset)) }
@@ -201,7 +201,7 @@ fn append_other_operands(
     f: &Fields,
     wants: &[Want],
 ) -> Result<(), NoMemory>
-    requires { AreFieldsBelow f.now (bounds form) }
+    requires { AreFieldsBelow f.now (field_bounds form) }
     ensures { OnOk result
         (string_bytes text.new
         ≡ string_bytes text.old
@@ -215,7 +215,7 @@ fn append_other_operands(
 
 // Appends a comma and the text of a further operand to a listing.
 fn append_next(text: &mut String, form: Form, f: &Fields, want: Want) -> Result<(), NoMemory>
-    requires { AreFieldsBelow f.now (bounds form) }
+    requires { AreFieldsBelow f.now (field_bounds form) }
     ensures { OnOk result
         (string_bytes text.new
         ≡ string_bytes text.old ++ (codes ", " ++ operand_text form f.now want)) }

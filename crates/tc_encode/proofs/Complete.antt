@@ -4,13 +4,13 @@ use Rattle.std.proofs.lemmas.Bool.{eqb-true, and_from, and_parts}
 use Rattle.tc_isa.specs.Rows.{RowData}
 use Rattle.tc_isa.specs.declared.fields.Fields.{Fields}
 use Rattle.tc_isa.specs.declared.fields.Uses.{Uses}
-use Rattle.tc_isa.specs.Forms.{fields_of}
-use Rattle.tc_encode.specs.WordSearch.{mix_low_bytes, word_part_span}
-use Rattle.tc_isa.specs.ValidRowFields.{FieldsFitRow, IsRow, uses_of, are_unused_fields_zero, are_registers_apart, least_fields}
-use Rattle.tc_isa.specs.Spelling.{word_of}
+use Rattle.tc_isa.specs.Forms.{word_fields}
+use Rattle.tc_encode.specs.WordSearch.{with_low_bytes, power_of_256}
+use Rattle.tc_isa.specs.ValidRowFields.{FieldsFitRow, IsRow, uses_of, are_unused_fields_zero, are_registers_allowed, least_fields}
+use Rattle.tc_isa.specs.Spelling.{row_word}
 use Rattle.tc_encode.proofs.Mixed.{Mixed, mixed1, mixed2, mixed3}
 
-mixed : (r : RowData) (n : ℕ) (f : Fields) → IsRow r → FieldsFitRow r f → 1 ≤ n → n ≤ 3 → Mixed r.form r.op1 r.op2 f (least_fields r) (mix_low_bytes n (word_of r f) (word_of r (least_fields r)))
+mixed : (r : RowData) (n : ℕ) (f : Fields) → IsRow r → FieldsFitRow r f → 1 ≤ n → n ≤ 3 → Mixed r.form r.op1 r.op2 f (least_fields r) (with_low_bytes n (row_word r f) (row_word r (least_fields r)))
 mixed r zero f row fits low high = absurd (omega arith)
 mixed r (suc zero) f row fits low high = mixed1 r.form r.op1 r.op2 f (least_fields r) row.first row.second fits.below row.has_least.below
 mixed r (suc (suc zero)) f row fits low high = mixed2 r.form r.op1 r.op2 f (least_fields r) row.first row.second fits.below row.has_least.below
@@ -27,19 +27,19 @@ zero_of u f g x p q c s1 s2 n k =
     and_from _ _ (and_from _ _ (and_from _ _ (and_from _ _
     (one_zero u.c f.c g.c x.c p4.0 q4.0 c) (one_zero u.s1 f.s1 g.s1 x.s1 p4.1 q4.1 s1)) (one_zero u.s2 f.s2 g.s2 x.s2 p3.1 q3.1 s2)) (one_zero u.n f.n g.n x.n p2.1 q2.1 n)) (one_zero u.k f.k g.k x.k p1.1 q1.1 k)
 
-apart_as : (r : RowData) (f x : Fields) → x.s1 ≡ f.s1 → x.s2 ≡ f.s2 → are_registers_apart r f ≡ true → are_registers_apart r x ≡ true
+apart_as : (r : RowData) (f x : Fields) → x.s1 ≡ f.s1 → x.s2 ≡ f.s2 → are_registers_allowed r f ≡ true → are_registers_allowed r x ≡ true
 apart_as r f x p q is = rw (p, q) is
 
-apart_of : (r : RowData) (f g x : Fields) → ((x.s1 ≡ g.s1) × (x.s2 ≡ g.s2)) ⊎ ((x.s1 ≡ f.s1) × (x.s2 ≡ f.s2)) → are_registers_apart r f ≡ true → are_registers_apart r g ≡ true → are_registers_apart r x ≡ true
+apart_of : (r : RowData) (f g x : Fields) → ((x.s1 ≡ g.s1) × (x.s2 ≡ g.s2)) ⊎ ((x.s1 ≡ f.s1) × (x.s2 ≡ f.s2)) → are_registers_allowed r f ≡ true → are_registers_allowed r g ≡ true → are_registers_allowed r x ≡ true
 apart_of r f g x (inl e) p q = apart_as r g x e.0 e.1 q
 apart_of r f g x (inr e) p q = apart_as r f x e.0 e.1 p
 
 -- the beginning of a spelling, completed by the least fields, is a spelling
-pub completed : (r : RowData) (n : ℕ) (f : Fields) → IsRow r → FieldsFitRow r f → 1 ≤ n → n ≤ 3 → (x : Fields) × FieldsFitRow r x × (word_of r x ≡ mix_low_bytes n (word_of r f) (word_of r (least_fields r)))
+pub completed : (r : RowData) (n : ℕ) (f : Fields) → IsRow r → FieldsFitRow r f → 1 ≤ n → n ≤ 3 → (x : Fields) × FieldsFitRow r x × (row_word r x ≡ with_low_bytes n (row_word r f) (row_word r (least_fields r)))
 completed r n f row fits low high =
     let m = mixed r n f row fits low high in
-    let x = fields_of r.form (mix_low_bytes n (word_of r f) (word_of r (least_fields r))) in
+    let x = word_fields r.form (with_low_bytes n (row_word r f) (row_word r (least_fields r))) in
     (x, record { below = m.below; zero = zero_of (uses_of r) f (least_fields r) x fits.zero row.has_least.zero m.c m.s1 m.s2 m.n m.k; apart = apart_of r f (least_fields r) x m.registers fits.apart row.has_least.apart }, m.is)
 
-pub same_mix : (n a b part rest s : ℕ) → a % word_part_span n ≡ part → rest ≡ b → s ≡ word_part_span n → mix_low_bytes n a b ≡ part + rest / s * s
+pub same_mix : (n a b part rest s : ℕ) → a % power_of_256 n ≡ part → rest ≡ b → s ≡ power_of_256 n → with_low_bytes n a b ≡ part + rest / s * s
 same_mix n a b part rest s low same is = rw (same, is, low) refl

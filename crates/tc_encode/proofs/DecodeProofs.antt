@@ -4,14 +4,14 @@ use Rattle.std.specs.Prelude.{slice_get, if◌then◌else◌, IfOk}
 use Rattle.std.specs.List.{list_any}
 use Rattle.std.proofs.lemmas.Bool.{cases_Bool, cond-true, cond-false, both_ways, or_cases, or_left, or_right, false_from_ne_true}
 use Rattle.std.proofs.lemmas.List.{take_all, take-append-drop, append-nil, length-take-le}
-use Rattle.tc_isa.specs.Rows.{RowData, listed, is_long}
-use Rattle.tc_isa.specs.Insts.{InstData, fields_in}
+use Rattle.tc_isa.specs.Rows.{RowData, table_rows, is_32_bit_row}
+use Rattle.tc_isa.specs.Insts.{InstData, inst_fields}
 use Rattle.tc_isa.specs.ValidRowFields.{least_fields}
-use Rattle.tc_isa.specs.Spelling.{word_of, spelling, Spells}
-use Rattle.tc_encode.specs.Decoding.{BeginsWith, IsInstPrefix, decoded_row_length, is_prefix_of_row, fields_at, instruction_at_row, first_row_match, decode_answer, decoded_of}
+use Rattle.tc_isa.specs.Spelling.{row_word, spelling, Spells}
+use Rattle.tc_encode.specs.Decoding.{BeginsWith, IsInstPrefix, decoded_row_length, is_prefix_of_row, leading_fields, instruction_at_row, first_row_match, decode_result, decoded_of}
 use Rattle.tc_encode.specs.declared.errors.DecodeErr.{DecodeErr}
 use Rattle.tc_encode.specs.declared.errors.DecodeErr.TheVariants.{Short, NotListed}
-use Rattle.tc_encode.specs.DecodeLaws.{MoreChangesNothing, LengthsAreRight, DecodedSpells, DecodedBegins, SpelledDecodes, ShortIsPrefix, NotListedIsRest, DecodeLaws, NoneSpellsTwo, NoneIsPrefix, SpellingLaws}
+use Rattle.tc_encode.specs.DecodeLaws.{MoreBytesChangeNothing, LengthIsTwoOrFour, DecodedIsSpelled, DecodedIffBytesBegin, SpellingIsDecoded, ShortIsPrefix, NotListedIsNeither, DecodeLaws, BytesSpellAtMostOne, NoSpellingIsPrefix, SpellingLaws}
 use Rattle.tc_encode.proofs.Bytes.{word-lt}
 use Rattle.tc_isa.proofs.TableFacts.{row_at}
 use Rattle.tc_encode.proofs.Spelled.{begins_here, fields_here, fits_there, stands_there, size_spelling}
@@ -23,68 +23,68 @@ ok_err : {A E : Type 0} (x : A) (e : E) → Ok x ≡ Err e → ⊥
 ok_err x e is = cc
 
 -- what an answer says of the row that was found
-ok_answer : (xs : List ℕ) (o : Option (InstData × ℕ)) (p : InstData × ℕ) → decode_answer xs o ≡ Ok p → o ≡ Some p
+ok_answer : (xs : List ℕ) (o : Option (InstData × ℕ)) (p : InstData × ℕ) → decode_result xs o ≡ Ok p → o ≡ Some p
 ok_answer xs (Some q) p e = cc
-ok_answer xs None p e = elim (cases_Bool (list_any (is_prefix_of_row xs) listed)) [
-  | inl t ↦ let x : Err Short ≡ Ok p = sym (cond-true (list_any (is_prefix_of_row xs) listed) (Err Short) (Err NotListed) t) ∙ e in cc
-  | inr t ↦ let x : Err NotListed ≡ Ok p = sym (cond-false (list_any (is_prefix_of_row xs) listed) (Err Short) (Err NotListed) t) ∙ e in cc
+ok_answer xs None p e = elim (cases_Bool (list_any (is_prefix_of_row xs) table_rows)) [
+  | inl t ↦ let x : Err Short ≡ Ok p = sym (cond-true (list_any (is_prefix_of_row xs) table_rows) (Err Short) (Err NotListed) t) ∙ e in cc
+  | inr t ↦ let x : Err NotListed ≡ Ok p = sym (cond-false (list_any (is_prefix_of_row xs) table_rows) (Err Short) (Err NotListed) t) ∙ e in cc
 ]
 
-err_answer : (xs : List ℕ) (o : Option (InstData × ℕ)) (e : DecodeErr) → decode_answer xs o ≡ Err e → o ≡ None
+err_answer : (xs : List ℕ) (o : Option (InstData × ℕ)) (e : DecodeErr) → decode_result xs o ≡ Err e → o ≡ None
 err_answer xs (Some q) e is = cc
 err_answer xs None e is = refl
 
-short_answer : (xs : List ℕ) → decode_answer xs None ≡ Err Short → list_any (is_prefix_of_row xs) listed ≡ true
-short_answer xs e = elim (cases_Bool (list_any (is_prefix_of_row xs) listed)) [
+short_answer : (xs : List ℕ) → decode_result xs None ≡ Err Short → list_any (is_prefix_of_row xs) table_rows ≡ true
+short_answer xs e = elim (cases_Bool (list_any (is_prefix_of_row xs) table_rows)) [
   | inl t ↦ t
-  | inr t ↦ let x : Err NotListed ≡ Err Short = sym (cond-false {A = Result (InstData × ℕ) DecodeErr} (list_any (is_prefix_of_row xs) listed) (Err Short) (Err NotListed) t) ∙ e in cc
+  | inr t ↦ let x : Err NotListed ≡ Err Short = sym (cond-false {A = Result (InstData × ℕ) DecodeErr} (list_any (is_prefix_of_row xs) table_rows) (Err Short) (Err NotListed) t) ∙ e in cc
 ]
 
-not_answer : (xs : List ℕ) → decode_answer xs None ≡ Err NotListed → list_any (is_prefix_of_row xs) listed ≡ false
-not_answer xs e = elim (cases_Bool (list_any (is_prefix_of_row xs) listed)) [
+not_answer : (xs : List ℕ) → decode_result xs None ≡ Err NotListed → list_any (is_prefix_of_row xs) table_rows ≡ false
+not_answer xs e = elim (cases_Bool (list_any (is_prefix_of_row xs) table_rows)) [
   | inr t ↦ t
-  | inl t ↦ let x : Err Short ≡ Err NotListed = sym (cond-true {A = Result (InstData × ℕ) DecodeErr} (list_any (is_prefix_of_row xs) listed) (Err Short) (Err NotListed) t) ∙ e in cc
+  | inl t ↦ let x : Err Short ≡ Err NotListed = sym (cond-true {A = Result (InstData × ℕ) DecodeErr} (list_any (is_prefix_of_row xs) table_rows) (Err Short) (Err NotListed) t) ∙ e in cc
 ]
 
-pub ok_found : (xs : List ℕ) (p : InstData × ℕ) → decoded_of xs ≡ Ok p → first_row_match xs 0 listed ≡ Some p
+pub ok_found : (xs : List ℕ) (p : InstData × ℕ) → decoded_of xs ≡ Ok p → first_row_match xs 0 table_rows ≡ Some p
 unfolding decoded_of
-ok_found xs p e = ok_answer xs (first_row_match xs 0 listed) p e
+ok_found xs p e = ok_answer xs (first_row_match xs 0 table_rows) p e
 
-pub found_ok : (xs : List ℕ) (p : InstData × ℕ) → first_row_match xs 0 listed ≡ Some p → decoded_of xs ≡ Ok p
+pub found_ok : (xs : List ℕ) (p : InstData × ℕ) → first_row_match xs 0 table_rows ≡ Some p → decoded_of xs ≡ Ok p
 unfolding decoded_of
-found_ok xs p e = ap (decode_answer xs) e
+found_ok xs p e = ap (decode_result xs) e
 
-err_none : (xs : List ℕ) (e : DecodeErr) → decoded_of xs ≡ Err e → first_row_match xs 0 listed ≡ None
+err_none : (xs : List ℕ) (e : DecodeErr) → decoded_of xs ≡ Err e → first_row_match xs 0 table_rows ≡ None
 unfolding decoded_of
-err_none xs e is = err_answer xs (first_row_match xs 0 listed) e is
+err_none xs e is = err_answer xs (first_row_match xs 0 table_rows) e is
 
-answer_none : (xs : List ℕ) → first_row_match xs 0 listed ≡ None → decoded_of xs ≡ decode_answer xs None
+answer_none : (xs : List ℕ) → first_row_match xs 0 table_rows ≡ None → decoded_of xs ≡ decode_result xs None
 unfolding decoded_of
-answer_none xs e = ap (decode_answer xs) e
+answer_none xs e = ap (decode_result xs) e
 
 -- what was found spells the instruction
-gives_spells : (xs : List ℕ) (i : InstData) (n : ℕ) → Gives xs 0 listed (i, n) → Spells (take n xs) i
+gives_spells : (xs : List ℕ) (i : InstData) (n : ℕ) → Gives xs 0 table_rows (i, n) → Spells (take n xs) i
 gives_spells xs i n g =
-    let inst : i ≡ instruction_at_row g.at (fields_at xs g.row) = ap (λ p. p.0) g.is ∙ ap (λ q. instruction_at_row q (fields_at xs g.row)) (zero-add g.at) in
+    let inst : i ≡ instruction_at_row g.at (leading_fields xs g.row) = ap (λ p. p.0) g.is ∙ ap (λ q. instruction_at_row q (leading_fields xs g.row)) (zero-add g.at) in
     let size : n ≡ decoded_row_length g.row = ap (λ p. p.1) g.is in
-    subst (λ j. Spells (take n xs) j) (sym inst) (subst (λ m. Spells (take m xs) (instruction_at_row g.at (fields_at xs g.row))) (sym size) (record {
+    subst (λ j. Spells (take n xs) j) (sym inst) (subst (λ m. Spells (take m xs) (instruction_at_row g.at (leading_fields xs g.row))) (sym size) (record {
       inst = record { row = g.row; at = g.listed; fits = fits_there xs g.row g.begins };
       is = stands_there xs g.row g.begins;
     }))
 
-pub decoded_spells : DecodedSpells
-decoded_spells xs i n e = gives_spells xs i n (found_gives xs 0 listed (i, n) (ok_found xs (i, n) e))
+pub decoded_spells : DecodedIsSpelled
+decoded_spells xs i n e = gives_spells xs i n (found_gives xs 0 table_rows (i, n) (ok_found xs (i, n) e))
 
 size_two : (long : Bool) (n : ℕ) → n ≡ (if long then 4 else 2) → (n ≡ 2) ⊎ (n ≡ 4)
 size_two true n e = inr e
 size_two false n e = inl e
 
-pub lengths_are_right : LengthsAreRight
+pub lengths_are_right : LengthIsTwoOrFour
 lengths_are_right xs i n e =
-    let g = found_gives xs 0 listed (i, n) (ok_found xs (i, n) e) in
+    let g = found_gives xs 0 table_rows (i, n) (ok_found xs (i, n) e) in
     let size : n ≡ decoded_row_length g.row = ap (λ p. p.1) g.is in
-    let whole : min (decoded_row_length g.row) (length xs) ≡ decoded_row_length g.row = sym (length-take (decoded_row_length g.row) xs) ∙ ap length (stands_there xs g.row g.begins) ∙ size_spelling g.row (fields_at xs g.row) in
-    let two = size_two (is_long g.row) n size in
+    let whole : min (decoded_row_length g.row) (length xs) ≡ decoded_row_length g.row = sym (length-take (decoded_row_length g.row) xs) ∙ ap length (stands_there xs g.row g.begins) ∙ size_spelling g.row (leading_fields xs g.row) in
+    let two = size_two (is_32_bit_row g.row) n size in
     (omega (arith, whole, size), four n two, two)
   where
     four : (n : ℕ) → (n ≡ 2) ⊎ (n ≡ 4) → n ≤ 4
@@ -92,33 +92,33 @@ lengths_are_right xs i n e =
     four n (inr e) = omega arith
 
 -- two rows at one place are one
-same_row : (p q : ℕ) (r s : RowData) → slice_get listed p ≡ Some r → slice_get listed q ≡ Some s → p ≡ q → r ≡ s
-same_row p q r s at to e = let x : Some r ≡ Some s = sym at ∙ ap (slice_get listed) e ∙ to in cc
+same_row : (p q : ℕ) (r s : RowData) → slice_get table_rows p ≡ Some r → slice_get table_rows q ≡ Some s → p ≡ q → r ≡ s
+same_row p q r s at to e = let x : Some r ≡ Some s = sym at ∙ ap (slice_get table_rows) e ∙ to in cc
 
-pub spelled_decodes : SpelledDecodes
+pub spelled_decodes : SpellingIsDecoded
 spelled_decodes bytes rest i spells =
-    let r = spells.inst.row in let f = fields_in i in
+    let r = spells.inst.row in let f = inst_fields i in
     let row = row_at i.row r spells.inst.at in
     let xs = spelling r f ++ rest in
-    let some = some_found xs 0 listed i.row r spells.inst.at (begins_here r f rest row spells.inst.fits) in
-    let g = found_gives xs 0 listed some.0 some.1 in
+    let some = some_found xs 0 table_rows i.row r spells.inst.at (begins_here r f rest row spells.inst.fits) in
+    let g = found_gives xs 0 table_rows some.0 some.1 in
     let sow = row_at g.at g.row g.listed in
-    let h = fields_at xs g.row in
+    let h = leading_fields xs g.row in
     let gits = fits_there xs g.row g.begins in
     let split : xs ≡ spelling g.row h ++ drop (decoded_row_length g.row) xs = sym (take-append-drop (decoded_row_length g.row) xs) ∙ ap (λ front. front ++ drop (decoded_row_length g.row) xs) (stands_there xs g.row g.begins) in
-    let word : word_of r f ≡ word_of g.row h = one_word r g.row f h rest (drop (decoded_row_length g.row) xs) row sow spells.inst.fits gits (word-lt r.form r.op1 r.op2 f row.first row.second spells.inst.fits.below) (word-lt g.row.form g.row.op1 g.row.op2 h sow.first sow.second gits.below) split in
+    let word : row_word r f ≡ row_word g.row h = one_word r g.row f h rest (drop (decoded_row_length g.row) xs) row sow spells.inst.fits gits (word-lt r.form r.op1 r.op2 f row.first row.second spells.inst.fits.below) (word-lt g.row.form g.row.op1 g.row.op2 h sow.first sow.second gits.below) split in
     let place : i.row ≡ g.at = one_row i.row g.at r g.row f h spells.inst.at g.listed spells.inst.fits gits word in
     let rows : r ≡ g.row = same_row i.row g.at r g.row spells.inst.at g.listed place in
     let is : some.0 ≡ (i, decoded_row_length r) =
     g.is
     ∙ ap (λ p. (instruction_at_row p h, decoded_row_length g.row)) (zero-add g.at ∙ sym place)
-    ∙ ap (λ s. (instruction_at_row i.row (fields_at xs s), decoded_row_length s)) (sym rows)
+    ∙ ap (λ s. (instruction_at_row i.row (leading_fields xs s), decoded_row_length s)) (sym rows)
     ∙ ap (λ e. (instruction_at_row i.row e, decoded_row_length r)) (fields_here r f rest row spells.inst.fits) in
     let size : decoded_row_length r ≡ length bytes = sym (size_spelling r f) ∙ sym (ap length spells.is) in
     let done : decoded_of xs ≡ Ok (i, length bytes) = found_ok xs some.0 some.1 ∙ ap (λ p. Ok p) (is ∙ ap (λ n. (i, n)) size) in
     subst (λ bs. decoded_of (bs ++ rest) ≡ Ok (i, length bytes)) (sym spells.is) done
 
-pub more_changes_nothing : MoreChangesNothing
+pub more_changes_nothing : MoreBytesChangeNothing
 more_changes_nothing xs ys i e =
     spelled_decodes xs ys i (subst (λ bs. Spells bs i) (take_all (length xs) xs (omega arith)) (decoded_spells xs i (length xs) e))
 
@@ -129,10 +129,10 @@ begun_decodes xs i n b = subst (λ bs. decoded_of bs ≡ Ok (i, length (take n x
 err_begins_none : (xs : List ℕ) (e : DecodeErr) → decoded_of xs ≡ Err e → (i : InstData) (n : ℕ) → BeginsWith xs i n → ⊥
 err_begins_none xs e is i n b = ok_err (i, length (take n xs)) e (sym (begun_decodes xs i n b) ∙ is)
 
-none_from : (xs : List ℕ) → ((i : InstData) (n : ℕ) → BeginsWith xs i n → ⊥) → first_row_match xs 0 listed ≡ None
-none_from xs none = cases (first_row_match xs 0 listed) refl
+none_from : (xs : List ℕ) → ((i : InstData) (n : ℕ) → BeginsWith xs i n → ⊥) → first_row_match xs 0 table_rows ≡ None
+none_from xs none = cases (first_row_match xs 0 table_rows) refl
   where
-    cases : (o : Option (InstData × ℕ)) → first_row_match xs 0 listed ≡ o → first_row_match xs 0 listed ≡ None
+    cases : (o : Option (InstData × ℕ)) → first_row_match xs 0 table_rows ≡ o → first_row_match xs 0 table_rows ≡ None
     cases None e = e
     cases (Some p) e = absurd (none p.0 p.1 (record { within = (lengths_are_right xs p.0 p.1 (found_ok xs p e)).0; spells = decoded_spells xs p.0 p.1 (found_ok xs p e) }))
 
@@ -140,7 +140,7 @@ none_from xs none = cases (first_row_match xs 0 listed) refl
 record Ahead (xs : List ℕ) (rows : List RowData) : Type 0 where
   at : ℕ
   row : RowData
-  listed : slice_get rows at ≡ Some row
+  table_rows : slice_get rows at ≡ Some row
   goes : is_prefix_of_row xs row ≡ true
 
 ahead_from : (xs : List ℕ) (rows : List RowData) → list_any (is_prefix_of_row xs) rows ≡ true → Ahead xs rows
@@ -155,39 +155,39 @@ any_at t [] q x at e = cc
 any_at t (y ∷ ys) zero x at e = let same : x ≡ y = cc in or_left _ _ (subst (λ z. t z ≡ true) same e)
 any_at t (y ∷ ys) (suc q) x at e = or_right _ _ (any_at t ys q x at e)
 
-front_any : (xs : List ℕ) → IsInstPrefix xs → list_any (is_prefix_of_row xs) listed ≡ true
+front_any : (xs : List ℕ) → IsInstPrefix xs → list_any (is_prefix_of_row xs) table_rows ≡ true
 front_any xs front =
     let s = front.spells in
-    any_at (is_prefix_of_row xs) listed front.inst.row s.inst.row s.inst.at (front_goes_on xs front.rest s.inst.row (fields_in front.inst) (row_at front.inst.row s.inst.row s.inst.at) s.inst.fits front.more s.is)
+    any_at (is_prefix_of_row xs) table_rows front.inst.row s.inst.row s.inst.at (front_goes_on xs front.rest s.inst.row (inst_fields front.inst) (row_at front.inst.row s.inst.row s.inst.at) s.inst.fits front.more s.is)
 
-ahead_front : (xs : List ℕ) → Ahead xs listed → IsInstPrefix xs
+ahead_front : (xs : List ℕ) → Ahead xs table_rows → IsInstPrefix xs
 ahead_front xs a =
     let rest = drop (length xs) (spelling a.row (least_fields a.row)) in
     let short = goes_on_short xs a.row a.goes in
     let begins = goes_on_begins xs a.row a.goes in
     let left : length rest ≡ decoded_row_length a.row - length xs = length-drop (length xs) (spelling a.row (least_fields a.row)) ∙ ap (λ n. n - length xs) (size_spelling a.row (least_fields a.row)) in
     let size : length (xs ++ rest) ≤ decoded_row_length a.row = omega (arith, length-append xs rest, left, short) in
-    let is : xs ++ rest ≡ spelling a.row (fields_at (xs ++ rest) a.row) = sym (take_all (decoded_row_length a.row) (xs ++ rest) size) ∙ stands_there (xs ++ rest) a.row begins in
+    let is : xs ++ rest ≡ spelling a.row (leading_fields (xs ++ rest) a.row) = sym (take_all (decoded_row_length a.row) (xs ++ rest) size) ∙ stands_there (xs ++ rest) a.row begins in
     record {
       rest = rest;
       more = λ e. let gone : length rest ≡ 0 = ap length e in omega (arith, gone, left, short);
-      inst = instruction_at_row a.at (fields_at (xs ++ rest) a.row);
+      inst = instruction_at_row a.at (leading_fields (xs ++ rest) a.row);
       spells = record { inst = record { row = a.row; at = a.listed; fits = fits_there (xs ++ rest) a.row begins }; is = is };
     }
 
 pub short_is_front : ShortIsPrefix
 short_is_front xs = (
-  λ e. (ahead_front xs (ahead_from xs listed (short_answer xs (sym (answer_none xs (err_none xs Short e)) ∙ e))), err_begins_none xs Short e),
-  λ p. answer_none xs (none_from xs p.1) ∙ cond-true {A = Result (InstData × ℕ) DecodeErr} (list_any (is_prefix_of_row xs) listed) (Err Short) (Err NotListed) (front_any xs p.0),
+  λ e. (ahead_front xs (ahead_from xs table_rows (short_answer xs (sym (answer_none xs (err_none xs Short e)) ∙ e))), err_begins_none xs Short e),
+  λ p. answer_none xs (none_from xs p.1) ∙ cond-true {A = Result (InstData × ℕ) DecodeErr} (list_any (is_prefix_of_row xs) table_rows) (Err Short) (Err NotListed) (front_any xs p.0),
 )
 
-pub not_listed_is_rest : NotListedIsRest
+pub not_listed_is_rest : NotListedIsNeither
 not_listed_is_rest xs = (
   λ e. (λ front. both_ways _ (not_answer xs (sym (answer_none xs (err_none xs NotListed e)) ∙ e)) (front_any xs front), err_begins_none xs NotListed e),
-  λ p. answer_none xs (none_from xs p.1) ∙ cond-false {A = Result (InstData × ℕ) DecodeErr} (list_any (is_prefix_of_row xs) listed) (Err Short) (Err NotListed) (false_from_ne_true _ (λ t. p.0 (ahead_front xs (ahead_from xs listed t)))),
+  λ p. answer_none xs (none_from xs p.1) ∙ cond-false {A = Result (InstData × ℕ) DecodeErr} (list_any (is_prefix_of_row xs) table_rows) (Err Short) (Err NotListed) (false_from_ne_true _ (λ t. p.0 (ahead_front xs (ahead_from xs table_rows t)))),
 )
 
-pub decoded_begins : DecodedBegins
+pub decoded_begins : DecodedIffBytesBegin
 decoded_begins xs i n = (
   λ e. record { within = (lengths_are_right xs i n e).0; spells = decoded_spells xs i n e },
   λ b. begun_decodes xs i n b ∙ ap (λ m. Ok (i, m)) (length-take-le n xs b.within),
@@ -214,14 +214,14 @@ one_answer r x y p q = ok_same x y (sym p ∙ q)
 whole_decodes : (bytes : List ℕ) (i : InstData) → Spells bytes i → decoded_of bytes ≡ Ok (i, length bytes)
 whole_decodes bytes i spells = subst (λ bs. decoded_of bs ≡ Ok (i, length bytes)) (append-nil bytes) (spelled_decodes bytes [] i spells)
 
-pub none_spells_two : NoneSpellsTwo
+pub none_spells_two : BytesSpellAtMostOne
 none_spells_two bytes i j p q = ap (λ a. a.0) (one_answer (decoded_of bytes) (i, length bytes) (j, length bytes) (whole_decodes bytes i p) (whole_decodes bytes j q))
 
 nothing : (more : List ℕ) → length more ≡ 0 → more ≡ []
 nothing [] e = refl
 nothing (b ∷ bs) e = absurd (omega arith)
 
-pub none_is_prefix : NoneIsPrefix
+pub none_is_prefix : NoSpellingIsPrefix
 none_is_prefix bytes more i j p q =
     let same : length bytes ≡ length (bytes ++ more) = ap (λ a. a.1) (one_answer (decoded_of (bytes ++ more)) (i, length bytes) (j, length (bytes ++ more)) (spelled_decodes bytes more i p) (whole_decodes (bytes ++ more) j q)) in
     nothing more (omega (arith, same, length-append bytes more))

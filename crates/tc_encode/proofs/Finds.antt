@@ -10,42 +10,42 @@ use Rattle.tcd_base.proofs.OptionLaws.{some_same}
 use Rattle.tc_isa.specs.declared.fields.Uses.{Uses}
 use Rattle.tc_isa.specs.declared.fields.Fields.{Fields}
 use Rattle.tc_isa.specs.declared.table.Form.{Form}
-use Rattle.tc_isa.specs.Rows.{RowData, listed}
-use Rattle.tc_isa.specs.Forms.{bounds, fields_of, second_code_by_form, form_index, is_long_form}
+use Rattle.tc_isa.specs.Rows.{RowData, table_rows}
+use Rattle.tc_isa.specs.Forms.{field_bounds, word_fields, second_code_by_form, form_index, is_32_bit_form}
 use Rattle.tc_isa.specs.InBounds.{AreFieldsBelow}
-use Rattle.tc_isa.specs.ValidRowFields.{FieldsFitRow, uses_of, are_unused_fields_zero, are_registers_apart}
-use Rattle.tc_isa.specs.Spelling.{word_of}
-use Rattle.tc_isa.specs.Insts.{InstData, IsInst, fields_in}
+use Rattle.tc_isa.specs.ValidRowFields.{FieldsFitRow, uses_of, are_unused_fields_zero, are_registers_allowed}
+use Rattle.tc_isa.specs.Spelling.{row_word}
+use Rattle.tc_isa.specs.Insts.{InstData, IsInst, inst_fields}
 use Rattle.tc_isa.proofs.TableFacts.{row_at}
 use Rattle.tc_encode.specs.Decoding.{instruction_at_row}
-use Rattle.tc_encode.specs.WordSearch.{IsWordOf, is_in_index_range, has_same_form, are_in_index_ranges, is_at_index_place, is_index_place, are_at_index_places, are_unused_bits_zero, is_plain_row, has_all_form_fields}
+use Rattle.tc_encode.specs.WordSearch.{IsWordOf, is_in_index_range, has_same_form, are_in_index_ranges, is_at_index_place, is_index_entry, are_at_index_places, are_unused_bits_zero, is_full_row, has_all_form_fields}
 use Rattle.tc_encode.proofs.Gaps.{fields_below, word_back, full_word}
 use Rattle.tc_encode.proofs.Inverse.{first-word, second-word}
 use Rattle.tc_encode.proofs.Only.{only}
 use Rattle.tc_encode.proofs.Apart.{same_form}
 
 -- the row of an instruction is the one at its place
-pub row_is : (place : ℕ) (r : RowData) (i : InstData) (is : IsInst i) → slice_get listed place ≡ Some r → i.row ≡ place → is.row ≡ r
-row_is place r i is at same = some_same is.row r (sym is.at ∙ ap (slice_get listed) same ∙ at)
+pub row_is : (place : ℕ) (r : RowData) (i : InstData) (is : IsInst i) → slice_get table_rows place ≡ Some r → i.row ≡ place → is.row ≡ r
+row_is place r i is at same = some_same is.row r (sym is.at ∙ ap (slice_get table_rows) same ∙ at)
 
 -- the fields of the word are those of the instruction that has it
-pub makes_listed : (place w : ℕ) (r : RowData) (f : Fields) → slice_get listed place ≡ Some r → f ≡ fields_of r.form w → (i : InstData) → IsWordOf w i → i.row ≡ place → IsInst (instruction_at_row place f) × (word_of r f ≡ w)
+pub makes_listed : (place w : ℕ) (r : RowData) (f : Fields) → slice_get table_rows place ≡ Some r → f ≡ word_fields r.form w → (i : InstData) → IsWordOf w i → i.row ≡ place → IsInst (instruction_at_row place f) × (row_word r f ≡ w)
 makes_listed place w r f at is i m same =
     let row = row_is place r i m.inst at same in
-    let fits : FieldsFitRow r (fields_in i) = subst (λ (s : RowData). FieldsFitRow s (fields_in i)) row m.inst.fits in
-    let word : word_of r (fields_in i) ≡ w = subst (λ (s : RowData). word_of s (fields_in i) ≡ w) row m.is in
-    let fields : fields_in i ≡ f = sym (is ∙ only r (fields_in i) w (row_at place r at) fits word) in
-    (record { row = r; at = at; fits = subst (λ (g : Fields). FieldsFitRow r g) fields fits }, subst (λ (g : Fields). word_of r g ≡ w) fields word)
+    let fits : FieldsFitRow r (inst_fields i) = subst (λ (s : RowData). FieldsFitRow s (inst_fields i)) row m.inst.fits in
+    let word : row_word r (inst_fields i) ≡ w = subst (λ (s : RowData). row_word s (inst_fields i) ≡ w) row m.is in
+    let fields : inst_fields i ≡ f = sym (is ∙ only r (inst_fields i) w (row_at place r at) fits word) in
+    (record { row = r; at = at; fits = subst (λ (g : Fields). FieldsFitRow r g) fields fits }, subst (λ (g : Fields). row_word r g ≡ w) fields word)
 
-pub makes_by : (place w : ℕ) (r : RowData) (f : Fields) (i : InstData) → slice_get listed place ≡ Some r → i ≡ instruction_at_row place f → IsInst i → word_of r f ≡ w → IsWordOf w i
+pub makes_by : (place w : ℕ) (r : RowData) (f : Fields) (i : InstData) → slice_get table_rows place ≡ Some r → i ≡ instruction_at_row place f → IsInst i → row_word r f ≡ w → IsWordOf w i
 makes_by place w r f i at is inst word =
     let row = row_is place r i inst at (ap (λ (j : InstData). j.row) is) in
-    record { inst = inst; is = ap (λ (s : RowData). word_of s (fields_in i)) row ∙ ap (λ (j : InstData). word_of r (fields_in j)) is ∙ word }
+    record { inst = inst; is = ap (λ (s : RowData). row_word s (inst_fields i)) row ∙ ap (λ (j : InstData). row_word r (inst_fields j)) is ∙ word }
 
 pub first_is : (w : ℕ) (i : InstData) (m : IsWordOf w i) → w % 256 ≡ m.inst.row.op1
 first_is w i m =
     let s = m.inst.row in let row = row_at i.row s m.inst.at in
-    ap (λ x. x % 256) (sym m.is) ∙ first-word s.form s.op1 s.op2 (fields_in i) row.first row.second m.inst.fits.below
+    ap (λ x. x % 256) (sym m.is) ∙ first-word s.form s.op1 s.op2 (inst_fields i) row.first row.second m.inst.fits.below
 
 -- rows are between the start and the end of their first byte
 held : (starts ends : List ℕ) (place : ℕ) (rows : List RowData) (q : ℕ) (r : RowData) → are_in_index_ranges starts ends place rows ≡ true → slice_get rows q ≡ Some r → is_in_index_range (place + q) r (slice_get starts r.op1) (slice_get ends r.op1) ≡ true
@@ -62,7 +62,7 @@ held starts ends place (x ∷ xs) (suc q) r all at =
 pub record Between (place : ℕ) (r : RowData) (start end : ℕ) : Type 0 where
   pub from : start ≤ place
   pub to : place < end
-  pub form : has_same_form r (slice_get listed start) ≡ true
+  pub form : has_same_form r (slice_get table_rows start) ≡ true
 
 between_from : (place : ℕ) (r : RowData) (o p : Option ℕ) (start end : ℕ) → is_in_index_range place r o p ≡ true → o ≡ Some start → p ≡ Some end → Between place r start end
 between_from place r None p start end e is iz = cc
@@ -73,20 +73,20 @@ between_from place r (Some s) (Some t) start end e is iz =
     record {
       from = subst (λ z. z ≤ place) x (leb-true _ _ b.0);
       to = subst (λ z. place < z) y (ltb-true _ _ b.1);
-      form = subst (λ z. has_same_form r (slice_get listed z) ≡ true) x a.1;
+      form = subst (λ z. has_same_form r (slice_get table_rows z) ≡ true) x a.1;
     }
 
-pub stands_between : (starts ends : List ℕ) (w : ℕ) (i : InstData) (m : IsWordOf w i) → are_in_index_ranges starts ends 0 listed ≡ true → length starts ≡ 256 → length ends ≡ 256 → Between i.row m.inst.row (get_or starts (w % 256) 0) (get_or ends (w % 256) 0)
+pub stands_between : (starts ends : List ℕ) (w : ℕ) (i : InstData) (m : IsWordOf w i) → are_in_index_ranges starts ends 0 table_rows ≡ true → length starts ≡ 256 → length ends ≡ 256 → Between i.row m.inst.row (get_or starts (w % 256) 0) (get_or ends (w % 256) 0)
 stands_between starts ends w i m all ls le =
     let r = m.inst.row in
     let first = first_is w i m in
     let small : w % 256 < 256 = omega arith in
     between_from i.row r (slice_get starts r.op1) (slice_get ends r.op1) (get_or starts (w % 256) 0) (get_or ends (w % 256) 0)
-    (subst (λ p. is_in_index_range p r (slice_get starts r.op1) (slice_get ends r.op1) ≡ true) (zero-add i.row) (held starts ends 0 listed i.row r all m.inst.at))
+    (subst (λ p. is_in_index_range p r (slice_get starts r.op1) (slice_get ends r.op1) ≡ true) (zero-add i.row) (held starts ends 0 table_rows i.row r all m.inst.at))
     (ap (slice_get starts) (sym first) ∙ slice_get-get_or starts (w % 256) 0 (omega arith))
     (ap (slice_get ends) (sym first) ∙ slice_get-get_or ends (w % 256) 0 (omega arith))
 
-pub form_is : (place : ℕ) (r s : RowData) (start end : ℕ) → Between place r start end → slice_get listed start ≡ Some s → form_index r.form ≡ form_index s.form
+pub form_is : (place : ℕ) (r s : RowData) (start end : ℕ) → Between place r start end → slice_get table_rows start ≡ Some s → form_index r.form ≡ form_index s.form
 form_is place r s start end b at = sym (eqb-true (form_index s.form) (form_index r.form) (subst (λ o. has_same_form r o ≡ true) at b.form))
 
 -- a bound of each number of a list
@@ -104,30 +104,30 @@ pub record Stands (w : ℕ) (r : RowData) (f : Fields) : Type 0 where
   pub full : are_unused_bits_zero r.form w ≡ true
   pub fits : FieldsFitRow r f
 
-pub stands : (place w : ℕ) (r : RowData) → slice_get listed place ≡ Some r → (i : InstData) → IsWordOf w i → i.row ≡ place → Stands w r (fields_of r.form w)
+pub stands : (place w : ℕ) (r : RowData) → slice_get table_rows place ≡ Some r → (i : InstData) → IsWordOf w i → i.row ≡ place → Stands w r (word_fields r.form w)
 stands place w r at i m same =
     let row = row_is place r i m.inst at same in
     let own = row_at place r at in
-    let fits : FieldsFitRow r (fields_in i) = subst (λ (s : RowData). FieldsFitRow s (fields_in i)) row m.inst.fits in
-    let word : word_of r (fields_in i) ≡ w = subst (λ (s : RowData). word_of s (fields_in i) ≡ w) row m.is in
+    let fits : FieldsFitRow r (inst_fields i) = subst (λ (s : RowData). FieldsFitRow s (inst_fields i)) row m.inst.fits in
+    let word : row_word r (inst_fields i) ≡ w = subst (λ (s : RowData). row_word s (inst_fields i) ≡ w) row m.is in
     record {
-      first = sym (first-word r.form r.op1 r.op2 (fields_in i) own.first own.second fits.below) ∙ ap (λ x. x % 256) word;
-      second = sym (second-word r.form r.op1 r.op2 (fields_in i) own.first own.second fits.below) ∙ ap (second_code_by_form r.form) word;
-      full = ap (are_unused_bits_zero r.form) (sym word) ∙ full_word r.form r.op1 r.op2 (fields_in i) own.first own.second fits.below;
-      fits = subst (λ (g : Fields). FieldsFitRow r g) (sym (only r (fields_in i) w own fits word)) fits;
+      first = sym (first-word r.form r.op1 r.op2 (inst_fields i) own.first own.second fits.below) ∙ ap (λ x. x % 256) word;
+      second = sym (second-word r.form r.op1 r.op2 (inst_fields i) own.first own.second fits.below) ∙ ap (second_code_by_form r.form) word;
+      full = ap (are_unused_bits_zero r.form) (sym word) ∙ full_word r.form r.op1 r.op2 (inst_fields i) own.first own.second fits.below;
+      fits = subst (λ (g : Fields). FieldsFitRow r g) (sym (only r (inst_fields i) w own fits word)) fits;
     }
 
 even_of : (op1 w : ℕ) → (op1 % 2 == 1) ≡ false → op1 ≡ w % 256 → w % 2 ≡ 0
 even_of op1 w e is = let odd = eqb-false (op1 % 2) 1 e in elim (cases_eq (op1 % 2) 1) [ inl x ↦ absurd (odd x) | inr y ↦ omega (arith, y) ]
 
 -- a word with the row's codes and no gap is the spelling of its fields, if they fit
-pub makes_of : (place w : ℕ) (r : RowData) (f : Fields) → slice_get listed place ≡ Some r → f ≡ fields_of r.form w → w < 2 ^ 32 → (w % 2 ≡ 0 → w < 2 ^ 16) → r.op1 ≡ w % 256 → r.op2 ≡ second_code_by_form r.form w → are_unused_bits_zero r.form w ≡ true → are_unused_fields_zero (uses_of r) f ≡ true → are_registers_apart r f ≡ true → IsWordOf w (instruction_at_row place f)
+pub makes_of : (place w : ℕ) (r : RowData) (f : Fields) → slice_get table_rows place ≡ Some r → f ≡ word_fields r.form w → w < 2 ^ 32 → (w % 2 ≡ 0 → w < 2 ^ 16) → r.op1 ≡ w % 256 → r.op2 ≡ second_code_by_form r.form w → are_unused_bits_zero r.form w ≡ true → are_unused_fields_zero (uses_of r) f ≡ true → are_registers_allowed r f ≡ true → IsWordOf w (instruction_at_row place f)
 makes_of place w r f at is word short first second full rest apart =
     let row = row_at place r at in
-    let small : is_long_form r.form ≡ false → w < 2 ^ 16 = λ e. short (even_of r.op1 w (row.size ∙ e) first) in
+    let small : is_32_bit_form r.form ≡ false → w < 2 ^ 16 = λ e. short (even_of r.op1 w (row.size ∙ e) first) in
     record {
-      inst = record { row = r; at = at; fits = record { below = subst (λ (g : Fields). AreFieldsBelow g (bounds r.form)) (sym is) (fields_below r.form w word); zero = rest; apart = apart } };
-      is = ap (word_of r) is ∙ word_back r.form r.op1 r.op2 w word small first second full;
+      inst = record { row = r; at = at; fits = record { below = subst (λ (g : Fields). AreFieldsBelow g (field_bounds r.form)) (sym is) (fields_below r.form w word); zero = rest; apart = apart } };
+      is = ap (row_word r) is ∙ word_back r.form r.op1 r.op2 w word small first second full;
     }
 
 -- rows are after the base of their first byte
@@ -144,14 +144,14 @@ at_from : (places : List ℕ) (place : ℕ) (r : RowData) (o : Option ℕ) (base
 at_from places place r None base e is = cc
 at_from places place r (Some b) base e is = place_from (slice_get places (base + r.op2)) (subst (λ z. is_at_index_place places place r (Some z) ≡ true) (some_same b base is) e)
   where
-    place_from : (p : Option ℕ) → is_index_place place p ≡ true → p ≡ Some place
+    place_from : (p : Option ℕ) → is_index_entry place p ≡ true → p ≡ Some place
     place_from None e = cc
     place_from (Some p) e = ap (λ z. Some z) (eqb-true p place e)
 
-pub row_between : (starts ends : List ℕ) (first place : ℕ) (r : RowData) → are_in_index_ranges starts ends 0 listed ≡ true → length starts ≡ 256 → length ends ≡ 256 → first < 256 → slice_get listed place ≡ Some r → r.op1 ≡ first → Between place r (get_or starts first 0) (get_or ends first 0)
+pub row_between : (starts ends : List ℕ) (first place : ℕ) (r : RowData) → are_in_index_ranges starts ends 0 table_rows ≡ true → length starts ≡ 256 → length ends ≡ 256 → first < 256 → slice_get table_rows place ≡ Some r → r.op1 ≡ first → Between place r (get_or starts first 0) (get_or ends first 0)
 row_between starts ends first place r all ls le small at is =
     between_from place r (slice_get starts r.op1) (slice_get ends r.op1) (get_or starts first 0) (get_or ends first 0)
-    (subst (λ p. is_in_index_range p r (slice_get starts r.op1) (slice_get ends r.op1) ≡ true) (zero-add place) (held starts ends 0 listed place r all at))
+    (subst (λ p. is_in_index_range p r (slice_get starts r.op1) (slice_get ends r.op1) ≡ true) (zero-add place) (held starts ends 0 table_rows place r all at))
     (ap (slice_get starts) is ∙ slice_get-get_or starts first 0 (omega (arith, ls)))
     (ap (slice_get ends) is ∙ slice_get-get_or ends first 0 (omega (arith, le)))
 
@@ -162,11 +162,11 @@ pub same_some : (x y : ℕ) → Some x ≡ Some y → x ≡ y
 same_some x y e = cc
 
 -- the row of two codes is where the index has it
-pub place_has : (bases places : List ℕ) (first a b place : ℕ) (r : RowData) → are_at_index_places bases places 0 listed ≡ true → length bases ≡ 256 → first < 256 → a ≡ get_or bases first 0 → slice_get listed place ≡ Some r → r.op1 ≡ first → r.op2 ≡ b → slice_get places (a + b) ≡ Some place
+pub place_has : (bases places : List ℕ) (first a b place : ℕ) (r : RowData) → are_at_index_places bases places 0 table_rows ≡ true → length bases ≡ 256 → first < 256 → a ≡ get_or bases first 0 → slice_get table_rows place ≡ Some r → r.op1 ≡ first → r.op2 ≡ b → slice_get places (a + b) ≡ Some place
 place_has bases places first a b place r all count small is_a at is_first is_b =
     ap (λ x. slice_get places (x + b)) is_a ∙ ap (λ y. slice_get places (get_or bases first 0 + y)) (sym is_b)
     ∙ at_from places place r (slice_get bases r.op1) (get_or bases first 0)
-    (subst (λ p. is_at_index_place places p r (slice_get bases r.op1) ≡ true) (zero-add place) (held_at bases places 0 listed place r all at))
+    (subst (λ p. is_at_index_place places p r (slice_get bases r.op1) ≡ true) (zero-add place) (held_at bases places 0 table_rows place r all at))
     (ap (slice_get bases) is_first ∙ slice_get-get_or bases first 0 (omega (arith, count)))
 
 -- a row that has all fields of its form leaves none that has to be 0
@@ -181,13 +181,13 @@ plain_zero u f b e low =
     (one_plain u.c f.c b.c s.0 low.c) (one_plain u.s1 f.s1 b.s1 s.1 low.s1)) (one_plain u.s2 f.s2 b.s2 r.1 low.s2)) (one_plain u.n f.n b.n q.1 low.n)) (one_plain u.k f.k b.k p.1 low.k)
 
 -- the list of such rows is right for the row at a place
-pub plain_at : (plain : List Bool) (place : ℕ) (d : Bool) (r : RowData) → plain ≡ map is_plain_row listed → slice_get listed place ≡ Some r → get_or plain place d ≡ is_plain_row r
+pub plain_at : (plain : List Bool) (place : ℕ) (d : Bool) (r : RowData) → plain ≡ map is_full_row table_rows → slice_get table_rows place ≡ Some r → get_or plain place d ≡ is_full_row r
 plain_at plain place d r are at =
-    ap (λ bs. get_or bs place d) are ∙ get_or-map is_plain_row listed place r d (slice_get_within listed place r at) ∙ ap is_plain_row (get_or_from_slice_get listed place r r at)
+    ap (λ bs. get_or bs place d) are ∙ get_or-map is_full_row table_rows place r d (slice_get_within table_rows place r at) ∙ ap is_full_row (get_or_from_slice_get table_rows place r r at)
 
-pub second_at : (form : Form) (place first second w : ℕ) (r : RowData) → ((place : ℕ) (r : RowData) → slice_get listed place ≡ Some r → r.op1 ≡ first → form_index r.form ≡ form_index form) → second ≡ second_code_by_form form w → slice_get listed place ≡ Some r → r.op1 ≡ first → second ≡ second_code_by_form r.form w
+pub second_at : (form : Form) (place first second w : ℕ) (r : RowData) → ((place : ℕ) (r : RowData) → slice_get table_rows place ≡ Some r → r.op1 ≡ first → form_index r.form ≡ form_index form) → second ≡ second_code_by_form form w → slice_get table_rows place ≡ Some r → r.op1 ≡ first → second ≡ second_code_by_form r.form w
 second_at form place first second w r forms is at one = is ∙ ap (λ f. second_code_by_form f w) (sym (same_form r.form form (forms place r at one)))
 
-pub uses_at : (uses : List Uses) (place : ℕ) (d : Uses) (r : RowData) → uses ≡ map uses_of listed → slice_get listed place ≡ Some r → get_or uses place d ≡ uses_of r
+pub uses_at : (uses : List Uses) (place : ℕ) (d : Uses) (r : RowData) → uses ≡ map uses_of table_rows → slice_get table_rows place ≡ Some r → get_or uses place d ≡ uses_of r
 uses_at uses place d r are at =
-    ap (λ us. get_or us place d) are ∙ get_or-map uses_of listed place r d (slice_get_within listed place r at) ∙ ap uses_of (get_or_from_slice_get listed place r r at)
+    ap (λ us. get_or us place d) are ∙ get_or-map uses_of table_rows place r d (slice_get_within table_rows place r at) ∙ ap uses_of (get_or_from_slice_get table_rows place r r at)

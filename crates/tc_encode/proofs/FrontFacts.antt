@@ -4,16 +4,16 @@ use Rattle.std.specs.Prelude.{if◌then◌else◌}
 use Rattle.std.proofs.lemmas.Bool.{and_parts, and_from, ltb-true, lt-ltb}
 use Rattle.std.proofs.lemmas.List.{take_at, append-nil}
 use Rattle.tc_isa.specs.declared.fields.Fields.{Fields}
-use Rattle.tc_isa.specs.Rows.{RowData, is_long}
-use Rattle.tc_encode.specs.WordSearch.{mix_low_bytes}
+use Rattle.tc_isa.specs.Rows.{RowData, is_32_bit_row}
+use Rattle.tc_encode.specs.WordSearch.{with_low_bytes}
 use Rattle.tc_isa.specs.ValidRowFields.{FieldsFitRow, IsRow, least_fields}
-use Rattle.tc_isa.specs.Spelling.{word_of, spelling_of, spelling}
-use Rattle.tc_encode.specs.Decoding.{decoded_row_length, begins_with, is_prefix_of_row}
+use Rattle.tc_isa.specs.Spelling.{row_word, four_or_two_bytes, spelling}
+use Rattle.tc_encode.specs.Decoding.{decoded_row_length, begins_with_row, is_prefix_of_row}
 use Rattle.tc_encode.proofs.Complete.{completed}
 use Rattle.tc_encode.proofs.Spelled.{begins_here, size_spelling}
 
 -- the bytes of a mixed number
-mixed_bytes : (long : Bool) (n a b : ℕ) → 1 ≤ n → n < (if long then 4 else 2) → spelling_of long (mix_low_bytes n a b) ≡ take n (spelling_of long a) ++ drop n (spelling_of long b)
+mixed_bytes : (long : Bool) (n a b : ℕ) → 1 ≤ n → n < (if long then 4 else 2) → four_or_two_bytes long (with_low_bytes n a b) ≡ take n (four_or_two_bytes long a) ++ drop n (four_or_two_bytes long b)
 mixed_bytes long zero a b low high = absurd (omega arith)
 mixed_bytes true (suc zero) a b low high =
     let p : (a % 2 ^ 8 + b / 2 ^ 8 * 2 ^ 8) % 256 ≡ a % 256 = omega arith in
@@ -40,17 +40,17 @@ size_small : (long : Bool) → (if long then 4 else 2) ≤ 4
 size_small true = omega arith
 size_small false = omega arith
 
-least_goes_on : (r : RowData) → IsRow r → begins_with (spelling r (least_fields r)) r ≡ true
-least_goes_on r row = subst (λ bs. begins_with bs r ≡ true) (append-nil (spelling r (least_fields r))) (begins_here r (least_fields r) [] row row.has_least)
+least_goes_on : (r : RowData) → IsRow r → begins_with_row (spelling r (least_fields r)) r ≡ true
+least_goes_on r row = subst (λ bs. begins_with_row bs r ≡ true) (append-nil (spelling r (least_fields r))) (begins_here r (least_fields r) [] row row.has_least)
 
 -- the first n bytes, completed
-gone_on : (r : RowData) (f : Fields) (n : ℕ) → IsRow r → FieldsFitRow r f → n < decoded_row_length r → begins_with (take n (spelling r f) ++ drop n (spelling r (least_fields r))) r ≡ true
+gone_on : (r : RowData) (f : Fields) (n : ℕ) → IsRow r → FieldsFitRow r f → n < decoded_row_length r → begins_with_row (take n (spelling r f) ++ drop n (spelling r (least_fields r))) r ≡ true
 gone_on r f zero row fits short = least_goes_on r row
 gone_on r f (suc n) row fits short =
-    let x = completed r (suc n) f row fits (omega arith) (omega (arith, size_small (is_long r))) in
+    let x = completed r (suc n) f row fits (omega arith) (omega (arith, size_small (is_32_bit_row r))) in
     let is : spelling r x.0 ≡ take (suc n) (spelling r f) ++ drop (suc n) (spelling r (least_fields r)) =
-    ap (spelling_of (is_long r)) x.2 ∙ mixed_bytes (is_long r) (suc n) (word_of r f) (word_of r (least_fields r)) (omega arith) short in
-    subst (λ bs. begins_with bs r ≡ true) (append-nil (spelling r x.0) ∙ is) (begins_here r x.0 [] row x.1)
+    ap (four_or_two_bytes (is_32_bit_row r)) x.2 ∙ mixed_bytes (is_32_bit_row r) (suc n) (row_word r f) (row_word r (least_fields r)) (omega arith) short in
+    subst (λ bs. begins_with_row bs r ≡ true) (append-nil (spelling r x.0) ∙ is) (begins_here r x.0 [] row x.1)
 
 has_some : (rest : List ℕ) → rest ≢ [] → 1 ≤ length rest
 has_some [] some = absurd (some refl)
@@ -61,11 +61,11 @@ front_goes_on bytes rest r f row fits some is =
     let size : length bytes + length rest ≡ decoded_row_length r = sym (length-append bytes rest) ∙ ap length is ∙ size_spelling r f in
     let short : length bytes < decoded_row_length r = omega (arith, has_some rest some, size) in
     let front : take (length bytes) (spelling r f) ≡ bytes = ap (take (length bytes)) (sym is) ∙ take_at bytes rest (length bytes) refl in
-    and_from _ _ (lt-ltb _ _ short) (subst (λ bs. begins_with (bs ++ drop (length bytes) (spelling r (least_fields r))) r ≡ true) front (gone_on r f (length bytes) row fits short))
+    and_from _ _ (lt-ltb _ _ short) (subst (λ bs. begins_with_row (bs ++ drop (length bytes) (spelling r (least_fields r))) r ≡ true) front (gone_on r f (length bytes) row fits short))
 
 -- bytes that are completed are fewer than the row's
 pub goes_on_short : (bytes : List ℕ) (r : RowData) → is_prefix_of_row bytes r ≡ true → length bytes < decoded_row_length r
 goes_on_short bytes r e = ltb-true _ _ (and_parts _ _ e).0
 
-pub goes_on_begins : (bytes : List ℕ) (r : RowData) → is_prefix_of_row bytes r ≡ true → begins_with (bytes ++ drop (length bytes) (spelling r (least_fields r))) r ≡ true
+pub goes_on_begins : (bytes : List ℕ) (r : RowData) → is_prefix_of_row bytes r ≡ true → begins_with_row (bytes ++ drop (length bytes) (spelling r (least_fields r))) r ≡ true
 goes_on_begins bytes r e = (and_parts _ _ e).1

@@ -5,13 +5,13 @@ use Rattle.std.proofs.lemmas.Bool.{and_parts, and_from, ltb-true, lt-ltb}
 use Rattle.std.proofs.lemmas.Slice.Eq.{bytes_eq-Decides}
 use Rattle.std.proofs.lemmas.List.{take_at}
 use Rattle.tc_isa.specs.declared.fields.Fields.{Fields}
-use Rattle.tc_isa.specs.Rows.{RowData, is_long}
-use Rattle.tc_isa.specs.Forms.{bounds, fields_of}
+use Rattle.tc_isa.specs.Rows.{RowData, is_32_bit_row}
+use Rattle.tc_isa.specs.Forms.{field_bounds, word_fields}
 use Rattle.tc_isa.specs.InBounds.{AreFieldsBelow, are_fields_below}
 use Rattle.tc_isa.specs.ValidRowFields.{FieldsFitRow, IsRow}
-use Rattle.tc_isa.specs.Spelling.{word_of, spelling_of, spelling}
+use Rattle.tc_isa.specs.Spelling.{row_word, four_or_two_bytes, spelling}
 use Rattle.tcd_base.specs.Bytes.{two_bytes, four_bytes, number_from_bytes}
-use Rattle.tc_encode.specs.Decoding.{decoded_row_length, are_fitting_fields, fields_at, begins_with}
+use Rattle.tc_encode.specs.Decoding.{decoded_row_length, decoded_fields_fit, leading_fields, begins_with_row}
 use Rattle.tc_encode.proofs.Inverse.{fields-word}
 use Rattle.tc_encode.proofs.Bytes.{word-lt}
 
@@ -24,21 +24,21 @@ below_from f b e =
 pub below_true : (f b : Fields) → AreFieldsBelow f b → are_fields_below f b ≡ true
 below_true f b e = and_from _ _ (and_from _ _ (and_from _ _ (and_from _ _ (lt-ltb _ _ e.c) (lt-ltb _ _ e.s1)) (lt-ltb _ _ e.s2)) (lt-ltb _ _ e.n)) (lt-ltb _ _ e.k)
 
-pub fits_from : (r : RowData) (f : Fields) → are_fitting_fields r f ≡ true → FieldsFitRow r f
+pub fits_from : (r : RowData) (f : Fields) → decoded_fields_fit r f ≡ true → FieldsFitRow r f
 fits_from r f e =
     let p = and_parts _ _ e in let q = and_parts _ _ p.0 in
-    record { below = below_from f (bounds r.form) q.0; zero = q.1; apart = p.1 }
+    record { below = below_from f (field_bounds r.form) q.0; zero = q.1; apart = p.1 }
 
-pub fits_true : (r : RowData) (f : Fields) → FieldsFitRow r f → are_fitting_fields r f ≡ true
-fits_true r f fits = and_from _ _ (and_from _ _ (below_true f (bounds r.form) fits.below) fits.zero) fits.apart
+pub fits_true : (r : RowData) (f : Fields) → FieldsFitRow r f → decoded_fields_fit r f ≡ true
+fits_true r f fits = and_from _ _ (and_from _ _ (below_true f (field_bounds r.form) fits.below) fits.zero) fits.apart
 
 -- a row's spelling has the row's size
-size_spelled : (long : Bool) (w : ℕ) → length (spelling_of long w) ≡ (if long then 4 else 2)
+size_spelled : (long : Bool) (w : ℕ) → length (four_or_two_bytes long w) ≡ (if long then 4 else 2)
 size_spelled true w = refl
 size_spelled false w = refl
 
 pub size_spelling : (r : RowData) (f : Fields) → length (spelling r f) ≡ decoded_row_length r
-size_spelling r f = size_spelled (is_long r) (word_of r f)
+size_spelling r f = size_spelled (is_32_bit_row r) (row_word r f)
 
 -- the number of a spelling is its word
 four_number : (w : ℕ) → w < 2 ^ 32 → number_from_bytes (four_bytes w) ≡ w
@@ -47,7 +47,7 @@ four_number w h = omega arith
 two_number : (w : ℕ) → number_from_bytes (two_bytes w) ≡ w
 two_number w = omega arith
 
-spelled_number : (long : Bool) (w : ℕ) → w < 2 ^ 32 → number_from_bytes (spelling_of long w) ≡ w
+spelled_number : (long : Bool) (w : ℕ) → w < 2 ^ 32 → number_from_bytes (four_or_two_bytes long w) ≡ w
 spelled_number true w h = four_number w h
 spelled_number false w h = two_number w
 
@@ -55,23 +55,23 @@ pub front_is : (r : RowData) (f : Fields) (rest : List ℕ) → take (decoded_ro
 front_is r f rest = take_at (spelling r f) rest (decoded_row_length r) (size_spelling r f)
 
 -- the fields in a spelling are those that it spells
-pub fields_here : (r : RowData) (f : Fields) (rest : List ℕ) → IsRow r → FieldsFitRow r f → fields_at (spelling r f ++ rest) r ≡ f
+pub fields_here : (r : RowData) (f : Fields) (rest : List ℕ) → IsRow r → FieldsFitRow r f → leading_fields (spelling r f ++ rest) r ≡ f
 fields_here r f rest row fits =
-    ap (λ bs. fields_of r.form (number_from_bytes bs)) (front_is r f rest)
-    ∙ ap (fields_of r.form) (spelled_number (is_long r) (word_of r f) (word-lt r.form r.op1 r.op2 f row.first row.second fits.below))
+    ap (λ bs. word_fields r.form (number_from_bytes bs)) (front_is r f rest)
+    ∙ ap (word_fields r.form) (spelled_number (is_32_bit_row r) (row_word r f) (word-lt r.form r.op1 r.op2 f row.first row.second fits.below))
     ∙ fields-word r.form r.op1 r.op2 f row.first row.second fits.below
 
 -- bytes that begin with a spelling of the row pass the test
-pub begins_here : (r : RowData) (f : Fields) (rest : List ℕ) → IsRow r → FieldsFitRow r f → begins_with (spelling r f ++ rest) r ≡ true
+pub begins_here : (r : RowData) (f : Fields) (rest : List ℕ) → IsRow r → FieldsFitRow r f → begins_with_row (spelling r f ++ rest) r ≡ true
 begins_here r f rest row fits =
     let same = fields_here r f rest row fits in
     and_from _ _
-    (ap (are_fitting_fields r) same ∙ fits_true r f fits)
+    (ap (decoded_fields_fit r) same ∙ fits_true r f fits)
     ((bytes_eq-Decides _ _).1 (front_is r f rest ∙ sym (ap (spelling r) same)))
 
 -- bytes that pass the test begin with fields that fit
-pub fits_there : (bytes : List ℕ) (r : RowData) → begins_with bytes r ≡ true → FieldsFitRow r (fields_at bytes r)
-fits_there bytes r e = fits_from r (fields_at bytes r) (and_parts _ _ e).0
+pub fits_there : (bytes : List ℕ) (r : RowData) → begins_with_row bytes r ≡ true → FieldsFitRow r (leading_fields bytes r)
+fits_there bytes r e = fits_from r (leading_fields bytes r) (and_parts _ _ e).0
 
-pub stands_there : (bytes : List ℕ) (r : RowData) → begins_with bytes r ≡ true → take (decoded_row_length r) bytes ≡ spelling r (fields_at bytes r)
+pub stands_there : (bytes : List ℕ) (r : RowData) → begins_with_row bytes r ≡ true → take (decoded_row_length r) bytes ≡ spelling r (leading_fields bytes r)
 stands_there bytes r e = (bytes_eq-Decides _ _).0 (and_parts _ _ e).1

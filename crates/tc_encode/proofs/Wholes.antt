@@ -3,29 +3,29 @@ use Rattle.std.proofs.Common.{◌≡◌, ◌+◌, ◌*◌, ◌/◌, ◌%◌, ◌
 use Rattle.std.specs.Prelude.{All, if◌then◌else◌}
 use Rattle.std.proofs.lemmas.Bool.{eq-eqb}
 use Rattle.std.proofs.lemmas.List.{take-append-drop}
-use Rattle.tc_isa.specs.Forms.{fields_of, bounds}
-use Rattle.tc_isa.specs.Spelling.{word_by_form, word_of, spelling_of, spelling}
+use Rattle.tc_isa.specs.Forms.{word_fields, field_bounds}
+use Rattle.tc_isa.specs.Spelling.{word_by_form, row_word, four_or_two_bytes, spelling}
 use Rattle.tc_encode.specs.Decoding.{BeginsWith, IsInstPrefix, decoded_of, decoded_length, decoded_row_length}
-use Rattle.tc_isa.specs.Insts.{InstData, IsInst, fields_in}
-use Rattle.tc_isa.specs.Rows.{is_long}
+use Rattle.tc_isa.specs.Insts.{InstData, IsInst, inst_fields}
+use Rattle.tc_isa.specs.Rows.{is_32_bit_row}
 use Rattle.tcd_base.specs.Bytes.{two_bytes, four_bytes, number_from_bytes}
 use Rattle.tc_isa.proofs.TableFacts.{row_at}
 use Rattle.tc_encode.specs.declared.errors.DecodeErr.TheVariants.{Short, NotListed}
-use Rattle.tc_encode.specs.WordSearch.{IsWordOf, IsCompletionOf, word_part_span}
+use Rattle.tc_encode.specs.WordSearch.{IsWordOf, IsCompletionOf, power_of_256}
 use Rattle.tc_encode.proofs.Inverse.{first-word}
 use Rattle.tc_encode.proofs.Spelled.{size_spelling}
 use Rattle.tc_encode.proofs.Finds.{first_is}
 use Rattle.tc_encode.proofs.DecodeProofs.{spelled_decodes, short_is_front, not_listed_is_rest}
 
 -- the first byte of a spelling is the row's first code
-head_of : (long : Bool) (w a : ℕ) (more rest : List ℕ) → a ∷ more ≡ spelling_of long w ++ rest → a ≡ w % 256
+head_of : (long : Bool) (w a : ℕ) (more rest : List ℕ) → a ∷ more ≡ four_or_two_bytes long w ++ rest → a ≡ w % 256
 head_of true w a more rest e = cc
 head_of false w a more rest e = cc
 
-pub first_of_spelling : (i : InstData) (is : IsInst i) (a : ℕ) (more rest : List ℕ) → a ∷ more ≡ spelling is.row (fields_in i) ++ rest → is.row.op1 ≡ a
+pub first_of_spelling : (i : InstData) (is : IsInst i) (a : ℕ) (more rest : List ℕ) → a ∷ more ≡ spelling is.row (inst_fields i) ++ rest → is.row.op1 ≡ a
 first_of_spelling i is a more rest e =
     let row = row_at i.row is.row is.at in
-    sym (head_of (is_long is.row) (word_of is.row (fields_in i)) a more rest e ∙ first-word is.row.form is.row.op1 is.row.op2 (fields_in i) row.first row.second is.fits.below)
+    sym (head_of (is_32_bit_row is.row) (row_word is.row (inst_fields i)) a more rest e ∙ first-word is.row.form is.row.op1 is.row.op2 (inst_fields i) row.first row.second is.fits.below)
 
 -- the number of bytes by the first byte
 pub odd_need : (a : ℕ) → a % 2 ≡ 1 → decoded_length a ≡ 4
@@ -34,11 +34,11 @@ odd_need a odd = ap (λ b. if b then 4 else 2) (eq-eqb _ _ odd)
 pub even_need : (a : ℕ) → a % 2 ≡ 0 → decoded_length a ≡ 2
 even_need a even = ap (λ m. if m == 1 then 4 else 2) even
 
-pub length_of_spelling : (i : InstData) (is : IsInst i) (a : ℕ) (more rest : List ℕ) → a ∷ more ≡ spelling is.row (fields_in i) ++ rest → length (spelling is.row (fields_in i)) ≡ decoded_length a
-length_of_spelling i is a more rest e = size_spelling is.row (fields_in i) ∙ ap decoded_length (first_of_spelling i is a more rest e)
+pub length_of_spelling : (i : InstData) (is : IsInst i) (a : ℕ) (more rest : List ℕ) → a ∷ more ≡ spelling is.row (inst_fields i) ++ rest → length (spelling is.row (inst_fields i)) ≡ decoded_length a
+length_of_spelling i is a more rest e = size_spelling is.row (inst_fields i) ∙ ap decoded_length (first_of_spelling i is a more rest e)
 
 -- bytes that begin with an instruction
-begun : (xs : List ℕ) (i : InstData) (n : ℕ) (b : BeginsWith xs i n) → xs ≡ spelling b.spells.inst.row (fields_in i) ++ drop n xs
+begun : (xs : List ℕ) (i : InstData) (n : ℕ) (b : BeginsWith xs i n) → xs ≡ spelling b.spells.inst.row (inst_fields i) ++ drop n xs
 begun xs i n b = sym (take-append-drop n xs) ∙ ap (λ front. front ++ drop n xs) b.spells.is
 
 -- bytes that are enough are not the beginning of one
@@ -49,7 +49,7 @@ nonempty (x ∷ xs) e = absurd (omega arith)
 pub no_front : (a : ℕ) (more : List ℕ) → decoded_length a ≤ length (a ∷ more) → IsInstPrefix (a ∷ more) → ⊥
 no_front a more enough front =
     let s = front.spells in
-    let whole : (a ∷ more) ++ front.rest ≡ spelling s.inst.row (fields_in front.inst) ++ [] = s.is ∙ sym (append_nil (spelling s.inst.row (fields_in front.inst))) in
+    let whole : (a ∷ more) ++ front.rest ≡ spelling s.inst.row (inst_fields front.inst) ++ [] = s.is ∙ sym (append_nil (spelling s.inst.row (inst_fields front.inst))) in
     let size = length_of_spelling front.inst s.inst a (more ++ front.rest) [] whole in
     front.more (nonempty front.rest (omega (arith, length-append (a ∷ more) front.rest, ap length s.is, size)))
   where
@@ -71,17 +71,17 @@ four_bytes_of w a b c d e la lb lc ld = let p : w % 256 ≡ a = omega arith in l
 two_bytes_of : (w a b : ℕ) → w ≡ a + b * 2 ^ 8 → a < 256 → b < 256 → two_bytes w ≡ a ∷ b ∷ []
 two_bytes_of w a b e la lb = let p : w % 256 ≡ a = omega arith in let q : w / 256 ≡ b = omega arith in rw (p, q) refl
 
-long_is : (i : InstData) (is : IsInst i) (a : ℕ) → is.row.op1 ≡ a → a % 2 ≡ 1 → is_long is.row ≡ true
+long_is : (i : InstData) (is : IsInst i) (a : ℕ) → is.row.op1 ≡ a → a % 2 ≡ 1 → is_32_bit_row is.row ≡ true
 long_is i is a first odd = ap (λ x. x % 2 == 1) first ∙ eq-eqb _ _ odd
 
-short_is : (i : InstData) (is : IsInst i) (a : ℕ) → is.row.op1 ≡ a → a % 2 ≡ 0 → is_long is.row ≡ false
+short_is : (i : InstData) (is : IsInst i) (a : ℕ) → is.row.op1 ≡ a → a % 2 ≡ 0 → is_32_bit_row is.row ≡ false
 short_is i is a first even = ap (λ x. x % 2 == 1) first ∙ ap (λ m. m == 1) even
 
 pub long_ok : (a b c d w : ℕ) (i : InstData) (rest : List ℕ) → a % 2 ≡ 1 → a < 256 → b < 256 → c < 256 → d < 256 → w ≡ a + b * 2 ^ 8 + c * 2 ^ 16 + d * 2 ^ 24 → IsWordOf w i → decoded_of (a ∷ b ∷ c ∷ d ∷ rest) ≡ Ok (i, 4)
 long_ok a b c d w i rest odd la lb lc ld is m =
     let first : m.inst.row.op1 ≡ a = sym (first_is w i m) ∙ omega arith in
-    let bytes : a ∷ b ∷ c ∷ d ∷ [] ≡ spelling m.inst.row (fields_in i) =
-    sym (ap (λ l. spelling_of l (word_of m.inst.row (fields_in i))) (long_is i m.inst a first odd) ∙ ap four_bytes m.is ∙ four_bytes_of w a b c d is la lb lc ld) in
+    let bytes : a ∷ b ∷ c ∷ d ∷ [] ≡ spelling m.inst.row (inst_fields i) =
+    sym (ap (λ l. four_or_two_bytes l (row_word m.inst.row (inst_fields i))) (long_is i m.inst a first odd) ∙ ap four_bytes m.is ∙ four_bytes_of w a b c d is la lb lc ld) in
     spelled_decodes (a ∷ b ∷ c ∷ d ∷ []) rest i (record { inst = m.inst; is = bytes })
 
 four_parts : (w a b c d : ℕ) (more rest : List ℕ) → a ∷ b ∷ c ∷ d ∷ more ≡ four_bytes w ++ rest → w ≡ a + b * 2 ^ 8 + c * 2 ^ 16 + d * 2 ^ 24
@@ -97,15 +97,15 @@ long_none a b c d w rest odd is none =
           let inst = begins.spells.inst in
           let whole = begun xs i n begins in
           let first = first_of_spelling i inst a (b ∷ c ∷ d ∷ rest) (drop n xs) whole in
-          let bytes : xs ≡ four_bytes (word_of inst.row (fields_in i)) ++ drop n xs = whole ∙ ap (λ l. spelling_of l (word_of inst.row (fields_in i)) ++ drop n xs) (long_is i inst a first odd) in
+          let bytes : xs ≡ four_bytes (row_word inst.row (inst_fields i)) ++ drop n xs = whole ∙ ap (λ l. four_or_two_bytes l (row_word inst.row (inst_fields i)) ++ drop n xs) (long_is i inst a first odd) in
           none i (record { inst = inst; is = four_parts _ a b c d rest (drop n xs) bytes ∙ sym is }),
     )
 
 pub short_ok : (a b w : ℕ) (i : InstData) (rest : List ℕ) → a % 2 ≡ 0 → a < 256 → b < 256 → w ≡ a + b * 2 ^ 8 → IsWordOf w i → decoded_of (a ∷ b ∷ rest) ≡ Ok (i, 2)
 short_ok a b w i rest even la lb is m =
     let first : m.inst.row.op1 ≡ a = sym (first_is w i m) ∙ omega arith in
-    let bytes : a ∷ b ∷ [] ≡ spelling m.inst.row (fields_in i) =
-    sym (ap (λ l. spelling_of l (word_of m.inst.row (fields_in i))) (short_is i m.inst a first even) ∙ ap two_bytes m.is ∙ two_bytes_of w a b is la lb) in
+    let bytes : a ∷ b ∷ [] ≡ spelling m.inst.row (inst_fields i) =
+    sym (ap (λ l. four_or_two_bytes l (row_word m.inst.row (inst_fields i))) (short_is i m.inst a first even) ∙ ap two_bytes m.is ∙ two_bytes_of w a b is la lb) in
     spelled_decodes (a ∷ b ∷ []) rest i (record { inst = m.inst; is = bytes })
 
 two_parts : (w a b : ℕ) (more rest : List ℕ) → a ∷ b ∷ more ≡ two_bytes w ++ rest → w ≡ a + b * 2 ^ 8
@@ -120,12 +120,12 @@ short_none a b w rest even is none =
           let inst = begins.spells.inst in
           let whole = begun xs i n begins in
           let first = first_of_spelling i inst a (b ∷ rest) (drop n xs) whole in
-          let bytes : xs ≡ two_bytes (word_of inst.row (fields_in i)) ++ drop n xs = whole ∙ ap (λ l. spelling_of l (word_of inst.row (fields_in i)) ++ drop n xs) (short_is i inst a first even) in
+          let bytes : xs ≡ two_bytes (row_word inst.row (inst_fields i)) ++ drop n xs = whole ∙ ap (λ l. four_or_two_bytes l (row_word inst.row (inst_fields i)) ++ drop n xs) (short_is i inst a first even) in
           none i (record { inst = inst; is = two_parts _ a b rest (drop n xs) bytes ∙ sym is }),
     )
 
 -- one to three bytes and their number
-low_bytes : (long : Bool) (w : ℕ) (bytes : List ℕ) → All (λ b. b < 256) bytes → 1 ≤ length bytes → length bytes < (if long then 4 else 2) → w % word_part_span (length bytes) ≡ number_from_bytes bytes → take (length bytes) (spelling_of long w) ≡ bytes
+low_bytes : (long : Bool) (w : ℕ) (bytes : List ℕ) → All (λ b. b < 256) bytes → 1 ≤ length bytes → length bytes < (if long then 4 else 2) → w % power_of_256 (length bytes) ≡ number_from_bytes bytes → take (length bytes) (four_or_two_bytes long w) ≡ bytes
 low_bytes long w [] all low high is = absurd (omega arith)
 low_bytes true w (a ∷ []) all low high is = let p : w % 256 ≡ a = omega arith in rw p refl
 low_bytes true w (a ∷ b ∷ []) all low high is =
@@ -138,7 +138,7 @@ low_bytes true w (a ∷ b ∷ c ∷ d ∷ more) all low high is = absurd (omega 
 low_bytes false w (a ∷ []) all low high is = let p : w % 256 ≡ a = omega arith in rw p refl
 low_bytes false w (a ∷ b ∷ more) all low high is = absurd (omega arith)
 
-low_number : (long : Bool) (w : ℕ) (bytes rest : List ℕ) → 1 ≤ length bytes → length bytes < (if long then 4 else 2) → bytes ++ rest ≡ spelling_of long w → w % word_part_span (length bytes) ≡ number_from_bytes bytes
+low_number : (long : Bool) (w : ℕ) (bytes rest : List ℕ) → 1 ≤ length bytes → length bytes < (if long then 4 else 2) → bytes ++ rest ≡ four_or_two_bytes long w → w % power_of_256 (length bytes) ≡ number_from_bytes bytes
 low_number long w [] rest low high is = absurd (omega arith)
 low_number true w (a ∷ []) rest low high is = let p : a ≡ w % 256 = cc in omega arith
 low_number true w (a ∷ b ∷ []) rest low high is = let p : a ≡ w % 256 = cc in let q : b ≡ w / 2 ^ 8 % 256 = cc in omega arith
@@ -150,11 +150,11 @@ low_number false w (a ∷ b ∷ more) rest low high is = absurd (omega arith)
 -- bytes that can be completed are the beginning of an instruction
 pub goes_front : (bytes : List ℕ) (i : InstData) → All (λ b. b < 256) bytes → 1 ≤ length bytes → IsCompletionOf (length bytes) (number_from_bytes bytes) i → IsInstPrefix bytes
 goes_front bytes i all low g =
-    let s = spelling g.inst.row (fields_in i) in
-    let front : take (length bytes) s ≡ bytes = low_bytes (is_long g.inst.row) (word_of g.inst.row (fields_in i)) bytes all low g.longer g.is in
+    let s = spelling g.inst.row (inst_fields i) in
+    let front : take (length bytes) s ≡ bytes = low_bytes (is_32_bit_row g.inst.row) (row_word g.inst.row (inst_fields i)) bytes all low g.longer g.is in
     record {
       rest = drop (length bytes) s;
-      more = λ e. let gone : length (drop (length bytes) s) ≡ 0 = ap length e in omega (arith, gone, length-drop (length bytes) s, size_spelling g.inst.row (fields_in i), g.longer);
+      more = λ e. let gone : length (drop (length bytes) s) ≡ 0 = ap length e in omega (arith, gone, length-drop (length bytes) s, size_spelling g.inst.row (inst_fields i), g.longer);
       inst = i;
       spells = record { inst = g.inst; is = ap (λ f. f ++ drop (length bytes) s) (sym front) ∙ take-append-drop (length bytes) s };
     }
@@ -162,9 +162,9 @@ goes_front bytes i all low g =
 pub front_goes : (a : ℕ) (more : List ℕ) → length (a ∷ more) < decoded_length a → (front : IsInstPrefix (a ∷ more)) → IsCompletionOf (length (a ∷ more)) (number_from_bytes (a ∷ more)) front.inst
 front_goes a more few front =
     let s = front.spells in
-    let first = first_of_spelling front.inst s.inst a (more ++ front.rest) [] (s.is ∙ sym (append_nil (spelling s.inst.row (fields_in front.inst)))) in
+    let first = first_of_spelling front.inst s.inst a (more ++ front.rest) [] (s.is ∙ sym (append_nil (spelling s.inst.row (inst_fields front.inst)))) in
     let longer : length (a ∷ more) < decoded_row_length s.inst.row = subst (λ n. length (a ∷ more) < decoded_length n) (sym first) few in
-    record { inst = s.inst; longer = longer; is = low_number (is_long s.inst.row) (word_of s.inst.row (fields_in front.inst)) (a ∷ more) front.rest (omega arith) longer s.is }
+    record { inst = s.inst; longer = longer; is = low_number (is_32_bit_row s.inst.row) (row_word s.inst.row (inst_fields front.inst)) (a ∷ more) front.rest (omega arith) longer s.is }
   where
     append_nil : (ys : List ℕ) → ys ++ [] ≡ ys
     append_nil [] = refl
@@ -190,6 +190,6 @@ front_none (a ∷ more) n part first low high head len all num none =
 
 -- no bytes are the beginning of an instruction
 pub empty_short : (xs : List ℕ) → length xs ≡ 0 → Err Short ≡ decoded_of xs
-unfolding decoded_of fields_of bounds word_by_form
+unfolding decoded_of word_fields field_bounds word_by_form
 empty_short [] e = refl
 empty_short (x ∷ xs) e = absurd (omega arith)

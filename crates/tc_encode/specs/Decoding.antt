@@ -3,9 +3,9 @@ use Rattle.std.specs.Prelude.{◌%◌, ◌==◌, ◌&&◌, ℕ, suc, Bool, List,
 use Rattle.std.specs.List.{list_any}
 use Rattle.std.specs.Str.{bytes_eq}
 use Rattle.tc_isa.specs.declared.fields.Fields.{Fields}
-use Rattle.tc_isa.specs.Rows.{RowData, listed}
-use Rattle.tc_isa.specs.Forms.{bounds, fields_of}
-use Rattle.tc_isa.specs.ValidRowFields.{uses_of, are_unused_fields_zero, are_registers_apart, least_fields}
+use Rattle.tc_isa.specs.Rows.{RowData, table_rows}
+use Rattle.tc_isa.specs.Forms.{field_bounds, word_fields}
+use Rattle.tc_isa.specs.ValidRowFields.{uses_of, are_unused_fields_zero, are_registers_allowed, least_fields}
 use Rattle.tc_isa.specs.InBounds.{are_fields_below}
 use Rattle.tc_isa.specs.Spelling.{spelling, Spells}
 use Rattle.tc_isa.specs.Insts.{InstData}
@@ -23,21 +23,21 @@ decoded_row_length r = decoded_length r.op1
 
 -- decoded fields fit the row: they are below the bounds of its form, those that the row doesn't
 -- have are 0, and its registers are apart
-abbrev pub are_fitting_fields : RowData → Fields → Bool
-are_fitting_fields r f = are_fields_below f (bounds r.form) && are_unused_fields_zero (uses_of r) f && are_registers_apart r f
+abbrev pub decoded_fields_fit : RowData → Fields → Bool
+decoded_fields_fit r f = are_fields_below f (field_bounds r.form) && are_unused_fields_zero (uses_of r) f && are_registers_allowed r f
 
 -- the fields at the front of the bytes, in the row's form
-abbrev pub fields_at : List ℕ → RowData → Fields
-fields_at bytes r = fields_of r.form (number_from_bytes (take (decoded_row_length r) bytes))
+abbrev pub leading_fields : List ℕ → RowData → Fields
+leading_fields bytes r = word_fields r.form (number_from_bytes (take (decoded_row_length r) bytes))
 
 -- the bytes begin with an instruction of the row: the fields there fit, and spell these bytes
-abbrev pub begins_with : List ℕ → RowData → Bool
-begins_with bytes r = are_fitting_fields r (fields_at bytes r) && bytes_eq (take (decoded_row_length r) bytes) (spelling r (fields_at bytes r))
+abbrev pub begins_with_row : List ℕ → RowData → Bool
+begins_with_row bytes r = decoded_fields_fit r (leading_fields bytes r) && bytes_eq (take (decoded_row_length r) bytes) (spelling r (leading_fields bytes r))
 
 -- the bytes are the beginning of an instruction of the row: completed by its least fields, they
 -- spell one
 abbrev pub is_prefix_of_row : List ℕ → RowData → Bool
-is_prefix_of_row bytes r = nat_lt (length bytes) (decoded_row_length r) && begins_with (bytes ++ drop (length bytes) (spelling r (least_fields r))) r
+is_prefix_of_row bytes r = nat_lt (length bytes) (decoded_row_length r) && begins_with_row (bytes ++ drop (length bytes) (spelling r (least_fields r))) r
 
 -- the decoded instruction: that of the row at this place, with these fields
 abbrev pub instruction_at_row : ℕ → Fields → InstData
@@ -47,17 +47,17 @@ instruction_at_row place f = record { row = place; c = f.c; s1 = f.s1; s2 = f.s2
 -- instruction, and its number of bytes
 abbrev pub first_row_match : List ℕ → ℕ → List RowData → Option (InstData × ℕ)
 first_row_match bytes place [] = None
-first_row_match bytes place (r ∷ rs) = if begins_with bytes r then Some (instruction_at_row place (fields_at bytes r), decoded_row_length r) else first_row_match bytes (suc place) rs
+first_row_match bytes place (r ∷ rs) = if begins_with_row bytes r then Some (instruction_at_row place (leading_fields bytes r), decoded_row_length r) else first_row_match bytes (suc place) rs
 
 -- the instruction that was found; else Short if the bytes are the beginning of one, else NotListed
-abbrev pub decode_answer : List ℕ → Option (InstData × ℕ) → Result (InstData × ℕ) DecodeErr
-decode_answer bytes (Some found) = Ok found
-decode_answer bytes None = if list_any (is_prefix_of_row bytes) listed then Err Short else Err NotListed
+abbrev pub decode_result : List ℕ → Option (InstData × ℕ) → Result (InstData × ℕ) DecodeErr
+decode_result bytes (Some found) = Ok found
+decode_result bytes None = if list_any (is_prefix_of_row bytes) table_rows then Err Short else Err NotListed
 
 -- the instruction that the bytes begin with, and its number of bytes; else Short if the bytes are
 -- the beginning of one, else NotListed
 unfoldable pub decoded_of : List ℕ → Result (InstData × ℕ) DecodeErr
-decoded_of bytes = decode_answer bytes (first_row_match bytes 0 listed)
+decoded_of bytes = decode_result bytes (first_row_match bytes 0 table_rows)
 
 -- the first n bytes are the spelling of the instruction
 pub record BeginsWith (bytes : List ℕ) (i : InstData) (n : ℕ) : Type 0 where

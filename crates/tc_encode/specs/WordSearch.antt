@@ -2,45 +2,45 @@
 use Rattle.std.specs.Prelude.{◌≡◌, ◌+◌, ◌*◌, ◌/◌, ◌%◌, ◌^◌, ◌<◌, ℕ, zero, suc, Bool, true, false, ◌==◌, ◌&&◌, ◌||◌, nat_lt, nat_le, List, ◌∷◌, Option, Some, None, slice_get, []}
 use Rattle.tc_isa.specs.declared.table.Form.{Form}
 use Rattle.tc_isa.specs.declared.table.Form.TheVariants.{Rlc, Rr, Rc, Bol, Bo, Brr, Brc, B, Abs, Sys, Sr, Sc, Sb, Sbr, Src, Srr, Slr, Ssr}
-use Rattle.tc_isa.specs.Rows.{RowData, listed}
+use Rattle.tc_isa.specs.Rows.{RowData, table_rows}
 use Rattle.tc_isa.specs.declared.fields.Fields.{Fields}
 use Rattle.tc_isa.specs.declared.fields.Uses.{Uses}
-use Rattle.tc_isa.specs.Forms.{form_index, bounds}
+use Rattle.tc_isa.specs.Forms.{form_index, field_bounds}
 use Rattle.tc_isa.specs.ValidRowFields.{uses_of}
-use Rattle.tc_isa.specs.Spelling.{word_of}
-use Rattle.tc_isa.specs.Insts.{InstData, IsInst, fields_in}
+use Rattle.tc_isa.specs.Spelling.{row_word}
+use Rattle.tc_isa.specs.Insts.{InstData, IsInst, inst_fields}
 use Rattle.tc_encode.specs.Decoding.{decoded_row_length}
 
 -- w is the word of the instruction
 pub record IsWordOf (w : ℕ) (i : InstData) : Type 0 where
   pub inst : IsInst i
-  pub is : word_of inst.row (fields_in i) ≡ w
+  pub is : row_word inst.row (inst_fields i) ≡ w
 
 -- the word for a search by its low byte: the low byte of a, and the rest of b
-abbrev pub mix_low_byte : ℕ → ℕ → ℕ
-mix_low_byte a b = a % 2 ^ 8 + b / 2 ^ 8 * 2 ^ 8
+abbrev pub with_low_byte : ℕ → ℕ → ℕ
+with_low_byte a b = a % 2 ^ 8 + b / 2 ^ 8 * 2 ^ 8
 
 -- the word for a search by its low three bytes: those of a, and the rest of b
-abbrev pub mix_three_bytes : ℕ → ℕ → ℕ
-mix_three_bytes a b = a % 2 ^ 24 + b / 2 ^ 24 * 2 ^ 24
+abbrev pub with_low_three_bytes : ℕ → ℕ → ℕ
+with_low_three_bytes a b = a % 2 ^ 24 + b / 2 ^ 24 * 2 ^ 24
 
 -- the number of values that the low n bytes of a searched word can have, for n up to 3: 256 to the
 -- power of n
-abbrev pub word_part_span : ℕ → ℕ
-word_part_span zero = 1
-word_part_span (suc zero) = 2 ^ 8
-word_part_span (suc (suc zero)) = 2 ^ 16
-word_part_span (suc (suc (suc n))) = 2 ^ 24
+abbrev pub power_of_256 : ℕ → ℕ
+power_of_256 zero = 1
+power_of_256 (suc zero) = 2 ^ 8
+power_of_256 (suc (suc zero)) = 2 ^ 16
+power_of_256 (suc (suc (suc n))) = 2 ^ 24
 
 -- the word for a search by its low n bytes, for n up to 3: those of a, and the rest of b
-abbrev pub mix_low_bytes : ℕ → ℕ → ℕ → ℕ
-mix_low_bytes n a b = a % word_part_span n + b / word_part_span n * word_part_span n
+abbrev pub with_low_bytes : ℕ → ℕ → ℕ → ℕ
+with_low_bytes n a b = a % power_of_256 n + b / power_of_256 n * power_of_256 n
 
 -- the low n bytes of the instruction's word are `part`, and the instruction is longer than n bytes
 pub record IsCompletionOf (n part : ℕ) (i : InstData) : Type 0 where
   pub inst : IsInst i
   pub longer : n < decoded_row_length inst.row
-  pub is : word_of inst.row (fields_in i) % word_part_span n ≡ part
+  pub is : row_word inst.row (inst_fields i) % power_of_256 n ≡ part
 
 -- in the search by a word: there is a row at the start of an index range, and it has the form of
 -- this row
@@ -53,7 +53,7 @@ has_same_form r (Some s) = form_index s.form == form_index r.form
 abbrev pub is_in_index_range : ℕ → RowData → Option ℕ → Option ℕ → Bool
 is_in_index_range place r None end = false
 is_in_index_range place r (Some start) None = false
-is_in_index_range place r (Some start) (Some end) = nat_le start place && nat_lt place end && has_same_form r (slice_get listed start)
+is_in_index_range place r (Some start) (Some end) = nat_le start place && nat_lt place end && has_same_form r (slice_get table_rows start)
 
 -- for the search by a word: each row, numbered from `place` on, is in the index range of its first
 -- byte, and the row at the start of that range has its form
@@ -62,15 +62,15 @@ are_in_index_ranges starts ends place [] = true
 are_in_index_ranges starts ends place (r ∷ rs) = is_in_index_range place r (slice_get starts r.op1) (slice_get ends r.op1) && are_in_index_ranges starts ends (suc place) rs
 
 -- the place that the search by a word finds in the index of codes is this row's
-abbrev pub is_index_place : ℕ → Option ℕ → Bool
-is_index_place place None = false
-is_index_place place (Some p) = p == place
+abbrev pub is_index_entry : ℕ → Option ℕ → Bool
+is_index_entry place None = false
+is_index_entry place (Some p) = p == place
 
 -- in the search by a word: the index of codes has this place, as far behind the base as the row's
 -- second code says
 abbrev pub is_at_index_place : List ℕ → ℕ → RowData → Option ℕ → Bool
 is_at_index_place places place r None = false
-is_at_index_place places place r (Some base) = is_index_place place (slice_get places (base + r.op2))
+is_at_index_place places place r (Some base) = is_index_entry place (slice_get places (base + r.op2))
 
 -- for the search by a word: the index has the place of each row, numbered from `place` on, by its
 -- first byte and second code
@@ -84,8 +84,8 @@ abbrev pub has_all_form_fields : Uses → Fields → Bool
 has_all_form_fields u b = (u.c || b.c == 1) && (u.s1 || b.s1 == 1) && (u.s2 || b.s2 == 1) && (u.n || b.n == 1) && (u.k || b.k == 1)
 
 -- the row has all fields of its form, so that the search by a word needn't test that others are 0
-abbrev pub is_plain_row : RowData → Bool
-is_plain_row r = has_all_form_fields (uses_of r) (bounds r.form)
+abbrev pub is_full_row : RowData → Bool
+is_full_row r = has_all_form_fields (uses_of r) (field_bounds r.form)
 
 -- the word to search an instruction by is 0 in the bits that its form has for no field and no code
 unfoldable pub are_unused_bits_zero : Form → ℕ → Bool
@@ -109,5 +109,5 @@ are_unused_bits_zero Slr w = true
 are_unused_bits_zero Ssr w = true
 
 -- the word with the low two bytes of a, and the rest of b
-abbrev pub mix_two_bytes : ℕ → ℕ → ℕ
-mix_two_bytes a b = a % 2 ^ 16 + b / 2 ^ 16 * 2 ^ 16
+abbrev pub with_low_two_bytes : ℕ → ℕ → ℕ
+with_low_two_bytes a b = a % 2 ^ 16 + b / 2 ^ 16 * 2 ^ 16

@@ -1,10 +1,10 @@
 // Beginnings of instructions: whether fewer bytes than an instruction has can be completed.
 ghost use Rattle.std.specs.Prelude.{◌≡◌, ◌<◌, ◌≤◌, ◌%◌, IfSome, IfNone, slice_get, Some};
-ghost use Rattle.tc_isa.specs.Rows.{row_of, listed};
+ghost use Rattle.tc_isa.specs.Rows.{row_of, table_rows};
 ghost use Rattle.tc_isa.specs.ValidRowFields.{least_fields};
 ghost use Rattle.tc_isa.specs.Insts.{InstData};
 ghost use Rattle.tc_encode.specs.Decoding.{decoded_row_length, decoded_length};
-ghost use Rattle.tc_encode.specs.WordSearch.{IsCompletionOf, word_part_span};
+ghost use Rattle.tc_encode.specs.WordSearch.{IsCompletionOf, power_of_256};
 
 use crate::decoding::decode_row_word;
 use crate::forms::word_of_fields;
@@ -15,7 +15,7 @@ use tc_isa::{Fields, Inst, ROW_COUNT, Row, rows};
 pub fn completion(first: u8, n: u8, part: u32) -> Option<Inst>
     requires low { 1 ≤ n }
     requires high { n < decoded_length first }
-    requires part { part < word_part_span n }
+    requires part { part < power_of_256 n }
     requires first { first ≡ part % 256 }
     ensures some { IfSome result (IsCompletionOf n part) }
     ensures none { IfNone result ((i : InstData) → IsCompletionOf n part i → ⊥) }
@@ -31,7 +31,7 @@ fn completion_in_rows(from: u8, to: u8, first: u8, n: u8, part: u32) -> Option<I
     requires places { to ≤ ROW_COUNT }
     requires low { 1 ≤ n }
     requires high { n < decoded_length first }
-    requires part { part < word_part_span n }
+    requires part { part < power_of_256 n }
     requires first { first ≡ part % 256 }
     ensures some { IfSome result (IsCompletionOf n part) }
     ensures none { IfNone result
@@ -51,7 +51,7 @@ fn completion_at_row(place: u8, first: u8, n: u8, part: u32) -> Option<Inst>
     requires place { place < ROW_COUNT }
     requires low { 1 ≤ n }
     requires high { n < decoded_length first }
-    requires part { part < word_part_span n }
+    requires part { part < power_of_256 n }
     requires first { first ≡ part % 256 }
     ensures some { IfSome result (IsCompletionOf n part) }
     ensures none { IfNone result ((i : InstData) → IsCompletionOf n part i → i.row ≡ place → ⊥) }
@@ -66,10 +66,10 @@ fn completion_at_row(place: u8, first: u8, n: u8, part: u32) -> Option<Inst>
 /// Returns an instruction of this row of the table that begins with these `n` low bytes of a word,
 /// if there is one.
 fn completion_in_row(place: u8, row: &Row, n: u8, part: u32) -> Option<Inst>
-    requires place { slice_get listed place ≡ Some (row_of row.now) }
+    requires place { slice_get table_rows place ≡ Some (row_of row.now) }
     requires low { 1 ≤ n }
     requires high { n ≤ 3 }
-    requires part { part < word_part_span n }
+    requires part { part < power_of_256 n }
     requires longer { n < decoded_row_length (row_of row.now) }
     ensures some { IfSome result (IsCompletionOf n part) }
     ensures none { IfNone result ((i : InstData) → IsCompletionOf n part i → i.row ≡ place → ⊥) }
@@ -102,7 +102,7 @@ fn least_completion_fields(row: &Row) -> Fields
 fn power_of_256(n: u8) -> u32
     requires low { 1 ≤ n }
     requires high { n ≤ 3 }
-    ensures span { result ≡ word_part_span n }
+    ensures span { result ≡ power_of_256 n }
     ensures some { 0 < result }
 {
     match n {

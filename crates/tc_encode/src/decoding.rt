@@ -3,7 +3,7 @@ ghost use Rattle.std.specs.Prelude.{◌≡◌, ◌↔◌, Ok, ◌<◌, ◌≤◌
 ghost use Rattle.tc_isa.specs.Insts.{InstData};
 ghost use Rattle.tc_encode.specs.Decoding.{BeginsWith, IsInstPrefix, decoded_of, decoded_length};
 ghost use Rattle.tcd_base.specs.Bytes.{number_from_bytes};
-ghost use Rattle.tc_isa.specs.Rows.{row_of, listed};
+ghost use Rattle.tc_isa.specs.Rows.{row_of, table_rows};
 ghost use Rattle.tc_encode.specs.WordSearch.{IsWordOf};
 
 use crate::completions::completion;
@@ -31,7 +31,7 @@ pub fn decode(bytes: &[u8]) -> Result<(Inst, usize), DecodeErr>
 
 /// Returns the instruction of this row of the table whose word this is, if there is one.
 pub(crate) fn decode_row_word(place: u8, row: &Row, w: u32) -> Option<Inst>
-    requires { slice_get listed place ≡ Some (row_of row.now) }
+    requires { slice_get table_rows place ≡ Some (row_of row.now) }
     ensures some { IfSome result (IsWordOf w) }
     ensures place { IfSome result (λ i. i.row ≡ place) }
     ensures none { IfNone result ((i : InstData) → IsWordOf w i → i.row ≡ place → ⊥) }

@@ -1,8 +1,8 @@
 // Index of the rows by their codes. Printed by tools/rows.py.
 ghost use Rattle.std.specs.Prelude.{◌≡◌, length, map, true, nat_le, nat_lt, ◌<◌, ℕ, IfSome, slice_get, Some};
 ghost use Rattle.std.specs.List.{list_all};
-ghost use Rattle.tc_isa.specs.Rows.{listed, RowData};
-ghost use Rattle.tc_encode.specs.WordSearch.{are_in_index_ranges, are_at_index_places, is_plain_row};
+ghost use Rattle.tc_isa.specs.Rows.{table_rows, RowData};
+ghost use Rattle.tc_encode.specs.WordSearch.{are_in_index_ranges, are_at_index_places, is_full_row};
 ghost use Rattle.tc_isa.specs.Forms.{form_index};
 
 use tc_isa::{Form, ROW_COUNT, rows};
@@ -41,7 +41,7 @@ pub fn index_by_first_byte() -> (&'static [u8; 256], &'static [u8; 256])
     ensures starts { length result.0.now ≡ 256 }
     ensures start_within { list_all (λ n. nat_lt n ROW_COUNT) result.0.now ≡ true }
     ensures ends { length result.1.now ≡ 256 }
-    ensures all { are_in_index_ranges result.0.now result.1.now 0 listed ≡ true }
+    ensures all { are_in_index_ranges result.0.now result.1.now 0 table_rows ≡ true }
     ensures within { list_all (λ n. nat_le n ROW_COUNT) result.1.now ≡ true }
 {
     (&STARTS, &ENDS)
@@ -88,7 +88,7 @@ static PLACES: [u8; PLACE_COUNT] = [
 pub fn index_by_codes() -> (&'static [u16; 256], &'static [u8; PLACE_COUNT])
     ensures bases { length result.0.now ≡ 256 }
     ensures places { length result.1.now ≡ PLACE_COUNT }
-    ensures all { are_at_index_places result.0.now result.1.now 0 listed ≡ true }
+    ensures all { are_at_index_places result.0.now result.1.now 0 table_rows ≡ true }
     ensures within { list_all (λ n. nat_lt n ROW_COUNT) result.1.now ≡ true }
 {
     (&BASES, &PLACES)
@@ -241,9 +241,9 @@ static PLAIN: [bool; ROW_COUNT] = [
 ];
 
 /// Returns for each row of the index, by its place, whether it has all fields of its form.
-#[tactic(auto, unfolding(tc_isa::specs::Forms::bounds))]
+#[tactic(auto, unfolding(tc_isa::specs::Forms::field_bounds))]
 pub fn full_rows() -> &'static [bool; ROW_COUNT]
-    ensures { result.now ≡ map is_plain_row listed }
+    ensures { result.now ≡ map is_full_row table_rows }
 {
     &PLAIN
 }
@@ -252,7 +252,7 @@ pub fn full_rows() -> &'static [bool; ROW_COUNT]
 /// means nothing.
 pub(crate) fn row_number_by_codes(first: u8, second: u8) -> Option<u8>
     ensures within { IfSome result (λ p. p < ROW_COUNT) }
-    ensures only { (place : ℕ) (r : RowData) → slice_get listed place ≡ Some r → r.op1 ≡ first
+    ensures only { (place : ℕ) (r : RowData) → slice_get table_rows place ≡ Some r → r.op1 ≡ first
         → r.op2 ≡ second → result ≡ Some place }
 {
     let (bases, places) = index_by_codes();
@@ -266,7 +266,7 @@ pub(crate) fn row_number_by_codes(first: u8, second: u8) -> Option<u8>
 
 /// Returns the form of the rows that begin with this byte. If there are none, any form will do.
 pub(crate) fn form_of_first_byte(first: u8) -> Form
-    ensures { (place : ℕ) (r : RowData) → slice_get listed place ≡ Some r → r.op1 ≡ first
+    ensures { (place : ℕ) (r : RowData) → slice_get table_rows place ≡ Some r → r.op1 ≡ first
         → form_index r.form ≡ form_index result }
 {
     let (starts, _) = index_by_first_byte();

@@ -1,7 +1,7 @@
 // Finds the instruction of a word by the index of codes.
 ghost use Rattle.std.specs.Prelude.{◌≡◌, ◌<◌, ◌%◌, ◌^◌, ℕ, IfSome, IfNone, slice_get, Some};
-ghost use Rattle.tc_isa.specs.Rows.{RowData, row_of, listed};
-ghost use Rattle.tc_isa.specs.Forms.{second_code_by_form, bounds};
+ghost use Rattle.tc_isa.specs.Rows.{RowData, row_of, table_rows};
+ghost use Rattle.tc_isa.specs.Forms.{second_code_by_form, field_bounds};
 ghost use Rattle.tc_isa.specs.InBounds.{AreFieldsBelow};
 ghost use Rattle.tc_isa.specs.ValidRowFields.{uses_of, are_unused_fields_zero};
 ghost use Rattle.tc_isa.specs.Insts.{InstData};
@@ -31,7 +31,7 @@ pub fn find_by_word(w: u32) -> Option<Inst>
 /// Returns the instruction of this row, which has the word's codes, if the rest of the word is its
 /// spelling.
 pub(crate) fn find_word_in_row(place: u8, row: &Row, w: u32) -> Option<Inst>
-    requires place { slice_get listed place ≡ Some (row_of row.now) }
+    requires place { slice_get table_rows place ≡ Some (row_of row.now) }
     requires within { place < ROW_COUNT }
     requires first { row.now.op1 ≡ w % 256 }
     requires second { row.now.op2 ≡ second_code_by_form row.now.form w }
@@ -63,7 +63,7 @@ pub(crate) fn find_word_in_row(place: u8, row: &Row, w: u32) -> Option<Inst>
 pub(crate) fn find_word_by_codes(place: u8, first: u8, second: u8, w: u32) -> Option<Inst>
     requires place { place < ROW_COUNT }
     requires first { first ≡ w % 256 }
-    requires second { (r : RowData) → slice_get listed place ≡ Some r → r.op1 ≡ first
+    requires second { (r : RowData) → slice_get table_rows place ≡ Some r → r.op1 ≡ first
         → second ≡ second_code_by_form r.form w }
     requires short { w % 2 ≡ 0 → w < 2 ^ 16 }
     ensures some { IfSome result (IsWordOf w) }
@@ -83,7 +83,7 @@ pub(crate) fn find_word_by_codes(place: u8, first: u8, second: u8, w: u32) -> Op
 /// Returns the second operation code in a word, by the form of the table's rows that begin with
 /// this byte.
 fn second_code_by_first_byte(first: u8, w: u32) -> u8
-    ensures { (place : ℕ) (r : RowData) → slice_get listed place ≡ Some r → r.op1 ≡ first
+    ensures { (place : ℕ) (r : RowData) → slice_get table_rows place ≡ Some r → r.op1 ≡ first
         → result ≡ second_code_by_form r.form w }
 {
     second_code(form_of_first_byte(first), w)
@@ -104,9 +104,9 @@ fn are_unused_bits_zero(form: Form, w: u32) -> bool
 
 /// Returns true if the fields of a word that the row at this place doesn't have are 0.
 fn are_missing_fields_zero(place: u8, row: &Row, f: &Fields) -> bool
-    requires place { slice_get listed place ≡ Some (row_of row.now) }
+    requires place { slice_get table_rows place ≡ Some (row_of row.now) }
     requires within { place < ROW_COUNT }
-    requires below { AreFieldsBelow f.now (bounds row.now.form) }
+    requires below { AreFieldsBelow f.now (field_bounds row.now.form) }
     ensures { result ≡ are_unused_fields_zero (uses_of (row_of row.now)) f.now }
 {
     let at = usize::from(place);

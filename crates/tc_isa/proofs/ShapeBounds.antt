@@ -22,8 +22,8 @@ use Rattle.tc_isa.specs.declared.row_meanings.TheConstants.{MEANINGS}
 use Rattle.tc_isa.specs.declared.table.TheConstants.{ROW_COUNT}
 use Rattle.tc_isa.specs.declared.shapes.Shape.{Shape}
 use Rattle.tc_isa.specs.declared.shapes.Shape.TheVariants.{Ret, Rfe, Svlcx, Rslcx, Enable, Disable, Nothing}
-use Rattle.tc_isa.specs.Insts.{InstData, IsInst, fields_in}
-use Rattle.tc_isa.specs.Rows.{listed}
+use Rattle.tc_isa.specs.Insts.{InstData, IsInst, inst_fields}
+use Rattle.tc_isa.specs.Rows.{table_rows}
 use Rattle.tc_isa.specs.Meanings.{meanings, shape_of}
 use Rattle.tc_isa.specs.InBounds.{IsRegister, IsArg, IsTarget, IsShapeAccessSize, IsShape, AreFieldsSmall}
 use Rattle.tcd_base.specs.Bytes.{IsWord}
@@ -127,7 +127,7 @@ pub shape_is : (i : InstData) → IsInst i → IsShape (shape_of i)
 shape_is i is =
     let within : i.row < length MEANINGS = subst (λ n. i.row < n) (sym count) (row_below i is) in
     subst IsShape (shaped MEANINGS i.row Masks i are_listed refl is)
-    (meant_is (get_or MEANINGS i.row Masks) (fields_in i) (small i is) (AllPass-from_list_all is_sound MEANINGS all_sound i.row Masks within))
+    (meant_is (get_or MEANINGS i.row Masks) (inst_fields i) (small i is) (AllPass-from_list_all is_sound MEANINGS all_sound i.row Masks within))
 
-pub names_listed : map (λ l. l.name) meanings ≡ map (λ r. r.name) listed
+pub names_listed : map (λ l. l.name) meanings ≡ map (λ r. r.name) table_rows
 names_listed = refl

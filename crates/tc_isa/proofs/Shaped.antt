@@ -9,37 +9,37 @@ use Rattle.tc_isa.specs.declared.shapes.Shape.{Shape}
 use Rattle.tc_isa.specs.declared.table.TheConstants.{ROW_COUNT}
 use Rattle.tc_isa.specs.declared.table.Form.{Form}
 use Rattle.tc_isa.specs.declared.table.Form.TheVariants.{Rlc}
-use Rattle.tc_isa.specs.Rows.{listed}
-use Rattle.tc_isa.specs.Forms.{bounds}
+use Rattle.tc_isa.specs.Rows.{table_rows}
+use Rattle.tc_isa.specs.Forms.{field_bounds}
 use Rattle.tc_isa.specs.InBounds.{AreFieldsBelow, AreFieldsSmall}
-use Rattle.tc_isa.specs.Insts.{InstData, IsInst, fields_in}
+use Rattle.tc_isa.specs.Insts.{InstData, IsInst, inst_fields}
 use Rattle.tc_isa.specs.Meanings.{MeaningLine, meanings, meaning_by_line, shape_of}
 use Rattle.tc_isa.specs.FromFields.{shape_from_fields}
 
 -- bounds of the fields of a form
-small_in : (form : Form) (f : Fields) → AreFieldsBelow f (bounds form) → AreFieldsSmall f
-unfolding bounds
+small_in : (form : Form) (f : Fields) → AreFieldsBelow f (field_bounds form) → AreFieldsSmall f
+unfolding field_bounds
 small_in Rlc f b = record { c = omega arith; s1 = omega arith; s2 = omega arith; n = omega arith; k = omega arith }
 small_in _ f b = record { c = omega arith; s1 = omega arith; s2 = omega arith; n = omega arith; k = omega arith }
 
-pub small : (i : InstData) → IsInst i → AreFieldsSmall (fields_in i)
-small i is = small_in is.row.form (fields_in i) is.fits.below
+pub small : (i : InstData) → IsInst i → AreFieldsSmall (inst_fields i)
+small i is = small_in is.row.form (inst_fields i) is.fits.below
 
-count_listed : length listed ≡ ROW_COUNT
+count_listed : length table_rows ≡ ROW_COUNT
 count_listed = refl
 
 count_meanings : length meanings ≡ ROW_COUNT
 count_meanings = refl
 
 pub row_below : (i : InstData) → IsInst i → i.row < ROW_COUNT
-row_below i is = subst (λ n. i.row < n) count_listed (slice_get_within listed i.row is.row is.at)
+row_below i is = subst (λ n. i.row < n) count_listed (slice_get_within table_rows i.row is.row is.at)
 
 pub meanings_enough : (ms : List Meaning) (p : ℕ) (i : InstData) → map shape_from_fields ms ≡ map (λ l. l.shape) meanings → p ≡ i.row → IsInst i → p < length ms
 meanings_enough ms p i are same is =
     let count : length ms ≡ ROW_COUNT = sym (length-map ms shape_from_fields) ∙ ap length are ∙ length-map meanings (λ (l : MeaningLine). l.shape) ∙ count_meanings in
     omega (arith, count, row_below i is, same)
 
-pub shaped : (ms : List Meaning) (p : ℕ) (d : Meaning) (i : InstData) → map shape_from_fields ms ≡ map (λ l. l.shape) meanings → p ≡ i.row → IsInst i → shape_from_fields (get_or ms p d) (fields_in i) ≡ shape_of i
+pub shaped : (ms : List Meaning) (p : ℕ) (d : Meaning) (i : InstData) → map shape_from_fields ms ≡ map (λ l. l.shape) meanings → p ≡ i.row → IsInst i → shape_from_fields (get_or ms p d) (inst_fields i) ≡ shape_of i
 unfolding shape_of
 shaped ms p d i are same is =
     let within = meanings_enough ms p i are same is in
@@ -48,4 +48,4 @@ shaped ms p d i are same is =
     let one : shape_from_fields (get_or ms p d) ≡ (get_or meanings p e).shape =
     sym (get_or-map shape_from_fields ms p d (shape_from_fields d) within) ∙ ap (λ (fs : List (Fields → Shape)). get_or fs p (shape_from_fields d)) are ∙ get_or-map (λ (l : MeaningLine). l.shape) meanings p e (shape_from_fields d) there in
     let line : meaning_by_line (slice_get meanings i.row) ≡ (get_or meanings p e).shape = ap (λ q. meaning_by_line (slice_get meanings q)) (sym same) ∙ ap meaning_by_line (slice_get-get_or meanings p e there) in
-    ap (λ (m : Fields → Shape). m (fields_in i)) (one ∙ sym line)
+    ap (λ (m : Fields → Shape). m (inst_fields i)) (one ∙ sym line)

@@ -2,9 +2,9 @@
 use Rattle.std.proofs.Common.{◌≡◌, ℕ, ◌+◌, ◌*◌, ◌%◌, ◌^◌, ◌<◌, inl, inr, arith}
 use Rattle.std.proofs.lemmas.Bool.{cases_lt, lt-ltb, le-ltb}
 use Rattle.tc_isa.specs.Arithmetic.{sign_extended}
-use Rattle.tc_isa.specs.NamedInstructions.{upper_half, lower_half}
+use Rattle.tc_isa.specs.NamedInstructions.{adjusted_upper_half, lower_half}
 
-pub halves_join : (x : ℕ) → x < 2 ^ 32 → (upper_half x * 2 ^ 16 % 2 ^ 32 + sign_extended 16 (lower_half x % 2 ^ 16)) % 2 ^ 32 ≡ x
+pub halves_join : (x : ℕ) → x < 2 ^ 32 → (adjusted_upper_half x * 2 ^ 16 % 2 ^ 32 + sign_extended 16 (lower_half x % 2 ^ 16)) % 2 ^ 32 ≡ x
 halves_join x h =
     elim (cases_lt (lower_half x % 2 ^ 16) (2 ^ 15)) [
       | inl low ↦ rw (lt-ltb (lower_half x % 2 ^ 16) (2 ^ 15) low) (omega arith)

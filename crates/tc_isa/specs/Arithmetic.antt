@@ -13,8 +13,8 @@ sign_extended n x = sext_of x n
 
 -- a word plus 2^31, modulo 2^32, for signed comparisons in the arithmetic of instructions: these
 -- numbers compare as the signed words do
-abbrev pub signed_order_place : ℕ → ℕ
-signed_order_place x = (x + 2 ^ 31) % 2 ^ 32
+abbrev pub signed_rank : ℕ → ℕ
+signed_rank x = (x + 2 ^ 31) % 2 ^ 32
 
 -- the word with all bits inverted
 abbrev pub complement : ℕ → ℕ
@@ -24,14 +24,14 @@ complement x = 2 ^ 32 - 1 - x
 unfoldable pub taken_of : Cond → ℕ → ℕ → Bool
 taken_of cond.Eq x y = x == y
 taken_of cond.Ne x y = not (x == y)
-taken_of cond.Lt x y = nat_lt (signed_order_place x) (signed_order_place y)
+taken_of cond.Lt x y = nat_lt (signed_rank x) (signed_rank y)
 taken_of cond.LtU x y = nat_lt x y
-taken_of cond.Ge x y = nat_le (signed_order_place y) (signed_order_place x)
+taken_of cond.Ge x y = nat_le (signed_rank y) (signed_rank x)
 taken_of cond.GeU x y = nat_le y x
 
 -- the word that a comparison gives: 1 for true, 0 for false
-abbrev pub one_if : Bool → ℕ
-one_if b = if b then 1 else 0
+abbrev pub word_of_bool : Bool → ℕ
+word_of_bool b = if b then 1 else 0
 
 -- the shift by a count of six bits: to the left if it is below 32, else to the right by 64 less the
 -- count, filled with zeros
@@ -55,11 +55,11 @@ alu_of op.Xor x y = bit_xor x y
 alu_of op.Xnor x y = complement (bit_xor x y)
 alu_of op.Andn x y = bit_and x (complement y)
 alu_of op.Orn x y = bit_or x (complement y)
-alu_of op.Eq x y = one_if (x == y)
-alu_of op.Ne x y = one_if (not (x == y))
-alu_of op.Lt x y = one_if (nat_lt (signed_order_place x) (signed_order_place y))
-alu_of op.LtU x y = one_if (nat_lt x y)
-alu_of op.Ge x y = one_if (nat_le (signed_order_place y) (signed_order_place x))
-alu_of op.GeU x y = one_if (nat_le y x)
+alu_of op.Eq x y = word_of_bool (x == y)
+alu_of op.Ne x y = word_of_bool (not (x == y))
+alu_of op.Lt x y = word_of_bool (nat_lt (signed_rank x) (signed_rank y))
+alu_of op.LtU x y = word_of_bool (nat_lt x y)
+alu_of op.Ge x y = word_of_bool (nat_le (signed_rank y) (signed_rank x))
+alu_of op.GeU x y = word_of_bool (nat_le y x)
 alu_of op.Sh x y = logical_shift x (y % 64)
 alu_of op.Sha x y = arithmetic_shift x (y % 64)

@@ -10,69 +10,69 @@ abbrev pub fields : ℕ → ℕ → ℕ → ℕ → ℕ → Fields
 fields c s1 s2 n k = record { c = c; s1 = s1; s2 = s2; n = n; k = k }
 
 -- the bounds of the fields of a form; 1 for a field that it doesn't have
-unfoldable pub bounds : Form → Fields
-bounds Rlc = fields 16 16 1 1 65536
-bounds Rr = fields 16 16 16 4 1
-bounds Rc = fields 16 16 1 1 512
-bounds Bol = fields 1 16 16 1 65536
-bounds Bo = fields 1 16 16 1 1024
-bounds Brr = fields 1 16 16 1 32768
-bounds Brc = fields 1 16 16 1 32768
-bounds B = fields 1 1 1 1 16777216
-bounds Abs = fields 1 16 1 1 262144
-bounds Sys = fields 1 1 1 1 1
-bounds Sr = fields 1 16 1 1 1
-bounds Sc = fields 1 1 1 1 256
-bounds Sb = fields 1 1 1 1 256
-bounds Sbr = fields 1 1 16 1 16
-bounds Src = fields 1 16 1 1 16
-bounds Srr = fields 1 16 16 1 1
-bounds Slr = fields 1 16 16 1 1
-bounds Ssr = fields 1 16 16 1 1
+unfoldable pub field_bounds : Form → Fields
+field_bounds Rlc = fields 16 16 1 1 65536
+field_bounds Rr = fields 16 16 16 4 1
+field_bounds Rc = fields 16 16 1 1 512
+field_bounds Bol = fields 1 16 16 1 65536
+field_bounds Bo = fields 1 16 16 1 1024
+field_bounds Brr = fields 1 16 16 1 32768
+field_bounds Brc = fields 1 16 16 1 32768
+field_bounds B = fields 1 1 1 1 16777216
+field_bounds Abs = fields 1 16 1 1 262144
+field_bounds Sys = fields 1 1 1 1 1
+field_bounds Sr = fields 1 16 1 1 1
+field_bounds Sc = fields 1 1 1 1 256
+field_bounds Sb = fields 1 1 1 1 256
+field_bounds Sbr = fields 1 1 16 1 16
+field_bounds Src = fields 1 16 1 1 16
+field_bounds Srr = fields 1 16 16 1 1
+field_bounds Slr = fields 1 16 16 1 1
+field_bounds Ssr = fields 1 16 16 1 1
 
 -- the bound, exclusive, of the second operation code in instructions of this form; 1 for a form
 -- without one
-unfoldable pub second_bound : Form → ℕ
-second_bound Rlc = 1
-second_bound Rr = 256
-second_bound Rc = 128
-second_bound Bol = 1
-second_bound Bo = 64
-second_bound Brr = 2
-second_bound Brc = 2
-second_bound B = 1
-second_bound Abs = 4
-second_bound Sys = 64
-second_bound Sr = 16
-second_bound Sc = 1
-second_bound Sb = 1
-second_bound Sbr = 1
-second_bound Src = 1
-second_bound Srr = 1
-second_bound Slr = 1
-second_bound Ssr = 1
+unfoldable pub second_code_bound : Form → ℕ
+second_code_bound Rlc = 1
+second_code_bound Rr = 256
+second_code_bound Rc = 128
+second_code_bound Bol = 1
+second_code_bound Bo = 64
+second_code_bound Brr = 2
+second_code_bound Brc = 2
+second_code_bound B = 1
+second_code_bound Abs = 4
+second_code_bound Sys = 64
+second_code_bound Sr = 16
+second_code_bound Sc = 1
+second_code_bound Sb = 1
+second_code_bound Sbr = 1
+second_code_bound Src = 1
+second_code_bound Srr = 1
+second_code_bound Slr = 1
+second_code_bound Ssr = 1
 
 -- the fields in the word of an instruction, from the bits where its form has them; 0 for a field
 -- that it doesn't have
-unfoldable pub fields_of : Form → ℕ → Fields
-fields_of Rlc w = fields (w / 2 ^ 28) (w / 2 ^ 8 % 16) (0) (0) (w / 2 ^ 12 % 2 ^ 16)
-fields_of Rr w = fields (w / 2 ^ 28) (w / 2 ^ 8 % 16) (w / 2 ^ 12 % 16) (w / 2 ^ 16 % 4) (0)
-fields_of Rc w = fields (w / 2 ^ 28) (w / 2 ^ 8 % 16) (0) (0) (w / 2 ^ 12 % 512)
-fields_of Bol w = fields (0) (w / 2 ^ 8 % 16) (w / 2 ^ 12 % 16) (0) (w / 2 ^ 28 * 64 + w / 2 ^ 22 % 64 * 1024 + w / 2 ^ 16 % 64)
-fields_of Bo w = fields (0) (w / 2 ^ 8 % 16) (w / 2 ^ 12 % 16) (0) (w / 2 ^ 28 * 64 + w / 2 ^ 16 % 64)
-fields_of Brr w = fields (0) (w / 2 ^ 8 % 16) (w / 2 ^ 12 % 16) (0) (w / 2 ^ 16 % 2 ^ 15)
-fields_of Brc w = fields (0) (w / 2 ^ 8 % 16) (w / 2 ^ 12 % 16) (0) (w / 2 ^ 16 % 2 ^ 15)
-fields_of B w = fields (0) (0) (0) (0) (w / 2 ^ 8 % 256 * 2 ^ 16 + w / 2 ^ 16)
-fields_of Abs w = fields (0) (w / 2 ^ 8 % 16) (0) (0) (w / 2 ^ 28 * 64 + w / 2 ^ 22 % 16 * 1024 + w / 2 ^ 16 % 64 + w / 2 ^ 12 % 16 * 2 ^ 14)
-fields_of Sys w = fields (0) (0) (0) (0) (0)
-fields_of Sr w = fields (0) (w / 2 ^ 8 % 16) (0) (0) (0)
-fields_of Sc w = fields (0) (0) (0) (0) (w / 2 ^ 8 % 256)
-fields_of Sb w = fields (0) (0) (0) (0) (w / 2 ^ 8 % 256)
-fields_of Sbr w = fields (0) (0) (w / 2 ^ 12 % 16) (0) (w / 2 ^ 8 % 16)
-fields_of Src w = fields (0) (w / 2 ^ 8 % 16) (0) (0) (w / 2 ^ 12 % 16)
-fields_of Srr w = fields (0) (w / 2 ^ 8 % 16) (w / 2 ^ 12 % 16) (0) (0)
-fields_of Slr w = fields (0) (w / 2 ^ 8 % 16) (w / 2 ^ 12 % 16) (0) (0)
-fields_of Ssr w = fields (0) (w / 2 ^ 8 % 16) (w / 2 ^ 12 % 16) (0) (0)
+unfoldable pub word_fields : Form → ℕ → Fields
+word_fields Rlc w = fields (w / 2 ^ 28) (w / 2 ^ 8 % 16) (0) (0) (w / 2 ^ 12 % 2 ^ 16)
+word_fields Rr w = fields (w / 2 ^ 28) (w / 2 ^ 8 % 16) (w / 2 ^ 12 % 16) (w / 2 ^ 16 % 4) (0)
+word_fields Rc w = fields (w / 2 ^ 28) (w / 2 ^ 8 % 16) (0) (0) (w / 2 ^ 12 % 512)
+word_fields Bol w = fields (0) (w / 2 ^ 8 % 16) (w / 2 ^ 12 % 16) (0) (w / 2 ^ 28 * 64 + w / 2 ^ 22 % 64 * 1024 + w / 2 ^ 16 % 64)
+word_fields Bo w = fields (0) (w / 2 ^ 8 % 16) (w / 2 ^ 12 % 16) (0) (w / 2 ^ 28 * 64 + w / 2 ^ 16 % 64)
+word_fields Brr w = fields (0) (w / 2 ^ 8 % 16) (w / 2 ^ 12 % 16) (0) (w / 2 ^ 16 % 2 ^ 15)
+word_fields Brc w = fields (0) (w / 2 ^ 8 % 16) (w / 2 ^ 12 % 16) (0) (w / 2 ^ 16 % 2 ^ 15)
+word_fields B w = fields (0) (0) (0) (0) (w / 2 ^ 8 % 256 * 2 ^ 16 + w / 2 ^ 16)
+word_fields Abs w = fields (0) (w / 2 ^ 8 % 16) (0) (0) (w / 2 ^ 28 * 64 + w / 2 ^ 22 % 16 * 1024 + w / 2 ^ 16 % 64 + w / 2 ^ 12 % 16 * 2 ^ 14)
+word_fields Sys w = fields (0) (0) (0) (0) (0)
+word_fields Sr w = fields (0) (w / 2 ^ 8 % 16) (0) (0) (0)
+word_fields Sc w = fields (0) (0) (0) (0) (w / 2 ^ 8 % 256)
+word_fields Sb w = fields (0) (0) (0) (0) (w / 2 ^ 8 % 256)
+word_fields Sbr w = fields (0) (0) (w / 2 ^ 12 % 16) (0) (w / 2 ^ 8 % 16)
+word_fields Src w = fields (0) (w / 2 ^ 8 % 16) (0) (0) (w / 2 ^ 12 % 16)
+word_fields Srr w = fields (0) (w / 2 ^ 8 % 16) (w / 2 ^ 12 % 16) (0) (0)
+word_fields Slr w = fields (0) (w / 2 ^ 8 % 16) (w / 2 ^ 12 % 16) (0) (0)
+word_fields Ssr w = fields (0) (w / 2 ^ 8 % 16) (w / 2 ^ 12 % 16) (0) (0)
 
 -- the second code in the word of an instruction, from the bits where its form has it; 0 for a form
 -- without one
@@ -97,25 +97,25 @@ second_code_by_form Slr w = 0
 second_code_by_form Ssr w = 0
 
 -- instructions of this form have 32 bits; those of the other forms have 16
-unfoldable pub is_long_form : Form → Bool
-is_long_form Rlc = true
-is_long_form Rr = true
-is_long_form Rc = true
-is_long_form Bol = true
-is_long_form Bo = true
-is_long_form Brr = true
-is_long_form Brc = true
-is_long_form B = true
-is_long_form Abs = true
-is_long_form Sys = true
-is_long_form Sr = false
-is_long_form Sc = false
-is_long_form Sb = false
-is_long_form Sbr = false
-is_long_form Src = false
-is_long_form Srr = false
-is_long_form Slr = false
-is_long_form Ssr = false
+unfoldable pub is_32_bit_form : Form → Bool
+is_32_bit_form Rlc = true
+is_32_bit_form Rr = true
+is_32_bit_form Rc = true
+is_32_bit_form Bol = true
+is_32_bit_form Bo = true
+is_32_bit_form Brr = true
+is_32_bit_form Brc = true
+is_32_bit_form B = true
+is_32_bit_form Abs = true
+is_32_bit_form Sys = true
+is_32_bit_form Sr = false
+is_32_bit_form Sc = false
+is_32_bit_form Sb = false
+is_32_bit_form Sbr = false
+is_32_bit_form Src = false
+is_32_bit_form Srr = false
+is_32_bit_form Slr = false
+is_32_bit_form Ssr = false
 
 -- the number of a form of instruction words, from 0 for RLC to 17 for SSR, so that forms can be
 -- compared

@@ -8,7 +8,7 @@ use Rattle.tc_isa.specs.declared.shapes.Shape.{Shape}
 use Rattle.tc_isa.specs.declared.shapes.Shape.TheVariants.{Compute, Scaled, Load, Store, Branch, Jump, Call, Ret, Rfe, Svlcx, Rslcx, Bisr, Enable, Disable, Syscall, Mfcr, Mtcr, Nothing}
 use Rattle.tc_isa.specs.declared.fields.Fields.{Fields}
 use Rattle.tcd_base.specs.Bytes.{IsWord}
-use Rattle.tc_isa.specs.Forms.{bounds}
+use Rattle.tc_isa.specs.Forms.{field_bounds}
 
 -- the number of a register in the shape of an instruction is in bounds: below 32
 abbrev pub IsRegister : ℕ → Type 0

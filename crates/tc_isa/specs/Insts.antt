@@ -1,6 +1,6 @@
 -- Instructions as plain data.
 use Rattle.std.specs.Prelude.{◌≡◌, ℕ, Some, slice_get}
-use Rattle.tc_isa.specs.Rows.{RowData, listed}
+use Rattle.tc_isa.specs.Rows.{RowData, table_rows}
 use Rattle.tc_isa.specs.declared.fields.Fields.{Fields}
 use Rattle.tc_isa.specs.Forms.{fields}
 use Rattle.tc_isa.specs.ValidRowFields.{FieldsFitRow}
@@ -15,11 +15,11 @@ pub record InstData : Type 0 where
   pub k : ℕ
 
 -- the fields of an instruction
-abbrev pub fields_in : InstData → Fields
-fields_in i = fields i.c i.s1 i.s2 i.n i.k
+abbrev pub inst_fields : InstData → Fields
+inst_fields i = fields i.c i.s1 i.s2 i.n i.k
 
 -- the instruction is valid: the table has a row of its number, and its fields fit the row
 pub record IsInst (i : InstData) : Type 0 where
   pub row : RowData
-  pub at : slice_get listed i.row ≡ Some row
-  pub fits : FieldsFitRow row (fields_in i)
+  pub at : slice_get table_rows i.row ≡ Some row
+  pub fits : FieldsFitRow row (inst_fields i)

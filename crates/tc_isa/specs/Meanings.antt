@@ -10,7 +10,7 @@ use Rattle.tc_isa.specs.declared.shapes.Target.TheVariants as target
 use Rattle.tc_isa.specs.declared.shapes.Shape.{Shape}
 use Rattle.tc_isa.specs.declared.shapes.Shape.TheVariants.{Compute, Scaled, Load, Store, Branch, Jump, Call, Ret, Rfe, Svlcx, Rslcx, Bisr, Enable, Disable, Syscall, Mfcr, Mtcr, Nothing}
 use Rattle.tc_isa.specs.Arithmetic.{sign_extended}
-use Rattle.tc_isa.specs.Insts.{InstData, fields_in}
+use Rattle.tc_isa.specs.Insts.{InstData, inst_fields}
 use Rattle.tc_isa.specs.FromFields.{a, address_in_constant, forward_distance, code_address_in_constant, d, doubled_displacement, high_constant, sk, uk}
 
 -- a meaning: what an instruction with given fields does
@@ -225,4 +225,4 @@ meaning_by_line (Some l) f = l.shape f
 
 -- what an instruction does, by the table of meanings: the meaning of its row, with its fields
 unfoldable pub shape_of : InstData → Shape
-shape_of i = meaning_by_line (slice_get meanings i.row) (fields_in i)
+shape_of i = meaning_by_line (slice_get meanings i.row) (inst_fields i)

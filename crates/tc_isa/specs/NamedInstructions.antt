@@ -110,5 +110,5 @@ lower_half x = x % 2 ^ 16
 
 -- the constant of a named instruction movh or movh.a: the upper half of a word, plus one if the
 -- lower half is negative, so that adding the signed lower half gives the word
-abbrev pub upper_half : ℕ → ℕ
-upper_half x = (x + 0x8000) / 2 ^ 16 % 2 ^ 16
+abbrev pub adjusted_upper_half : ℕ → ℕ
+adjusted_upper_half x = (x + 0x8000) / 2 ^ 16 % 2 ^ 16

@@ -23,8 +23,8 @@ row name operands form op1 op2 = record { name = name; operands = operands; form
 
 -- the rows of the instruction table, with the codes of the TriCore 1 Architecture Manual V1.3,
 -- volume 2, instruction set
-abbrev pub listed : List RowData
-listed =
+abbrev pub table_rows : List RowData
+table_rows =
     row (codes "addi") (codes "Dc, Ds1, sk") Rlc 0x1b 0x00 ∷
     row (codes "addih") (codes "Dc, Ds1, uk") Rlc 0x9b 0x00 ∷
     row (codes "addih.a") (codes "Ac, As1, uk") Rlc 0x11 0x00 ∷
@@ -170,5 +170,5 @@ listed =
     []
 
 -- the instructions of a row have 32 bits: their first byte, op1, is odd
-abbrev pub is_long : RowData → Bool
-is_long r = r.op1 % 2 == 1
+abbrev pub is_32_bit_row : RowData → Bool
+is_32_bit_row r = r.op1 % 2 == 1

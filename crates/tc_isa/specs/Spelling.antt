@@ -1,7 +1,7 @@
 -- The bytes of instructions (manual, volume 2, instruction formats).
 use Rattle.std.specs.Prelude.{◌≡◌, ℕ, List, slice_get, Bool, true, false, Option, Some, None, ◌+◌, ◌*◌, ◌/◌, ◌%◌, ◌^◌, []}
-use Rattle.tc_isa.specs.Insts.{InstData, IsInst, fields_in}
-use Rattle.tc_isa.specs.Rows.{RowData, listed, is_long}
+use Rattle.tc_isa.specs.Insts.{InstData, IsInst, inst_fields}
+use Rattle.tc_isa.specs.Rows.{RowData, table_rows, is_32_bit_row}
 use Rattle.tc_isa.specs.declared.fields.Fields.{Fields}
 use Rattle.tcd_base.specs.Bytes.{four_bytes, two_bytes}
 use Rattle.tc_isa.specs.declared.table.Form.{Form}
@@ -29,30 +29,30 @@ word_by_form Slr op1 op2 f = f.s2 * 2 ^ 12 + f.s1 * 2 ^ 8 + op1
 word_by_form Ssr op1 op2 f = f.s2 * 2 ^ 12 + f.s1 * 2 ^ 8 + op1
 
 -- the instruction of a row with these fields, as one number
-abbrev pub word_of : RowData → Fields → ℕ
-word_of r f = word_by_form r.form r.op1 r.op2 f
+abbrev pub row_word : RowData → Fields → ℕ
+row_word r f = word_by_form r.form r.op1 r.op2 f
 
 -- the bytes of an instruction of 32 bits or of 16
-abbrev pub spelling_of : Bool → ℕ → List ℕ
-spelling_of true w = four_bytes w
-spelling_of false w = two_bytes w
+abbrev pub four_or_two_bytes : Bool → ℕ → List ℕ
+four_or_two_bytes true w = four_bytes w
+four_or_two_bytes false w = two_bytes w
 
 -- the bytes of the instruction of a row with these fields
 abbrev pub spelling : RowData → Fields → List ℕ
-spelling r f = spelling_of (is_long r) (word_of r f)
+spelling r f = four_or_two_bytes (is_32_bit_row r) (row_word r f)
 
 -- The bytes spell the instruction: its row is listed, its fields fit, and the bytes are as many as
 -- the row's form has. They hold the row's codes and the fields where the form has them, and 0 in
 -- all other bits.
 pub record Spells (bytes : List ℕ) (i : InstData) : Type 0 where
   pub inst : IsInst i
-  pub is : bytes ≡ spelling inst.row (fields_in i)
+  pub is : bytes ≡ spelling inst.row (inst_fields i)
 
 -- the bytes of an instruction by its row of the table, if it has one
-abbrev pub spelling_by : Option RowData → InstData → List ℕ
-spelling_by None i = []
-spelling_by (Some r) i = spelling r (fields_in i)
+abbrev pub spelling_if_row : Option RowData → InstData → List ℕ
+spelling_if_row None i = []
+spelling_if_row (Some r) i = spelling r (inst_fields i)
 
 -- the bytes of an instruction
 abbrev pub instruction_bytes : InstData → List ℕ
-instruction_bytes i = spelling_by (slice_get listed i.row) i
+instruction_bytes i = spelling_if_row (slice_get table_rows i.row) i

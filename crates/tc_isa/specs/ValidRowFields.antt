@@ -1,10 +1,10 @@
 -- Valid rows: the fields that a row has, the fields that fit it, and that no two rows clash.
 use Rattle.std.specs.Prelude.{◌≡◌, ◌<◌, ◌==◌, ◌&&◌, ◌||◌, not, ℕ, List, ◌∷◌, Bool, true, false, nat_lt, if◌then◌else◌, []}
 use Rattle.std.specs.List.{list_any}
-use Rattle.tc_isa.specs.Rows.{RowData, is_long}
+use Rattle.tc_isa.specs.Rows.{RowData, is_32_bit_row}
 use Rattle.tc_isa.specs.declared.fields.Fields.{Fields}
 use Rattle.tc_isa.specs.declared.fields.Uses.{Uses}
-use Rattle.tc_isa.specs.Forms.{bounds, second_bound, fields, is_long_form, form_index}
+use Rattle.tc_isa.specs.Forms.{field_bounds, second_code_bound, fields, is_32_bit_form, form_index}
 use Rattle.tc_isa.specs.InBounds.{AreFieldsBelow, are_fields_below}
 
 -- these two characters stand side by side in the text of a row's operands: s1 or s2 for the field
@@ -35,15 +35,15 @@ are_unused_fields_zero u f = (u.c || f.c == 0) && (u.s1 || f.s1 == 0) && (u.s2 |
 
 -- the registers are valid for the row: in ld.a and st.a with post-increment, the address register
 -- that is loaded or stored isn't the base
-abbrev pub are_registers_apart : RowData → Fields → Bool
-are_registers_apart r f = not ((r.op1 == 9 || r.op1 == 137) && r.op2 == 6) || not (f.s1 == f.s2)
+abbrev pub are_registers_allowed : RowData → Fields → Bool
+are_registers_allowed r f = not ((r.op1 == 9 || r.op1 == 137) && r.op2 == 6) || not (f.s1 == f.s2)
 
 -- the fields are valid for the row: below the bounds of its form, 0 if the row doesn't have them,
 -- and with its registers apart
 pub record FieldsFitRow (r : RowData) (f : Fields) : Type 0 where
-  pub below : AreFieldsBelow f (bounds r.form)
+  pub below : AreFieldsBelow f (field_bounds r.form)
   pub zero : are_unused_fields_zero (uses_of r) f ≡ true
-  pub apart : are_registers_apart r f ≡ true
+  pub apart : are_registers_allowed r f ≡ true
 
 -- two truth values are equal, as those must be that say whether a valid row and its form are long
 abbrev pub are_bools_equal : Bool → Bool → Bool
@@ -52,18 +52,18 @@ are_bools_equal false b = not b
 
 -- the least fields that fit a valid row: all 0, except an address register that can't be the base
 abbrev pub least_fields : RowData → Fields
-least_fields r = if are_registers_apart r (fields 0 0 0 0 0) then fields 0 0 0 0 0 else fields 0 1 0 0 0
+least_fields r = if are_registers_allowed r (fields 0 0 0 0 0) then fields 0 0 0 0 0 else fields 0 1 0 0 0
 
 -- a row of the instruction table is valid: its codes fit the form, and its least fields the row
 pub record IsRow (r : RowData) : Type 0 where
   pub first : r.op1 < 256
-  pub second : r.op2 < second_bound r.form
+  pub second : r.op2 < second_code_bound r.form
   pub has_least : FieldsFitRow r (least_fields r)
-  pub size : is_long r ≡ is_long_form r.form
+  pub size : is_32_bit_row r ≡ is_32_bit_form r.form
 
 -- the test of IsRow
 unfoldable pub is_row : RowData → Bool
-is_row r = nat_lt r.op1 256 && nat_lt r.op2 (second_bound r.form) && are_fields_below (least_fields r) (bounds r.form) && are_unused_fields_zero (uses_of r) (least_fields r) && are_registers_apart r (least_fields r) && are_bools_equal (is_long r) (is_long_form r.form)
+is_row r = nat_lt r.op1 256 && nat_lt r.op2 (second_code_bound r.form) && are_fields_below (least_fields r) (field_bounds r.form) && are_unused_fields_zero (uses_of r) (least_fields r) && are_registers_allowed r (least_fields r) && are_bools_equal (is_32_bit_row r) (is_32_bit_form r.form)
 
 -- two rows clash if some word could be both: they have one first code, and different forms or equal
 -- second codes

@@ -1,6 +1,6 @@
 // Arithmetic and comparisons of 32-bit words.
 ghost use Rattle.std.specs.Prelude.{◌≡◌, ◌<◌};
-ghost use Rattle.tc_isa.specs.Arithmetic.{alu_of, taken_of, logical_shift, arithmetic_shift, signed_order_place, complement, one_if};
+ghost use Rattle.tc_isa.specs.Arithmetic.{alu_of, taken_of, logical_shift, arithmetic_shift, signed_rank, complement, word_of_bool};
 
 use crate::{Cond, Op};
 
@@ -58,7 +58,7 @@ fn complement(x: u32) -> u32
 
 /// Returns 1 for true and 0 for false.
 fn word_of_bool(b: bool) -> u32
-    ensures { result ≡ one_if b }
+    ensures { result ≡ word_of_bool b }
 {
     if b { 1 } else { 0 }
 }
@@ -66,7 +66,7 @@ fn word_of_bool(b: bool) -> u32
 /// Returns a word plus 2^31, modulo 2^32, for signed comparisons. As unsigned numbers, these
 /// compare as the signed words do.
 fn signed_rank(x: u32) -> u32
-    ensures { result ≡ signed_order_place x }
+    ensures { result ≡ signed_rank x }
 {
     x.wrapping_add(0x8000_0000)
 }

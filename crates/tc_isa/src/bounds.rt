@@ -1,15 +1,15 @@
 // The bounds of the operand fields, form by form.
 ghost use Rattle.std.specs.Prelude.{◌≡◌, ◌↔◌, IsTrue};
-ghost use Rattle.tc_isa.specs.Forms.{bounds};
+ghost use Rattle.tc_isa.specs.Forms.{field_bounds};
 ghost use Rattle.tc_isa.specs.InBounds.{AreFieldsBelow};
 
 use crate::{Fields, Form};
 
 /// Returns the bounds of a form's fields, all exclusive. A field that the form doesn't have has the
 /// bound 1.
-#[tactic(auto, unfolding(crate::specs::Forms::bounds))]
+#[tactic(auto, unfolding(crate::specs::Forms::field_bounds))]
 pub fn field_bounds(form: Form) -> Fields
-    ensures { result ≡ bounds form }
+    ensures { result ≡ field_bounds form }
 {
     match form {
         Form::Rlc => Fields {

@@ -1,7 +1,7 @@
 // Builds an instruction from the number of a row, if the fields fit the row.
 ghost use Rattle.std.specs.Prelude.{◌≡◌, ◌↔◌, IsTrue, IsSome, IfSome};
 ghost use Rattle.tc_isa.specs.Rows.{row_of};
-ghost use Rattle.tc_isa.specs.ValidRowFields.{FieldsFitRow, uses_of, are_registers_apart};
+ghost use Rattle.tc_isa.specs.ValidRowFields.{FieldsFitRow, uses_of, are_registers_allowed};
 ghost use Rattle.tc_isa.specs.Insts.{IsInst};
 
 use crate::bounds::{are_fields_below, field_bounds};
@@ -48,7 +48,7 @@ pub fn inst(row: u8, c: u8, s1: u8, s2: u8, n: u8, k: u32) -> Option<Inst>
 /// with post-increment can't be the base too.
 #[inline(always)]
 pub fn are_registers_allowed(row: &Row, f: &Fields) -> bool
-    ensures { result ≡ are_registers_apart (row_of row.now) f.now }
+    ensures { result ≡ are_registers_allowed (row_of row.now) f.now }
 {
     !((row.op1 == LOAD_AFTER || row.op1 == STORE_AFTER) && row.op2 == OF_ADDRESS) || f.s1 != f.s2
 }

@@ -5,7 +5,7 @@ ghost use Rattle.tc_isa.specs.NamedInstructions as named;
 /// Returns the constant of `movh` for a word: its upper half, plus one if the lower half, which
 /// `addi` or `lea` adds, is negative.
 pub fn adjusted_upper_half(x: u32) -> u32
-    ensures is { result ≡ named.upper_half x }
+    ensures is { result ≡ named.adjusted_upper_half x }
     ensures small { result < 2 ^ 16 }
 {
     ((u64::from(x) + 0x8000) / 0x1_0000 % 0x1_0000) as u32

@@ -1,6 +1,6 @@
 // The fields that each row has, as its operands say. Printed by tools/rows.py.
 ghost use Rattle.std.specs.Prelude.{◌≡◌, map};
-ghost use Rattle.tc_isa.specs.Rows.{listed};
+ghost use Rattle.tc_isa.specs.Rows.{table_rows};
 ghost use Rattle.tc_isa.specs.ValidRowFields.{uses_of, are_unused_fields_zero};
 
 use crate::{Fields, ROW_COUNT, Uses};
@@ -248,7 +248,7 @@ static USES: [Uses; ROW_COUNT] = [
 
 /// Returns which fields the instructions of each row of the table have, in the order of the rows.
 pub fn uses_by_row() -> &'static [Uses]
-    ensures { result.now ≡ map uses_of listed }
+    ensures { result.now ≡ map uses_of table_rows }
 {
     &USES
 }

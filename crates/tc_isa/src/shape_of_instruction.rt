@@ -1,7 +1,7 @@
 // What an instruction does, from the meaning of its row.
 ghost use Rattle.std.specs.Prelude.{◌≡◌, map};
 ghost use Rattle.tc_isa.specs.Insts.{InstData, IsInst};
-ghost use Rattle.tc_isa.specs.Rows.{listed};
+ghost use Rattle.tc_isa.specs.Rows.{table_rows};
 ghost use Rattle.tc_isa.specs.Meanings.{shape_of, meanings};
 ghost use Rattle.tc_isa.specs.InBounds.{IsShape, AreFieldsSmall};
 ghost use Rattle.tc_isa.specs.FromFields.{shape_register, shape_operand, shape_distance, shape_target, shape_from_fields, shape_constant};
@@ -30,7 +30,7 @@ pub fn shape(inst: &Inst) -> Shape
 /// 1, 2 or 4; and the table of meanings has the names of the rows.
 pub fn shape_laws()
     ensures bounded { (i : InstData) → IsInst i → IsShape (shape_of i) }
-    ensures names { map (λ l. l.name) meanings ≡ map (λ r. r.name) listed }
+    ensures names { map (λ l. l.name) meanings ≡ map (λ r. r.name) table_rows }
 {}
 
 /// Returns the word of a constant in what an instruction does (its shape), from its fields by the

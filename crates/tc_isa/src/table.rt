@@ -1,6 +1,6 @@
 // The rows of the instruction table, in their order. Written by hand; other tables follow from it.
 ghost use Rattle.std.specs.Prelude.{◌≡◌, length, map};
-ghost use Rattle.tc_isa.specs.Rows.{listed, row_of};
+ghost use Rattle.tc_isa.specs.Rows.{table_rows, row_of};
 
 /// A form: the layout of an instruction's codes and fields (manual, volume 2, instruction formats).
 #[derive(Clone, Copy, Debug, PartialEq, Eq)]
@@ -200,7 +200,7 @@ pub static ROWS: [Row; ROW_COUNT] = [
 
 /// Returns all rows of the instruction table, numbered from 0.
 pub fn rows() -> &'static [Row]
-    ensures rows { map row_of result.now ≡ listed }
+    ensures rows { map row_of result.now ≡ table_rows }
     ensures count { length result.now ≡ ROW_COUNT }
 {
     &ROWS

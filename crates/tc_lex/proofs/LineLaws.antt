@@ -11,9 +11,9 @@ use Rattle.tc_lex.specs.declared.kinds.TokenKind.{TokenKind}
 use Rattle.tc_lex.specs.declared.kinds.TokenKind.TheVariants.{Comma, Colon, Open, Close, Plus, Minus}
 use Rattle.tc_lex.specs.declared.kinds.Front.{Front}
 use Rattle.tc_lex.specs.declared.kinds.Front.TheVariants as front
-use Rattle.tcd_base.specs.NameBytes.{is_name_first}
+use Rattle.tcd_base.specs.NameBytes.{is_name_start}
 use Rattle.tc_lex.specs.Bytes.{is_digit, is_blank}
-use Rattle.tc_lex.specs.Cut.{cut, token_front_by_byte, cut_from_front, with_first_tokens, token, tokens_of, IsLongestToken, BeginsNoToken, AreBlanks, IsNextToken, AreTokens, IsCut, IsStrayByte, IsTokenPastLimit, IsCutFault}
+use Rattle.tc_lex.specs.Cut.{cut, token_front_by_byte, tokens_after_front, with_first_tokens, token, tokens_of, IsLongestToken, BeginsNoToken, AreBlanks, IsNextToken, AreTokens, AreAllTokens, IsStrayByte, IsTokenPastLimit, IsTokenFault}
 use Rattle.tc_lex.proofs.TextLaws.{empty_none}
 use Rattle.tc_lex.proofs.LongestLaws.{comma_longest, colon_longest, open_longest, close_longest, plus_longest, minus_longest, word_longest, number_longest, begins_none}
 
@@ -52,15 +52,15 @@ front_says c cs =
     says_if c cs (c == 93) _ _ (alone c 93 cs Close (close_longest cs)) (λ closed.
     says_if c cs (c == 43) _ _ (alone c 43 cs Plus (plus_longest cs)) (λ plus.
     says_if c cs (c == 45) _ _ (alone c 45 cs Minus (minus_longest cs)) (λ minus.
-    says_if c cs (is_name_first c) _ _ (λ e. told (word_longest c cs (record { comma = comma; colon = colon; opened = opened; closed = closed; plus = plus; minus = minus }) e)) (λ name.
+    says_if c cs (is_name_start c) _ _ (λ e. told (word_longest c cs (record { comma = comma; colon = colon; opened = opened; closed = closed; plus = plus; minus = minus }) e)) (λ name.
     says_if c cs (is_digit c) _ _ (λ e. told (number_longest c cs (record { comma = comma; colon = colon; opened = opened; closed = closed; plus = plus; minus = minus }) name e)) (λ digit.
     bad (not_passed c hash space tab) (begins_none c cs (record { comma = comma; colon = colon; opened = opened; closed = closed; plus = plus; minus = minus }) name digit))))))))))))
 
 -- ---- the rest of a line
 module _ (line : List ℕ) where
   abbrev Meaning : ℕ → ℕ → Result (List Token) ℕ → Type 0
-  Meaning low most (Ok ts) = IsCut line low most ts
-  Meaning low most (Err at) = IsCutFault line low most at
+  Meaning low most (Ok ts) = AreAllTokens line low most ts
+  Meaning low most (Err at) = IsTokenFault line low most at
 
   -- no blanks from a place on
   none_from : (at : ℕ) → at ≤ length line → AreBlanks line at at
@@ -106,7 +106,7 @@ module _ (line : List ℕ) where
         record { blanks = none_from at (omega (arith, inside)); some = omega arith; longest = rw (bytes, text_is) longest }
 
     follow_means : (f : Front) (room : ℕ) (next : ℕ → ℕ → ℕ → Result (List Token) ℕ) → Says c cs f
-        → ((r s : ℕ) → at + 1 + s ≤ length line → Meaning (at + 1 + s) r (next r (at + 1) s)) → Meaning at room (cut_from_front f room at next)
+        → ((r s : ℕ) → at + 1 + s ≤ length line → Meaning (at + 1 + s) r (next r (at + 1) s)) → Meaning at room (tokens_after_front f room at next)
     follow_means _ room next (ended h) rest = record { stop = at; ends = inr (inside, here ∙ h); tokens = none_from at (omega (arith, inside)); few = omega arith }
     follow_means _ room next (blank h) rest =
         let same : at + 1 + 0 ≡ at + 1 = omega arith in
@@ -141,8 +141,8 @@ whole_means line =
     rw same at (cut_means line line 64 0 0 refl (omega arith))
 
 -- the meaning of an answer
-pub cut_reads : (line : List ℕ) (ts : List Token) → tokens_of line ≡ Ok ts → IsCut line 0 64 ts
+pub cut_reads : (line : List ℕ) (ts : List Token) → tokens_of line ≡ Ok ts → AreAllTokens line 0 64 ts
 cut_reads line ts e = subst (λ (r : Result (List Token) ℕ). Meaning line 0 64 r) e (whole_means line)
 
-pub fault_reads : (line : List ℕ) (at : ℕ) → tokens_of line ≡ Err at → IsCutFault line 0 64 at
+pub fault_reads : (line : List ℕ) (at : ℕ) → tokens_of line ≡ Err at → IsTokenFault line 0 64 at
 fault_reads line at e = subst (λ (r : Result (List Token) ℕ). Meaning line 0 64 r) e (whole_means line)

@@ -9,9 +9,9 @@ use Rattle.std.proofs.lemmas.List.Sums.{prefix_len-le-length}
 use Rattle.std.proofs.lemmas.Bool.Decides.{nat_tests, Decides-eqb}
 use Rattle.tc_lex.specs.declared.kinds.TokenKind.{TokenKind}
 use Rattle.tc_lex.specs.declared.kinds.TokenKind.TheVariants.{Word, Number, Comma, Colon, Open, Close, Plus, Minus}
-use Rattle.tcd_base.specs.NameBytes.{is_name_byte, is_name_first}
-use Rattle.tc_lex.specs.Bytes.{is_digit, is_hex}
-use Rattle.tc_lex.specs.Cut.{number_len, has_hex_front, IsLongestToken, BeginsNoToken}
+use Rattle.tcd_base.specs.NameBytes.{is_name_byte, is_name_start}
+use Rattle.tc_lex.specs.Bytes.{is_digit, is_hex_digit}
+use Rattle.tc_lex.specs.Cut.{number_len, has_hex_prefix, IsLongestToken, BeginsNoToken}
 use Rattle.tc_lex.specs.Texts.{is_run, is_hex_text, is_token_text}
 use Rattle.tc_lex.proofs.FrontLaws.{prefix_len_some}
 use Rattle.tc_lex.proofs.TextLaws.{run_taken, run_past, is_run-take, digit_of_name, starts, not_begun, past_one, hex_text}
@@ -35,32 +35,32 @@ longest_of kind len c cs only within stands own = record {
     by other n past fits (inr e) = not_begun other c cs n e
 
 only_comma : OnlyStarts Comma 44
-unfolding is_name_first is_digit
+unfolding is_name_start is_digit
 only_comma Comma = inl refl
 only_comma other = inr refl
 
 only_colon : OnlyStarts Colon 58
-unfolding is_name_first is_digit
+unfolding is_name_start is_digit
 only_colon Colon = inl refl
 only_colon other = inr refl
 
 only_open : OnlyStarts Open 91
-unfolding is_name_first is_digit
+unfolding is_name_start is_digit
 only_open Open = inl refl
 only_open other = inr refl
 
 only_close : OnlyStarts Close 93
-unfolding is_name_first is_digit
+unfolding is_name_start is_digit
 only_close Close = inl refl
 only_close other = inr refl
 
 only_plus : OnlyStarts Plus 43
-unfolding is_name_first is_digit
+unfolding is_name_start is_digit
 only_plus Plus = inl refl
 only_plus other = inr refl
 
 only_minus : OnlyStarts Minus 45
-unfolding is_name_first is_digit
+unfolding is_name_start is_digit
 only_minus Minus = inl refl
 only_minus other = inr refl
 
@@ -100,39 +100,39 @@ or_true true = refl
 or_true false = refl
 
 -- `0x` and hex digits
-module _ (h : ℕ) (hs : List ℕ) (hex : is_hex h ≡ true) (only : OnlyStarts Number 48) where
-  some_hex : 0 < prefix_len is_hex (h ∷ hs)
-  some_hex = prefix_len_some is_hex (h ∷ hs) (omega arith) hex
+module _ (h : ℕ) (hs : List ℕ) (hex : is_hex_digit h ≡ true) (only : OnlyStarts Number 48) where
+  some_hex : 0 < prefix_len is_hex_digit (h ∷ hs)
+  some_hex = prefix_len_some is_hex_digit (h ∷ hs) (omega arith) hex
 
-  hex_stands : (m : ℕ) → m ≡ prefix_len is_hex (h ∷ hs) → is_token_text Number (take (suc (suc m)) (48 ∷ 120 ∷ h ∷ hs)) ≡ true
+  hex_stands : (m : ℕ) → m ≡ prefix_len is_hex_digit (h ∷ hs) → is_token_text Number (take (suc (suc m)) (48 ∷ 120 ∷ h ∷ hs)) ≡ true
   unfolding is_token_text
   hex_stands m e =
-      let some : 0 < length (take m (h ∷ hs)) = omega (arith, length-take-le m (h ∷ hs), prefix_len-le-length is_hex (h ∷ hs), some_hex) in
-      let all : list_all is_hex (take m (h ∷ hs)) ≡ true = rw e (run_taken is_hex (h ∷ hs)) in
+      let some : 0 < length (take m (h ∷ hs)) = omega (arith, length-take-le m (h ∷ hs), prefix_len-le-length is_hex_digit (h ∷ hs), some_hex) in
+      let all : list_all is_hex_digit (take m (h ∷ hs)) ≡ true = rw e (run_taken is_hex_digit (h ∷ hs)) in
       ap (λ b. is_run is_digit is_digit (48 ∷ 120 ∷ take m (h ∷ hs)) || b) (hex_text 48 120 (take m (h ∷ hs)) some ∙ all) ∙ or_true _
 
-  hex_past : (n : ℕ) → 2 + prefix_len is_hex (h ∷ hs) < n → n ≤ length (48 ∷ 120 ∷ h ∷ hs) → is_token_text Number (take n (48 ∷ 120 ∷ h ∷ hs)) ≡ false
+  hex_past : (n : ℕ) → 2 + prefix_len is_hex_digit (h ∷ hs) < n → n ≤ length (48 ∷ 120 ∷ h ∷ hs) → is_token_text Number (take n (48 ∷ 120 ∷ h ∷ hs)) ≡ false
   unfolding is_token_text is_digit
   hex_past zero past within = absurd (omega arith)
   hex_past (suc zero) past within = absurd (omega arith)
   hex_past (suc (suc m)) past within =
       let some : 0 < length (take m (h ∷ hs)) = omega (arith, length-take-le m (h ∷ hs), some_hex) in
-      hex_text 48 120 (take m (h ∷ hs)) some ∙ run_past is_hex (h ∷ hs) m (omega arith) (omega arith)
+      hex_text 48 120 (take m (h ∷ hs)) some ∙ run_past is_hex_digit (h ∷ hs) m (omega arith) (omega arith)
 
-  hex_longest : IsLongestToken Number (2 + prefix_len is_hex (h ∷ hs)) (48 ∷ 120 ∷ h ∷ hs)
+  hex_longest : IsLongestToken Number (2 + prefix_len is_hex_digit (h ∷ hs)) (48 ∷ 120 ∷ h ∷ hs)
   hex_longest =
-      let two : 2 + prefix_len is_hex (h ∷ hs) ≡ suc (suc (prefix_len is_hex (h ∷ hs))) = omega arith in
-      longest_of Number (2 + prefix_len is_hex (h ∷ hs)) 48 (120 ∷ h ∷ hs) only (omega (arith, prefix_len-le-length is_hex (h ∷ hs)))
-      (ap (λ n. is_token_text Number (take n (48 ∷ 120 ∷ h ∷ hs))) two ∙ hex_stands (prefix_len is_hex (h ∷ hs)) refl)
+      let two : 2 + prefix_len is_hex_digit (h ∷ hs) ≡ suc (suc (prefix_len is_hex_digit (h ∷ hs))) = omega arith in
+      longest_of Number (2 + prefix_len is_hex_digit (h ∷ hs)) 48 (120 ∷ h ∷ hs) only (omega (arith, prefix_len-le-length is_hex_digit (h ∷ hs)))
+      (ap (λ n. is_token_text Number (take n (48 ∷ 120 ∷ h ∷ hs))) two ∙ hex_stands (prefix_len is_hex_digit (h ∷ hs)) refl)
       hex_past
 
 -- a text that has this front
-hex_front : (c : ℕ) (cs : List ℕ) → has_hex_front (c ∷ cs) ≡ true → OnlyStarts Number c → IsLongestToken Number (2 + prefix_len is_hex (drop 2 (c ∷ cs))) (c ∷ cs)
-unfolding has_hex_front
+hex_front : (c : ℕ) (cs : List ℕ) → has_hex_prefix (c ∷ cs) ≡ true → OnlyStarts Number c → IsLongestToken Number (2 + prefix_len is_hex_digit (drop 2 (c ∷ cs))) (c ∷ cs)
+unfolding has_hex_prefix
 hex_front c [] e only = cc
 hex_front c (x ∷ []) e only = cc
 hex_front c (x ∷ h ∷ hs) e only =
-    let each = shown _ (c == 48) (x == 120) (is_hex h) e in
+    let each = shown _ (c == 48) (x == 120) (is_hex_digit h) e in
     let zero_is : c ≡ 48 = (Decides-eqb c 48).0 each.0 in
     let x_is : x ≡ 120 = (Decides-eqb x 120).0 each.1 in
     rw (zero_is, x_is) (hex_longest h hs each.2 (rw zero_is at only))
@@ -143,16 +143,16 @@ hidden a true true false e p q = refl
 hidden a true false d e p q = refl
 hidden a false c d e p q = refl
 
-no_hex : (c : ℕ) (cs : List ℕ) (n : ℕ) → has_hex_front (c ∷ cs) ≡ false → is_hex_text (take n (c ∷ cs)) ≡ false
-unfolding has_hex_front
+no_hex : (c : ℕ) (cs : List ℕ) (n : ℕ) → has_hex_prefix (c ∷ cs) ≡ false → is_hex_text (take n (c ∷ cs)) ≡ false
+unfolding has_hex_prefix
 no_hex c cs zero e = refl
 no_hex c cs (suc zero) e = refl
 no_hex c [] (suc (suc n)) e = refl
 no_hex c (x ∷ xs) (suc (suc zero)) e = refl
 no_hex c (x ∷ []) (suc (suc (suc n))) e = refl
-no_hex c (x ∷ h ∷ hs) (suc (suc (suc n))) e = hidden _ (c == 48) (x == 120) (is_hex h) (list_all is_hex (take n hs)) (grind (arith, nat_tests)) e
+no_hex c (x ∷ h ∷ hs) (suc (suc (suc n))) e = hidden _ (c == 48) (x == 120) (is_hex_digit h) (list_all is_hex_digit (take n hs)) (grind (arith, nat_tests)) e
 
-digits_longest : (c : ℕ) (cs : List ℕ) → has_hex_front (c ∷ cs) ≡ false → is_digit c ≡ true → OnlyStarts Number c → IsLongestToken Number (prefix_len is_digit (c ∷ cs)) (c ∷ cs)
+digits_longest : (c : ℕ) (cs : List ℕ) → has_hex_prefix (c ∷ cs) ≡ false → is_digit c ≡ true → OnlyStarts Number c → IsLongestToken Number (prefix_len is_digit (c ∷ cs)) (c ∷ cs)
 unfolding is_token_text
 digits_longest c cs e d only =
     let some : 0 < prefix_len is_digit (c ∷ cs) = prefix_len_some is_digit (c ∷ cs) (omega arith) d in
@@ -163,7 +163,7 @@ digits_longest c cs e d only =
     ap (λ b. b || is_hex_text (take n (c ∷ cs))) (is_run-take is_digit is_digit c cs n (omega arith) ∙ ap (λ b. is_digit c && b) (run_past is_digit (c ∷ cs) n past fits) ∙ and-false (is_digit c))
     ∙ no_hex c cs n e)
 
-number_by : (c : ℕ) (cs : List ℕ) (b : Bool) → has_hex_front (c ∷ cs) ≡ b → is_digit c ≡ true → OnlyStarts Number c → IsLongestToken Number (cond b (2 + prefix_len is_hex (drop 2 (c ∷ cs))) (prefix_len is_digit (c ∷ cs))) (c ∷ cs)
+number_by : (c : ℕ) (cs : List ℕ) (b : Bool) → has_hex_prefix (c ∷ cs) ≡ b → is_digit c ≡ true → OnlyStarts Number c → IsLongestToken Number (cond b (2 + prefix_len is_hex_digit (drop 2 (c ∷ cs))) (prefix_len is_digit (c ∷ cs))) (c ∷ cs)
 number_by c cs true e d only = hex_front c cs e only
 number_by c cs false e d only = digits_longest c cs e d only
 
@@ -178,7 +178,7 @@ pub record NoSymbol (c : ℕ) : Type 0 where
   pub minus : (c == 45) ≡ false
 
 module _ (c : ℕ) (cs : List ℕ) (symbol : NoSymbol c) where
-  only_word : is_name_first c ≡ true → OnlyStarts Word c
+  only_word : is_name_start c ≡ true → OnlyStarts Word c
   only_word h Word = inl refl
   only_word h Number = inr (digit_of_name c h)
   only_word h Comma = inr symbol.comma
@@ -188,7 +188,7 @@ module _ (c : ℕ) (cs : List ℕ) (symbol : NoSymbol c) where
   only_word h Plus = inr symbol.plus
   only_word h Minus = inr symbol.minus
 
-  only_number : is_name_first c ≡ false → OnlyStarts Number c
+  only_number : is_name_start c ≡ false → OnlyStarts Number c
   only_number h Word = inr h
   only_number h Number = inl refl
   only_number h Comma = inr symbol.comma
@@ -198,7 +198,7 @@ module _ (c : ℕ) (cs : List ℕ) (symbol : NoSymbol c) where
   only_number h Plus = inr symbol.plus
   only_number h Minus = inr symbol.minus
 
-  pub begins_none : is_name_first c ≡ false → is_digit c ≡ false → BeginsNoToken (c ∷ cs)
+  pub begins_none : is_name_start c ≡ false → is_digit c ≡ false → BeginsNoToken (c ∷ cs)
   begins_none h d kind n within = not_begun kind c cs n (by kind)
     where
       by : (kind : TokenKind) → starts kind c ≡ false
@@ -211,18 +211,18 @@ module _ (c : ℕ) (cs : List ℕ) (symbol : NoSymbol c) where
       by Plus = symbol.plus
       by Minus = symbol.minus
 
-  named_byte : is_name_first c ≡ true → is_name_byte c ≡ true
+  named_byte : is_name_start c ≡ true → is_name_byte c ≡ true
   unfolding is_name_byte
   named_byte h = rw h refl
 
-  pub word_longest : is_name_first c ≡ true → IsLongestToken Word (prefix_len is_name_byte (c ∷ cs)) (c ∷ cs)
+  pub word_longest : is_name_start c ≡ true → IsLongestToken Word (prefix_len is_name_byte (c ∷ cs)) (c ∷ cs)
   unfolding is_token_text
   word_longest h =
       let some : 0 < prefix_len is_name_byte (c ∷ cs) = prefix_len_some is_name_byte (c ∷ cs) (omega arith) (named_byte h) in
       longest_of Word (prefix_len is_name_byte (c ∷ cs)) c cs (only_word h) (prefix_len-le-length is_name_byte (c ∷ cs))
-      (is_run-take is_name_first is_name_byte c cs (prefix_len is_name_byte (c ∷ cs)) some ∙ and_from (is_name_first c) _ h (run_taken is_name_byte (c ∷ cs)))
-      (λ n past fits. is_run-take is_name_first is_name_byte c cs n (omega arith) ∙ ap (λ b. is_name_first c && b) (run_past is_name_byte (c ∷ cs) n past fits) ∙ and-false (is_name_first c))
+      (is_run-take is_name_start is_name_byte c cs (prefix_len is_name_byte (c ∷ cs)) some ∙ and_from (is_name_start c) _ h (run_taken is_name_byte (c ∷ cs)))
+      (λ n past fits. is_run-take is_name_start is_name_byte c cs n (omega arith) ∙ ap (λ b. is_name_start c && b) (run_past is_name_byte (c ∷ cs) n past fits) ∙ and-false (is_name_start c))
 
-  pub number_longest : is_name_first c ≡ false → is_digit c ≡ true → IsLongestToken Number (number_len (c ∷ cs)) (c ∷ cs)
+  pub number_longest : is_name_start c ≡ false → is_digit c ≡ true → IsLongestToken Number (number_len (c ∷ cs)) (c ∷ cs)
   unfolding number_len
-  number_longest h d = number_by c cs (has_hex_front (c ∷ cs)) refl d (only_number h)
+  number_longest h d = number_by c cs (has_hex_prefix (c ∷ cs)) refl d (only_number h)

@@ -10,8 +10,8 @@ use Rattle.std.proofs.lemmas.List.Folds.{list_all_at}
 use Rattle.std.proofs.lemmas.Bool.Decides.{nat_tests}
 use Rattle.tc_lex.specs.declared.kinds.TokenKind.{TokenKind}
 use Rattle.tc_lex.specs.declared.kinds.TokenKind.TheVariants.{Word, Number, Comma, Colon, Open, Close, Plus, Minus}
-use Rattle.tcd_base.specs.NameBytes.{is_name_first}
-use Rattle.tc_lex.specs.Bytes.{is_digit, is_hex}
+use Rattle.tcd_base.specs.NameBytes.{is_name_start}
+use Rattle.tc_lex.specs.Bytes.{is_digit, is_hex_digit}
 use Rattle.tc_lex.specs.Texts.{is_run, is_hex_text, is_token_text}
 
 -- ---- runs of bytes that pass a test
@@ -35,8 +35,8 @@ is_run-take first each c cs zero some = absurd (omega arith)
 is_run-take first each c cs (suc n) some = refl
 
 -- ---- bytes
-pub digit_of_name : (c : ℕ) → is_name_first c ≡ true → is_digit c ≡ false
-unfolding is_name_first is_digit
+pub digit_of_name : (c : ℕ) → is_name_start c ≡ true → is_digit c ≡ false
+unfolding is_name_start is_digit
 digit_of_name c h = grind (arith, nat_tests)
 
 pub zero_of_digit : (c : ℕ) → is_digit c ≡ false → (c == 48) ≡ false
@@ -45,7 +45,7 @@ zero_of_digit c h = grind (arith, nat_tests)
 
 -- ---- the first byte determines the kind
 abbrev pub starts : TokenKind → ℕ → Bool
-starts Word c = is_name_first c
+starts Word c = is_name_start c
 starts Number c = is_digit c
 starts Comma c = c == 44
 starts Colon c = c == 58
@@ -87,7 +87,7 @@ past_one k (d ∷ ds) (suc zero) past within = absurd (omega arith)
 past_one k (d ∷ ds) (suc (suc n)) past within = and-false (k == k)
 
 -- `0x` and more
-pub hex_text : (z x : ℕ) (bs : List ℕ) → 0 < length bs → is_hex_text (z ∷ x ∷ bs) ≡ (z == 48 && (x == 120 && list_all is_hex bs))
+pub hex_text : (z x : ℕ) (bs : List ℕ) → 0 < length bs → is_hex_text (z ∷ x ∷ bs) ≡ (z == 48 && (x == 120 && list_all is_hex_digit bs))
 hex_text z x [] some = absurd (omega arith)
 hex_text z x (h ∷ hs) some = refl
 

@@ -7,18 +7,18 @@ use Rattle.tc_lex.specs.declared.kinds.TokenKind.{TokenKind}
 use Rattle.tc_lex.specs.declared.kinds.TokenKind.TheVariants.{Word, Number, Comma, Colon, Open, Close, Plus, Minus}
 use Rattle.tc_lex.specs.declared.kinds.Front.{Front}
 use Rattle.tc_lex.specs.declared.kinds.Front.TheVariants as front
-use Rattle.tcd_base.specs.NameBytes.{is_name_byte, is_name_first}
-use Rattle.tc_lex.specs.Bytes.{is_digit, is_hex, is_blank}
+use Rattle.tcd_base.specs.NameBytes.{is_name_byte, is_name_start}
+use Rattle.tc_lex.specs.Bytes.{is_digit, is_hex_digit, is_blank}
 use Rattle.tc_lex.specs.Texts.{is_token_text}
 
 -- the text that is cut begins with `0x` and a hex digit, so that its first token is a hexadecimal
 -- number
-unfoldable pub has_hex_front : List ℕ → Bool
-has_hex_front bs = nat_lt 2 (length bs) && slice_index bs 0 == 48 && slice_index bs 1 == 120 && is_hex (slice_index bs 2)
+unfoldable pub has_hex_prefix : List ℕ → Bool
+has_hex_prefix bs = nat_lt 2 (length bs) && slice_index bs 0 == 48 && slice_index bs 1 == 120 && is_hex_digit (slice_index bs 2)
 
 -- the length that is cut off as a token from a text that begins with a digit, that of its number
 unfoldable pub number_len : List ℕ → ℕ
-number_len bs = if has_hex_front bs then 2 + prefix_len is_hex (drop 2 bs) else prefix_len is_digit bs
+number_len bs = if has_hex_prefix bs then 2 + prefix_len is_hex_digit (drop 2 bs) else prefix_len is_digit bs
 
 -- what the rest of a line with this first byte begins with: a token with its length, a blank, the
 -- end, or a bad byte
@@ -33,7 +33,7 @@ token_front_by_byte c text =
     else (if c == 93 then front.Token Close 1
     else (if c == 43 then front.Token Plus 1
     else (if c == 45 then front.Token Minus 1
-    else (if is_name_first c then front.Token Word (prefix_len is_name_byte text)
+    else (if is_name_start c then front.Token Word (prefix_len is_name_byte text)
     else (if is_digit c then front.Token Number (number_len text)
     else front.Bad))))))))))
 
@@ -60,16 +60,16 @@ with_first_tokens ts (Err e) = Err e
 
 -- What follows from the front at a place: `next room at skip` is the answer for the rest of the
 -- line after its first byte.
-abbrev pub cut_from_front : Front → ℕ → ℕ → (ℕ → ℕ → ℕ → Result (List Token) ℕ) → Result (List Token) ℕ
-cut_from_front front.End room at next = Ok []
-cut_from_front front.Blank room at next = next room (at + 1) 0
-cut_from_front front.Bad room at next = Err at
-cut_from_front (front.Token kind len) room at next = if room == 0 then Err at else with_first_tokens (token kind at len ∷ []) (next (room - 1) (at + 1) (len - 1))
+abbrev pub tokens_after_front : Front → ℕ → ℕ → (ℕ → ℕ → ℕ → Result (List Token) ℕ) → Result (List Token) ℕ
+tokens_after_front front.End room at next = Ok []
+tokens_after_front front.Blank room at next = next room (at + 1) 0
+tokens_after_front front.Bad room at next = Err at
+tokens_after_front (front.Token kind len) room at next = if room == 0 then Err at else with_first_tokens (token kind at len ∷ []) (next (room - 1) (at + 1) (len - 1))
 
 -- The tokens of a text at this place of its line, at most `room`, after the first `skip` bytes.
 unfoldable pub cut : List ℕ → ℕ → ℕ → ℕ → Result (List Token) ℕ
 cut [] room at skip = Ok []
-cut (c ∷ cs) room at zero = cut_from_front (token_front_of (c ∷ cs)) room at (cut cs)
+cut (c ∷ cs) room at zero = tokens_after_front (token_front_of (c ∷ cs)) room at (cut cs)
 cut (c ∷ cs) room at (suc skip) = cut cs room (at + 1) skip
 
 -- the tokens of a line, at most 64, or the place of the first byte that can't be taken
@@ -121,7 +121,7 @@ abbrev pub IsLineEnd : List ℕ → ℕ → Type 0
 IsLineEnd line stop = (stop ≡ length line) ⊎ ((stop < length line) × (slice_index line stop ≡ 35))
 
 -- these tokens, at most `most`, are all of a line from low on, up to its end or its comment
-pub record IsCut (line : List ℕ) (low most : ℕ) (ts : List Token) : Type 0 where
+pub record AreAllTokens (line : List ℕ) (low most : ℕ) (ts : List Token) : Type 0 where
   pub stop : ℕ
   pub ends : IsLineEnd line stop
   pub tokens : AreTokens line low stop ts
@@ -143,12 +143,12 @@ pub record IsTokenPastLimit (line : List ℕ) (at count most : ℕ) : Type 0 whe
 
 -- a line from low on is tokens up to this place, at which a byte begins no token, or one past the
 -- limit
-pub record IsCutFault (line : List ℕ) (low most at : ℕ) : Type 0 where
+pub record IsTokenFault (line : List ℕ) (low most at : ℕ) : Type 0 where
   pub before : List Token
   pub tokens : AreTokens line low at before
   pub fault : IsStrayByte line at ⊎ IsTokenPastLimit line at (length before) most
 
 -- the answer is the line's tokens, at most 64, or the place of the first byte that can't be taken
-abbrev pub IsCutOrFault : List ℕ → Result (ArrayVec Token) ℕ → Type 0
-IsCutOrFault line (Ok ts) = IsCut line 0 64 ts.items
-IsCutOrFault line (Err at) = IsCutFault line 0 64 at
+abbrev pub AreTokensOrFault : List ℕ → Result (ArrayVec Token) ℕ → Type 0
+AreTokensOrFault line (Ok ts) = AreAllTokens line 0 64 ts.items
+AreTokensOrFault line (Err at) = IsTokenFault line 0 64 at

@@ -1,7 +1,7 @@
 -- The numbers that tokens spell.
 use Rattle.std.specs.Prelude.{◌≡◌, ℕ, ◌+◌, ◌-◌, ◌*◌, ◌^◌, nat_lt, nat_le, if◌then◌else◌, List, drop, Option, Some, None, fold, option_and_then}
 use Rattle.tc_lex.specs.Bytes.{is_digit}
-use Rattle.tc_lex.specs.Cut.{has_hex_front}
+use Rattle.tc_lex.specs.Cut.{has_hex_prefix}
 
 -- the value of a digit of base 10 or 16
 unfoldable pub token_digit_value : ℕ → ℕ
@@ -21,7 +21,7 @@ number_by_digits base text = fold (add_digit base) (Some 0) text
 
 -- the number of a token: hexadecimal after `0x`, else decimal
 unfoldable pub token_number : List ℕ → Option ℕ
-token_number text = if has_hex_front text then number_by_digits 16 (drop 2 text) else number_by_digits 10 text
+token_number text = if has_hex_prefix text then number_by_digits 16 (drop 2 text) else number_by_digits 10 text
 
 -- the number that these digits spell, however large
 abbrev pub exact_number_by_digits : ℕ → List ℕ → ℕ
@@ -29,7 +29,7 @@ exact_number_by_digits base text = fold (λ n c. n * base + token_digit_value c)
 
 -- the number of a token, however large
 unfoldable pub exact_token_number : List ℕ → ℕ
-exact_token_number text = if has_hex_front text then exact_number_by_digits 16 (drop 2 text) else exact_number_by_digits 10 text
+exact_token_number text = if has_hex_prefix text then exact_number_by_digits 16 (drop 2 text) else exact_number_by_digits 10 text
 
 -- a token's number is what its digits spell, if that is below 2^128
 abbrev pub NumberLaw : Type 0

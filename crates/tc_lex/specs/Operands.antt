@@ -36,12 +36,12 @@ abbrev pub operand_of : Operand → OperandData
 operand_of o = record { is_memory = o.is_memory; plus = o.plus; base = o.base.now; value = value_of o.value }
 
 -- a value of this form, with a name, a sign and a number
-abbrev pub operand_value_data : Shape → List ℕ → Bool → ℕ → ValueData
-operand_value_data s name minus size = record { shape = s; name = name; minus = minus; size = size; wide = false }
+abbrev pub value_with_shape : Shape → List ℕ → Bool → ℕ → ValueData
+value_with_shape s name minus size = record { shape = s; name = name; minus = minus; size = size; wide = false }
 
 -- tokens that are no value
 abbrev pub bad_operand_value : ValueData
-bad_operand_value = operand_value_data shape.Bad [] false 0
+bad_operand_value = value_with_shape shape.Bad [] false 0
 
 -- a number with an optional `-` that ends the operand: whether there is the `-`, and the number if
 -- it is below 2^128
@@ -52,20 +52,20 @@ operand_number_at ps at =
     else None)
 
 -- the value that is a number alone
-abbrev pub plain_number : Bool → Option ℕ → ValueData
-plain_number minus (Some n) = operand_value_data shape.Number [] minus n
-plain_number minus None = operand_value_data shape.Huge [] minus 0
+abbrev pub number_operand_value : Bool → Option ℕ → ValueData
+number_operand_value minus (Some n) = value_with_shape shape.Number [] minus n
+number_operand_value minus None = value_with_shape shape.Huge [] minus 0
 
 -- the value that is a name plus a number; None is a number of 2^128 or more
 abbrev pub sum_operand_value : Shape → List ℕ → Bool → Option ℕ → ValueData
-sum_operand_value s name minus (Some n) = operand_value_data s name minus n
-sum_operand_value s name minus None = record (operand_value_data s name minus 0) { wide = true }
+sum_operand_value s name minus (Some n) = value_with_shape s name minus n
+sum_operand_value s name minus None = record (value_with_shape s name minus 0) { wide = true }
 
 -- the value that is the name at this token, with or without a number added
 unfoldable pub name_or_sum_at : List PieceData → ℕ → Shape → Shape → ValueData
 name_or_sum_at ps at plain summed =
     if is_token_kind ps at kind.Word
-    then (if length ps == at + 1 then operand_value_data plain (token_text ps at) false 0
+    then (if length ps == at + 1 then value_with_shape plain (token_text ps at) false 0
     else (if is_token_kind ps (at + 1) kind.Plus then option_map_or (λ n. sum_operand_value summed (token_text ps at) n.0 n.1) (operand_number_at ps (at + 2)) bad_operand_value
     else (if is_token_kind ps (at + 1) kind.Minus then option_map_or (λ n. sum_operand_value summed (token_text ps at) (not n.0) n.1) (operand_number_at ps (at + 2)) bad_operand_value
     else bad_operand_value)))
@@ -83,8 +83,8 @@ symbol_value_at ps at =
 -- the value of an operand from this token to the end: none, a number, a symbol, or a symbol's half
 unfoldable pub operand_value_at : List PieceData → ℕ → ValueData
 operand_value_at ps at =
-    if length ps == at then operand_value_data shape.Absent [] false 0
-    else option_map_or (λ n. plain_number n.0 n.1) (operand_number_at ps at) (symbol_value_at ps at)
+    if length ps == at then value_with_shape shape.Absent [] false 0
+    else option_map_or (λ n. number_operand_value n.0 n.1) (operand_number_at ps at) (symbol_value_at ps at)
 
 -- an operand that is a value alone
 abbrev pub plain_operand : ValueData → OperandData

@@ -37,17 +37,17 @@ token_text ps i = option_map_or (λ p. p.text) (slice_get ps i) []
 
 -- the text of a piece, which is a token with its text: the bytes of the line from one place to
 -- another; a token is always within its line
-abbrev pub text_in : List ℕ → ℕ → ℕ → List ℕ
-text_in line from to = if nat_le from to && nat_le to (length line) then slice_range line from to else []
+abbrev pub line_text_between : List ℕ → ℕ → ℕ → List ℕ
+line_text_between line from to = if nat_le from to && nat_le to (length line) then slice_range line from to else []
 
 -- the token of a line with its text, as plain data
-abbrev pub piece_in : List ℕ → Token → PieceData
-piece_in line t = record { kind = t.kind; text = text_in line t.from t.to }
+abbrev pub piece_of_token : List ℕ → Token → PieceData
+piece_of_token line t = record { kind = t.kind; text = line_text_between line t.from t.to }
 
 -- the tokens of a line with their texts, or the place that can't be cut
-abbrev pub pieces_of : List ℕ → Result (List Token) ℕ → Result (List PieceData) ℕ
-pieces_of line (Ok ts) = Ok (map (piece_in line) ts)
-pieces_of line (Err at) = Err at
+abbrev pub pieces_of_tokens : List ℕ → Result (List Token) ℕ → Result (List PieceData) ℕ
+pieces_of_tokens line (Ok ts) = Ok (map (piece_of_token line) ts)
+pieces_of_tokens line (Err at) = Err at
 
 -- the code's answer is this: the tokens with their texts, or the place of a fault
 abbrev pub GivesTokenTexts : {U : Type 0} → Result U ℕ → List PieceData → Result (List PieceData) ℕ → Type 0

@@ -1,6 +1,6 @@
 // Cuts a line into tokens.
 ghost use Rattle.std.specs.Prelude.{◌<◌};
-ghost use Rattle.tc_lex.specs.Cut.{tokens_of, GivesTokens, GivesTokensInto, IsCutOrFault};
+ghost use Rattle.tc_lex.specs.Cut.{tokens_of, GivesTokens, GivesTokensInto, AreTokensOrFault};
 
 use crate::kinds::{Front, Token};
 use crate::longest_token::longest_token_at;
@@ -42,7 +42,7 @@ pub fn tokens(line: &[u8]) -> Result<ArrayVec<Token, 64>, usize>
 
     // The tokens are slices of the line in order, each the longest at its place. Between them are
     // only blanks and tabs.
-    ensures read { IsCutOrFault line.now result }
+    ensures read { AreTokensOrFault line.now result }
 {
     let mut out = ArrayVec::new();
     match tokens_into(line, &mut out) {

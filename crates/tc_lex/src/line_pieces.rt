@@ -1,7 +1,7 @@
 // Cuts a line into tokens with their texts.
 ghost use Rattle.std.specs.Prelude.{◌≡◌, ◌<◌, ◌≤◌, ◌+◌, length, map};
 ghost use Rattle.tc_lex.specs.Cut.{tokens_of, token};
-ghost use Rattle.tc_lex.specs.Pieces.{piece_of, piece_in, pieces_of, GivesTokenTexts};
+ghost use Rattle.tc_lex.specs.Pieces.{piece_of, piece_of_token, pieces_of_tokens, GivesTokenTexts};
 
 use crate::kinds::{Front, TokenKind};
 use crate::longest_token::longest_token_at;
@@ -12,7 +12,7 @@ use crate::scratch::Scratch;
 /// offset of the first byte that begins no token, or a 65th one.
 pub fn cut_pieces<'a>(line: &'a [u8], out: &mut Scratch<Piece<'a>, 64>) -> Result<(), usize>
     ensures pieces { GivesTokenTexts result
-        (map piece_of out.new.items) (pieces_of line.now (tokens_of line.now)) }
+        (map piece_of out.new.items) (pieces_of_tokens line.now (tokens_of line.now)) }
     ensures few { length out.new.items ≤ 64 }
 {
     out.clear();
@@ -37,7 +37,7 @@ pub fn cut_pieces<'a>(line: &'a [u8], out: &mut Scratch<Piece<'a>, 64>) -> Resul
 // The token of this kind and length at the byte offset `at`, with its text.
 fn piece_at(line: &[u8], kind: TokenKind, at: usize, len: usize) -> Piece<'_>
     requires { at + len ≤ length line.now }
-    ensures { piece_of result ≡ piece_in line.now (token kind at len) }
+    ensures { piece_of result ≡ piece_of_token line.now (token kind at len) }
 {
     Piece {
         kind,

@@ -1,9 +1,9 @@
 // Finds the longest token at the start of a text.
 ghost use Rattle.std.specs.Prelude.{◌≡◌, ◌<◌, ◌≤◌, ◌-◌, drop, length, slice_index, true};
 ghost use Rattle.std.specs.List.{prefix_len};
-ghost use Rattle.tc_lex.specs.Bytes.{is_digit, is_hex};
+ghost use Rattle.tc_lex.specs.Bytes.{is_digit, is_hex_digit};
 ghost use Rattle.tcd_base.specs.NameBytes.{is_name_byte};
-ghost use Rattle.tc_lex.specs.Cut.{has_hex_front, number_len, token_front_of, token_front_by_byte, IsTokenWithin};
+ghost use Rattle.tc_lex.specs.Cut.{has_hex_prefix, number_len, token_front_of, token_front_by_byte, IsTokenWithin};
 
 use crate::bytes::{is_digit, is_hex_digit};
 use crate::kinds::{Front, TokenKind};
@@ -79,7 +79,7 @@ fn number_len(rest: &[u8]) -> usize
 
 /// The number of hex digits that the text begins with.
 fn hex_digits_len(rest: &[u8]) -> usize
-    ensures value { result ≡ prefix_len is_hex rest.now }
+    ensures value { result ≡ prefix_len is_hex_digit rest.now }
     ensures within { result ≤ length rest.now }
 {
     rest.iter().take_while(|c| is_hex_digit(**c)).count()

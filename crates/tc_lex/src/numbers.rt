@@ -1,8 +1,8 @@
 // Reads the numbers that tokens spell.
 ghost use Rattle.std.specs.Prelude.{◌≡◌, ◌<◌, Some, length, ◌-◌, IsTrue};
 ghost use Rattle.tc_lex.specs.Numbers.{token_digit_value, add_digit, number_by_digits, token_number};
-ghost use Rattle.tc_lex.specs.Bytes.{is_hex};
-ghost use Rattle.tc_lex.specs.Cut.{has_hex_front};
+ghost use Rattle.tc_lex.specs.Bytes.{is_hex_digit};
+ghost use Rattle.tc_lex.specs.Cut.{has_hex_prefix};
 
 use crate::bytes::is_hex_digit;
 
@@ -19,9 +19,9 @@ pub(crate) fn token_number(text: &[u8]) -> Option<u128>
 }
 
 /// Whether the text begins with `0x` and a hex digit.
-#[tactic(auto, unfolding(crate::specs::Cut::has_hex_front))]
+#[tactic(auto, unfolding(crate::specs::Cut::has_hex_prefix))]
 pub(crate) fn has_hex_prefix(rest: &[u8]) -> bool
-    ensures value { result ≡ has_hex_front rest.now }
+    ensures value { result ≡ has_hex_prefix rest.now }
     ensures long { IsTrue result → 2 < length rest.now }
 {
     rest.len() > 2 && rest[0] == b'0' && rest[1] == b'x' && is_hex_digit(rest[2])

@@ -2,7 +2,7 @@
 ghost use Rattle.std.specs.Prelude.{◌≡◌, ◌≢◌, ◌<◌, ◌≤◌, ◌+◌, ◌++◌, ◌∷◌, [], map, length, true};
 ghost use Rattle.tc_lex.specs.declared.kinds.TokenKind.TheVariants.{Word, Number, Colon, Open};
 ghost use Rattle.tc_lex.specs.Pieces.{piece_of, is_token_kind as is_kind_at};
-ghost use Rattle.tc_lex.specs.Operands.{value_of, operand_of, operand_number_at, name_or_sum_at, symbol_value_at, operand_value_at, operand, operand_value_data as data_of, plain_operand as plain_of, bracketed_operand as memory_of, plain_number as number_value, sum_operand_value as sum_value, operands};
+ghost use Rattle.tc_lex.specs.Operands.{value_of, operand_of, operand_number_at, name_or_sum_at, symbol_value_at, operand_value_at, operand, value_with_shape as data_of, plain_operand as plain_of, bracketed_operand as memory_of, number_operand_value as number_value, sum_operand_value as sum_value, operands};
 
 use crate::TokenKind;
 use crate::numbers::token_number;

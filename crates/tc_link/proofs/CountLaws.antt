@@ -11,7 +11,7 @@ use Rattle.std.proofs.lemmas.List.Concat.{flat_map-append}
 use Rattle.std.proofs.lemmas.List.Sums.{sum_by-append, sum_by_more}
 use Rattle.tc_object.specs.Objects.{SymbolData, ObjectData}
 use Rattle.tc_link.specs.declared.definitions.Definition.{Definition}
-use Rattle.tc_link.specs.GlobalSymbols.{twice_of_count, has_global_name, globals_named}
+use Rattle.tc_link.specs.GlobalSymbols.{twice_of_count, has_global_name, count_globals_named}
 use Rattle.tc_object.proofs.UsedLaws.{bytes_eq-sym}
 
 -- a name that n symbols have, and a further symbol
@@ -61,8 +61,8 @@ symbols_more symbols i x q n h is =
     omega (arith, more, same)
 
 globals_next : (objects : List ObjectData) (i : ℕ) (d : ObjectData) (q : List ℕ) → i < length objects
-    → globals_named (take i objects) q + count_by (has_global_name q) (get_or objects i d).symbols ≡ globals_named (take (i + 1) objects) q
-unfolding globals_named
+    → count_globals_named (take i objects) q + count_by (has_global_name q) (get_or objects i d).symbols ≡ count_globals_named (take (i + 1) objects) q
+unfolding count_globals_named
 globals_next objects i d q h =
     let f : ObjectData → List SymbolData = λ o. o.symbols in
     sym (ap (λ (os : List ObjectData). count_by (has_global_name q) (flat_map f os)) (take_more objects i d h)
@@ -72,5 +72,5 @@ globals_next objects i d q h =
 
 -- the symbols of one object more
 pub globals_more : (objects : List ObjectData) (i : ℕ) (x : ObjectData) (q : List ℕ) → i < length objects → x ≡ get_or objects i x
-    → globals_named (take i objects) q + count_by (has_global_name q) x.symbols ≡ globals_named (take (i + 1) objects) q
-globals_more objects i x q h is = ap (λ (o : ObjectData). globals_named (take i objects) q + count_by (has_global_name q) o.symbols) is ∙ globals_next objects i x q h
+    → count_globals_named (take i objects) q + count_by (has_global_name q) x.symbols ≡ count_globals_named (take (i + 1) objects) q
+globals_more objects i x q h is = ap (λ (o : ObjectData). count_globals_named (take i objects) q + count_by (has_global_name q) o.symbols) is ∙ globals_next objects i x q h

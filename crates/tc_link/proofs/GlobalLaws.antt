@@ -11,7 +11,7 @@ use Rattle.std.proofs.lemmas.List.Concat.{flat_map-append}
 use Rattle.std.proofs.lemmas.List.Elements.{filter-append}
 use Rattle.tc_object.specs.Objects.{SymbolData}
 use Rattle.tc_link.specs.Placing.{PlacedData}
-use Rattle.tc_link.specs.GlobalSymbols.{GlobalData, is_global, global_data, globals_of, global_address}
+use Rattle.tc_link.specs.GlobalSymbols.{GlobalData, is_global, global_data, globals_of, first_global_address}
 use Rattle.tc_object.proofs.UsedLaws.{bytes_eq-sym}
 
 map_or : {A B : Type 0} (f : A → B) (a b : Option A) → option_map f (option_or a b) ≡ option_or (option_map f a) (option_map f b)
@@ -27,7 +27,7 @@ one_global true g = refl
 one_global false g = refl
 
 -- a further global symbol
-pub global_push : (before : List GlobalData) (g : GlobalData) (q : List ℕ) → global_address (before ++ g ∷ []) q ≡ option_or (global_address before q) (cond (bytes_eq q g.name) (Some g.address) None)
+pub global_push : (before : List GlobalData) (g : GlobalData) (q : List ℕ) → first_global_address (before ++ g ∷ []) q ≡ option_or (first_global_address before q) (cond (bytes_eq q g.name) (Some g.address) None)
 global_push before g q =
     let p : GlobalData → Bool = λ x. bytes_eq q x.name in
     let f : GlobalData → ℕ = λ x. x.address in

@@ -5,10 +5,10 @@ use Rattle.std.specs.List.{sum_by, list_any, list_all}
 use Rattle.std.proofs.lemmas.Bool.{le-leb, leb-false, ltb-false, ltb-true, and_from}
 use Rattle.std.proofs.lemmas.List.Folds.{list_any-append}
 use Rattle.std.proofs.lemmas.List.Sums.{sum_by-cons}
-use Rattle.elf_image.specs.Images.{SegmentData, ImageData, AreSegmentBytes, IsImage, is_segment, are_segments_apart, are_all_segments_apart}
-use Rattle.tc_object.specs.Objects.{SectionData, InTurn}
+use Rattle.elf_image.specs.Images.{SegmentData, ImageData, AreSegmentBytes, IsImage, is_segment, are_segments_disjoint, are_all_segments_disjoint}
+use Rattle.tc_object.specs.Objects.{SectionData, AllInTurn}
 use Rattle.tc_link.specs.Layouts.{PlaceData, LayoutData, IsPlace, IsPlaceAfter, IsLayout, are_overlapping_places}
-use Rattle.tc_link.specs.PlaceSizes.{taken_place_size, are_places_overfull, total_place_size}
+use Rattle.tc_link.specs.PlaceSizes.{used_place_size, are_places_overfull, total_used_size}
 use Rattle.tc_link.specs.Segments.{joined_sections, segment_of, segments_of}
 use Rattle.tc_link.specs.Shapes.{section_shape}
 use Rattle.tc_link.proofs.ShapeLaws.{length-joined, taken-shapes}
@@ -22,12 +22,12 @@ abbrev Fits : List SectionData → List PlaceData → Type 0
 Fits contents [] = Unit {0}
 Fits contents (p ∷ ps) = (IsPlace p × (length (joined_sections p.section contents) ≤ p.most)) × Fits contents ps
 
-fits_from : (contents sections : List SectionData) (before places : List PlaceData) → map section_shape contents ≡ map section_shape sections → InTurn IsPlaceAfter before places
-    → list_any (λ p. ltb p.most (taken_place_size p.section sections)) places ≡ false → Fits contents places
+fits_from : (contents sections : List SectionData) (before places : List PlaceData) → map section_shape contents ≡ map section_shape sections → AllInTurn IsPlaceAfter before places
+    → list_any (λ p. ltb p.most (used_place_size p.section sections)) places ≡ false → Fits contents places
 fits_from contents sections before [] same turn e = tt
 fits_from contents sections before (p ∷ ps) same turn e =
-    let parts = or_false (ltb p.most (taken_place_size p.section sections)) (list_any (λ q. ltb q.most (taken_place_size q.section sections)) ps) e in
-    let len : length (joined_sections p.section contents) ≡ taken_place_size p.section sections = length-joined p.section contents ∙ taken-shapes p.section contents sections same in
+    let parts = or_false (ltb p.most (used_place_size p.section sections)) (list_any (λ q. ltb q.most (used_place_size q.section sections)) ps) e in
+    let len : length (joined_sections p.section contents) ≡ used_place_size p.section sections = length-joined p.section contents ∙ taken-shapes p.section contents sections same in
     ((turn.0.place, omega (arith, ltb-false _ _ parts.0)), fits_from contents sections (before ++ p ∷ []) ps same turn.1 parts.1)
 
 abbrev has_bytes : SegmentData → Bool
@@ -60,7 +60,7 @@ of_more before p q h f e = h f (or_false (list_any f before) (list_any f (q ∷ 
 of_last : (before : List PlaceData) (p : PlaceData) → IsOf (before ++ p ∷ []) p
 of_last before p f e = (or_false (f p) false (or_false (list_any f before) (list_any f (p ∷ [])) (sym (list_any-append f before (p ∷ [])) ∙ e)).1).0
 
-apart_from : (p : PlaceData) (before qs : List PlaceData) → IsOf before p → InTurn IsPlaceAfter before qs → ApartFrom p qs
+apart_from : (p : PlaceData) (before qs : List PlaceData) → IsOf before p → AllInTurn IsPlaceAfter before qs → ApartFrom p qs
 apart_from p before [] h turn = tt
 apart_from p before (q ∷ qs) h turn = (h (are_overlapping_places q) turn.0.apart, apart_from p (before ++ q ∷ []) qs (of_more before p q h) turn.1)
 
@@ -75,19 +75,19 @@ two_apart p q m n fm fn sm sn e = by_first (leb (p.at + m) q.at) refl
     by_first false f = le-leb _ _ (omega (arith, leb-false _ _ f, met))
 
 apart_one : (contents : List SectionData) (p : PlaceData) (qs : List PlaceData) → length (joined_sections p.section contents) ≤ p.most → 0 < length (joined_sections p.section contents) → Fits contents qs → ApartFrom p qs
-    → list_all (are_segments_apart (segment_of contents p)) (segments contents qs) ≡ true
+    → list_all (are_segments_disjoint (segment_of contents p)) (segments contents qs) ≡ true
 apart_one contents p [] few some h apart = refl
 apart_one contents p (q ∷ qs) few some h apart = by_bytes (apart_one contents p qs few some h.1 apart.1) (has_bytes (segment_of contents q)) refl
   where
-    by_bytes : list_all (are_segments_apart (segment_of contents p)) (segments contents qs) ≡ true → (b : Bool) → has_bytes (segment_of contents q) ≡ b → list_all (are_segments_apart (segment_of contents p)) (cond b (segment_of contents q ∷ segments contents qs) (segments contents qs)) ≡ true
+    by_bytes : list_all (are_segments_disjoint (segment_of contents p)) (segments contents qs) ≡ true → (b : Bool) → has_bytes (segment_of contents q) ≡ b → list_all (are_segments_disjoint (segment_of contents p)) (cond b (segment_of contents q ∷ segments contents qs) (segments contents qs)) ≡ true
     by_bytes rest true e = and_from _ _ (two_apart p q (length (joined_sections p.section contents)) (length (joined_sections q.section contents)) few h.0.1 some (ltb-true _ _ e) apart.0) rest
     by_bytes rest false e = rest
 
-apart_all : (contents : List SectionData) (before ps : List PlaceData) → InTurn IsPlaceAfter before ps → Fits contents ps → are_all_segments_apart (segments contents ps) ≡ true
+apart_all : (contents : List SectionData) (before ps : List PlaceData) → AllInTurn IsPlaceAfter before ps → Fits contents ps → are_all_segments_disjoint (segments contents ps) ≡ true
 apart_all contents before [] turn h = refl
 apart_all contents before (p ∷ ps) turn h = by_bytes (apart_all contents (before ++ p ∷ []) ps turn.1 h.1) (has_bytes (segment_of contents p)) refl
   where
-    by_bytes : are_all_segments_apart (segments contents ps) ≡ true → (b : Bool) → has_bytes (segment_of contents p) ≡ b → are_all_segments_apart (cond b (segment_of contents p ∷ segments contents ps) (segments contents ps)) ≡ true
+    by_bytes : are_all_segments_disjoint (segments contents ps) ≡ true → (b : Bool) → has_bytes (segment_of contents p) ≡ b → are_all_segments_disjoint (cond b (segment_of contents p ∷ segments contents ps) (segments contents ps)) ≡ true
     by_bytes rest true e = and_from _ _ (apart_one contents p ps h.0.1 (ltb-true _ _ e) h.1 (apart_from p (before ++ p ∷ []) ps (of_last before p) turn.1)) rest
     by_bytes rest false e = rest
 
@@ -101,20 +101,20 @@ few_segments contents (p ∷ ps) = by_bytes (few_segments contents ps) (has_byte
     by_bytes rest false = omega arith
 
 small_segments : (contents sections : List SectionData) (ps : List PlaceData) → map section_shape contents ≡ map section_shape sections
-    → sum_by (λ s. length s.bytes) (segments contents ps) ≤ sum_by (λ p. taken_place_size p.section sections) ps
+    → sum_by (λ s. length s.bytes) (segments contents ps) ≤ sum_by (λ p. used_place_size p.section sections) ps
 small_segments contents sections [] same = omega arith
 small_segments contents sections (p ∷ ps) same =
-    subst (λ n. sum_by (λ (s : SegmentData). length s.bytes) (segments contents (p ∷ ps)) ≤ n) (sym (sum_by-cons (λ (q : PlaceData). taken_place_size q.section sections) p ps)) (by_bytes (small_segments contents sections ps same) (has_bytes (segment_of contents p)))
+    subst (λ n. sum_by (λ (s : SegmentData). length s.bytes) (segments contents (p ∷ ps)) ≤ n) (sym (sum_by-cons (λ (q : PlaceData). used_place_size q.section sections) p ps)) (by_bytes (small_segments contents sections ps same) (has_bytes (segment_of contents p)))
   where
-    len : length (joined_sections p.section contents) ≡ taken_place_size p.section sections
+    len : length (joined_sections p.section contents) ≡ used_place_size p.section sections
     len = length-joined p.section contents ∙ taken-shapes p.section contents sections same
 
-    by_bytes : sum_by (λ s. length s.bytes) (segments contents ps) ≤ sum_by (λ q. taken_place_size q.section sections) ps → (b : Bool) → sum_by (λ s. length s.bytes) (cond b (segment_of contents p ∷ segments contents ps) (segments contents ps)) ≤ taken_place_size p.section sections + sum_by (λ q. taken_place_size q.section sections) ps
+    by_bytes : sum_by (λ s. length s.bytes) (segments contents ps) ≤ sum_by (λ q. used_place_size q.section sections) ps → (b : Bool) → sum_by (λ s. length s.bytes) (cond b (segment_of contents p ∷ segments contents ps) (segments contents ps)) ≤ used_place_size p.section sections + sum_by (λ q. used_place_size q.section sections) ps
     by_bytes rest true =
-        let l : length (joined_sections p.section contents) ≡ taken_place_size p.section sections = len in
+        let l : length (joined_sections p.section contents) ≡ used_place_size p.section sections = len in
         let f : SegmentData → ℕ = λ s. length s.bytes in
         let more : sum_by f (segment_of contents p ∷ segments contents ps) ≡ length (joined_sections p.section contents) + sum_by f (segments contents ps) = sum_by-cons f (segment_of contents p) (segments contents ps) in
-        let most : sum_by f (segment_of contents p ∷ segments contents ps) ≤ taken_place_size p.section sections + sum_by (λ q. taken_place_size q.section sections) ps = omega (arith, more, rest, l) in
+        let most : sum_by f (segment_of contents p ∷ segments contents ps) ≤ used_place_size p.section sections + sum_by (λ q. used_place_size q.section sections) ps = omega (arith, more, rest, l) in
         most
     by_bytes rest false = omega arith
 
@@ -124,7 +124,7 @@ pub record KeepsLimits (i : ImageData) : Type 0 where
   pub entry : i.entry < 2 ^ 32
   pub few : length i.segments ≤ 64
   pub segments : IsTrue (list_all is_segment i.segments)
-  pub apart : IsTrue (are_all_segments_apart i.segments)
+  pub apart : IsTrue (are_all_segments_disjoint i.segments)
   pub small : sum_by (λ s. length s.bytes) i.segments ≤ 2 ^ 24
 
 pub image_of_bytes : (i : ImageData) → KeepsLimits i → AreSegmentBytes i.segments → IsImage i
@@ -132,9 +132,9 @@ image_of_bytes i l bytes = record { entry = l.entry; few = l.few; segments = l.s
 
 pub image_is : (layout : LayoutData) (contents sections : List SectionData) (entry : ℕ) → IsLayout layout → map section_shape contents ≡ map section_shape sections → are_places_overfull layout.places sections ≡ false → entry < 2 ^ 32
     → KeepsLimits (record { entry = entry; segments = segments_of layout.places contents })
-unfolding are_places_overfull total_place_size segments_of
+unfolding are_places_overfull total_used_size segments_of
 image_is layout contents sections entry good same room small =
-    let parts = or_false (list_any (λ p. ltb p.most (taken_place_size p.section sections)) layout.places) (ltb (2 ^ 24) (sum_by (λ p. taken_place_size p.section sections) layout.places)) room in
+    let parts = or_false (list_any (λ p. ltb p.most (used_place_size p.section sections)) layout.places) (ltb (2 ^ 24) (sum_by (λ p. used_place_size p.section sections) layout.places)) room in
     let fits = fits_from contents sections [] layout.places same good.places parts.0 in
     record {
       entry = small;

@@ -6,8 +6,8 @@ use Rattle.std.proofs.lemmas.List.{length-map, get_or-map, take_all}
 use Rattle.std.proofs.lemmas.Option.{slice_get-get_or}
 use Rattle.tc_object.specs.Objects.{SectionData, SymbolData, ObjectData}
 use Rattle.tc_link.specs.Layouts.{PlaceData}
-use Rattle.tc_link.specs.Placing.{PlacedData, address_in_section, placed_after, address_of}
-use Rattle.tc_link.specs.GlobalSymbols.{GlobalData, is_global, global_data, global_address}
+use Rattle.tc_link.specs.Placing.{PlacedData, address_in_section, placed_after, definition_address}
+use Rattle.tc_link.specs.GlobalSymbols.{GlobalData, is_global, global_data, first_global_address}
 use Rattle.tc_link.proofs.ItemLaws.{same_item}
 
 -- the object of a number, with its place
@@ -44,11 +44,11 @@ whole_placed placed objects i same h = take_all i placed (omega (arith, h, as_ma
 
 -- a global symbol of an object with these addresses
 pub symbol_globals : (placed : List PlacedData) (p : PlacedData) (object : ℕ) (v : SymbolData) (before : List GlobalData) (q : List ℕ) → slice_get placed object ≡ Some p → is_global v ≡ true
-    → global_address (before ++ record { name = v.name; address = address_of placed (record { object = object; section = v.section; offset = v.offset; is_twice = false }) } ∷ []) q
-    ≡ global_address (before ++ map (global_data p.bases) (filter is_global (v ∷ []))) q
+    → first_global_address (before ++ record { name = v.name; address = definition_address placed (record { object = object; section = v.section; offset = v.offset; is_twice = false }) } ∷ []) q
+    ≡ first_global_address (before ++ map (global_data p.bases) (filter is_global (v ∷ []))) q
 symbol_globals placed p object v before q at is =
-    ap (λ (o : Option PlacedData). global_address (before ++ record { name = v.name; address = option_map_or (λ (x : PlacedData). address_in_section x.bases v.section v.offset) o 0 } ∷ []) q) at
-    ∙ ap (λ (b : Bool). global_address (before ++ map (global_data p.bases) (cond b (v ∷ []) [])) q) (sym is)
+    ap (λ (o : Option PlacedData). first_global_address (before ++ record { name = v.name; address = option_map_or (λ (x : PlacedData). address_in_section x.bases v.section v.offset) o 0 } ∷ []) q) at
+    ∙ ap (λ (b : Bool). first_global_address (before ++ map (global_data p.bases) (cond b (v ∷ []) [])) q) (sym is)
 
 -- the objects that were placed
 pub placed_objects : (places : List PlaceData) (before : List SectionData) (objects : List ObjectData) → map (λ (p : PlacedData). p.object) (placed_after places before objects) ≡ objects

@@ -8,12 +8,12 @@ use Rattle.std.proofs.lemmas.List.{map-append, append-nil, length-map, take_more
 use Rattle.std.proofs.lemmas.List.Concat.{flat_map-append}
 use Rattle.std.proofs.lemmas.List.Sums.{fold_more}
 use Rattle.tc_object.specs.declared.relocs.Reloc.{Reloc}
-use Rattle.tc_object.specs.Objects.{SectionData, ObjectData, InTurn, IsReloc, IsObject, section_size, section_size_at}
+use Rattle.tc_object.specs.Objects.{SectionData, ObjectData, AllInTurn, IsReloc, IsObject, section_size, section_size_at}
 use Rattle.tc_link.specs.Layouts.{PlaceData}
-use Rattle.tc_link.specs.Placing.{PlacedData, sections_to_link, bases_after, placed_after}
+use Rattle.tc_link.specs.Placing.{PlacedData, sections_to_link, section_bases_after, placed_after}
 use Rattle.tc_link.specs.GlobalSymbols.{GlobalData}
-use Rattle.tc_link.specs.Relocated.{with_filled_field, section_with_reloc, sections_with_reloc, field_place, reloc_value, relocated_sections}
-use Rattle.tc_link.specs.Refusals.{reloc_refusal, reloc, refusal_at}
+use Rattle.tc_link.specs.Relocated.{section_with_filled_field, section_with_reloc, sections_with_reloc, reloc_field_address, reloc_value, relocated_sections}
+use Rattle.tc_link.specs.Refusals.{reloc_error, reloc, refusal_at}
 use Rattle.tc_reloc.specs.declared.refusals.RelocErr.{RelocErr}
 use Rattle.tc_link.specs.Shapes.{SectionShape, section_shape}
 use Rattle.tc_link.proofs.ShapeLaws.{filled_shape}
@@ -44,9 +44,9 @@ with_reloc_shapes g p ss r h = by_section (slice_get ss r.section) refl
     by_section : (o : Option SectionData) → slice_get ss r.section ≡ o → map section_shape (option_map_or (λ x. set ss r.section (section_with_reloc g p r x)) o ss) ≡ map section_shape ss
     by_section None at = refl
     by_section (Some x) at =
-        set_shape ss r.section x (section_with_reloc g p r x) at (filled_shape r (field_place p r) (reloc_value g p r) x (omega (arith, h, ap section_size at)))
+        set_shape ss r.section x (section_with_reloc g p r x) at (filled_shape r (reloc_field_address p r) (reloc_value g p r) x (omega (arith, h, ap section_size at)))
 
-relocs_shapes : (g : List GlobalData) (p : PlacedData) (sections ss : List SectionData) (symbols : ℕ) (before rs : List Reloc) → map section_shape ss ≡ map section_shape sections → InTurn (IsReloc sections symbols) before rs
+relocs_shapes : (g : List GlobalData) (p : PlacedData) (sections ss : List SectionData) (symbols : ℕ) (before rs : List Reloc) → map section_shape ss ≡ map section_shape sections → AllInTurn (IsReloc sections symbols) before rs
     → map section_shape (fold (sections_with_reloc g p) ss rs) ≡ map section_shape sections
 relocs_shapes g p sections ss symbols before [] same turn = same
 relocs_shapes g p sections ss symbols before (r ∷ rs) same turn =
@@ -63,14 +63,14 @@ pub contents_shapes : (g : List GlobalData) (places : List PlaceData) (before : 
 unfolding placed_after
 contents_shapes g places before [] good = refl
 contents_shapes g places before (o ∷ os) good =
-    let p : PlacedData = record { object = o; bases = bases_after places before o.sections } in
+    let p : PlacedData = record { object = o; bases = section_bases_after places before o.sections } in
     map-append section_shape (relocated_sections g p) (flat_map (relocated_sections g) (placed_after places (before ++ o.sections) os))
     ∙ ap (λ (l : List SectionShape). l ++ map section_shape (flat_map (relocated_sections g) (placed_after places (before ++ o.sections) os))) (relocated_shapes g p (good 0 o (omega arith)))
     ∙ ap (λ (l : List SectionShape). map section_shape o.sections ++ l) (contents_shapes g places (before ++ o.sections) os (λ k d h. good (suc k) d (omega arith)))
     ∙ sym (map-append section_shape o.sections (sections_to_link os))
 
 -- ---- the relocation at hand
-turn_at : {A : Type 0} (good : List A → A → Type 0) (before xs : List A) (i : ℕ) (d : A) → InTurn good before xs → i < length xs → good (before ++ take i xs) (get_or xs i d)
+turn_at : {A : Type 0} (good : List A → A → Type 0) (before xs : List A) (i : ℕ) (d : A) → AllInTurn good before xs → i < length xs → good (before ++ take i xs) (get_or xs i d)
 turn_at good before [] i d h l = absurd (omega arith)
 turn_at good before (x ∷ xs) zero d h l = subst (λ (ys : List _). good ys x) (sym (append-nil before)) h.0
 turn_at good before (x ∷ xs) (suc i) d h l = subst (λ (ys : List _). good ys (get_or xs i d)) (append_assoc before (x ∷ []) (take i xs)) (turn_at good (before ++ x ∷ []) xs i d h.1 (omega arith))
@@ -89,9 +89,9 @@ pub size_here : (ss : List SectionData) (n : ℕ) (x : SectionData) → n < leng
 size_here ss n x h is = ap section_size (slice_get-get_or ss n x h) ∙ ap (λ (s : SectionData). length s.bytes) (sym is)
 
 pub shapes_in : (r : Reloc) (ss new : List SectionData) (x : SectionData) (place value : ℕ) → r.section < length ss → x ≡ get_or ss r.section x → r.offset + 4 ≤ length x.bytes
-    → new ≡ set ss r.section (with_filled_field r place value x) → map section_shape new ≡ map section_shape ss
+    → new ≡ set ss r.section (section_with_filled_field r place value x) → map section_shape new ≡ map section_shape ss
 shapes_in r ss new x place value h is room e =
-    ap (map section_shape) e ∙ set_shape ss r.section x (with_filled_field r place value x) (slice_get-get_or ss r.section x h ∙ ap (λ (s : SectionData). Some s) (sym is)) (filled_shape r place value x room)
+    ap (map section_shape) e ∙ set_shape ss r.section x (section_with_filled_field r place value x) (slice_get-get_or ss r.section x h ∙ ap (λ (s : SectionData). Some s) (sym is)) (filled_shape r place value x room)
 
 -- a further relocation
 pub relocs_next : (g : List GlobalData) (p : PlacedData) (sections ss new : List SectionData) (rs : List Reloc) (i : ℕ) (r : Reloc) → i < length rs → r ≡ get_or rs i r
@@ -103,10 +103,10 @@ relocs_next g p sections ss new rs i r h is s e =
     ∙ sym (fold_more (sections_with_reloc g p) sections rs i r h)
 
 -- whether it is refused
-pub refusal_none : (g : List GlobalData) (object : ℕ) (p : PlacedData) (i : ℕ) (r : Reloc) → reloc_refusal g p r ≡ None → refusal_at g object p i r ≡ None
+pub refusal_none : (g : List GlobalData) (object : ℕ) (p : PlacedData) (i : ℕ) (r : Reloc) → reloc_error g p r ≡ None → refusal_at g object p i r ≡ None
 refusal_none g object p i r e = ap (option_map (λ (err : RelocErr). reloc object r.section r.offset err)) e
 
-pub refusal_some : (g : List GlobalData) (object : ℕ) (p : PlacedData) (i : ℕ) (r : Reloc) (err : RelocErr) → reloc_refusal g p r ≡ Some err → refusal_at g object p i r ≡ Some (reloc object r.section r.offset err)
+pub refusal_some : (g : List GlobalData) (object : ℕ) (p : PlacedData) (i : ℕ) (r : Reloc) (err : RelocErr) → reloc_error g p r ≡ Some err → refusal_at g object p i r ≡ Some (reloc object r.section r.offset err)
 refusal_some g object p i r err e = ap (option_map (λ (x : RelocErr). reloc object r.section r.offset x)) e
 
 -- the sections of one object more
@@ -124,7 +124,7 @@ reloc_here o ds i d good e h =
     subst (λ (r : Reloc). IsReloc o.sections (length o.symbols) (take i o.relocs) r) (ap (λ (l : List Reloc). get_or l i d) (sym e)) (reloc_at o i d good (subst (λ (l : List Reloc). i < length l) e h))
 
 -- the section at this number keeps its shape, for every default past the end
-pub shapes_at : (r : Reloc) (ss : List SectionData) (y d : SectionData) (place value : ℕ) → r.section < length ss → r.offset + 4 ≤ section_size_at ss r.section → y ≡ with_filled_field r place value (get_or ss r.section d)
+pub shapes_at : (r : Reloc) (ss : List SectionData) (y d : SectionData) (place value : ℕ) → r.section < length ss → r.offset + 4 ≤ section_size_at ss r.section → y ≡ section_with_filled_field r place value (get_or ss r.section d)
     → map section_shape (set ss r.section y) ≡ map section_shape ss
 shapes_at r ss y d place value h room e =
     let x : SectionData = get_or ss r.section d in

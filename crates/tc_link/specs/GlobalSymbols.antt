@@ -6,7 +6,7 @@ use Rattle.std.specs.Option.{option_map}
 use Rattle.std.specs.Str.{bytes_eq}
 use Rattle.tc_object.specs.Objects.{ObjectData, SymbolData, global_symbol}
 use Rattle.tc_link.specs.declared.definitions.Definition.{Definition}
-use Rattle.tc_link.specs.Placing.{PlacedData, address_in_section, address_of}
+use Rattle.tc_link.specs.Placing.{PlacedData, address_in_section, definition_address}
 use Rattle.std.specs.List.{flat_map}
 
 -- the value of the map at a name
@@ -42,8 +42,8 @@ globals_of placed = flat_map (λ p. map (global_data p.bases) (filter is_global 
 
 -- the address of the first global symbol with this name among those of the linked objects, if there
 -- is one
-abbrev pub global_address : List GlobalData → List ℕ → Option ℕ
-global_address globals name = option_map (λ g. g.address) (find (λ g. bytes_eq name g.name) globals)
+abbrev pub first_global_address : List GlobalData → List ℕ → Option ℕ
+first_global_address globals name = option_map (λ g. g.address) (find (λ g. bytes_eq name g.name) globals)
 
 -- the symbol is global and has the name
 abbrev pub has_global_name : List ℕ → SymbolData → Bool
@@ -55,23 +55,23 @@ symbols_to_link objects = flat_map (λ o. o.symbols) objects
 
 -- the number of global symbols of these objects with this name; those of one object have distinct
 -- names
-unfoldable pub globals_named : List ObjectData → List ℕ → ℕ
-globals_named objects name = count_by (has_global_name name) (symbols_to_link objects)
+unfoldable pub count_globals_named : List ObjectData → List ℕ → ℕ
+count_globals_named objects name = count_by (has_global_name name) (symbols_to_link objects)
 
 -- for each name, the map knows whether several objects define it as a global symbol
-abbrev pub CountsGlobals : {S : Type 0} → HashMap (Bor (List ℕ)) Definition S → List ObjectData → Type 0
-CountsGlobals names objects = (q : List ℕ) → twice_at names q ≡ twice_of_count (globals_named objects q)
+abbrev pub KnowsRepeatedGlobals : {S : Type 0} → HashMap (Bor (List ℕ)) Definition S → List ObjectData → Type 0
+KnowsRepeatedGlobals names objects = (q : List ℕ) → twice_at names q ≡ twice_of_count (count_globals_named objects q)
 
 -- ---- addresses
 
 -- the address of a name in the map, for objects with these addresses
-abbrev pub address_named : {S : Type 0} → HashMap (Bor (List ℕ)) Definition S → List PlacedData → List ℕ → Option ℕ
-address_named names placed q = option_map (address_of placed) (global_at_name names q)
+abbrev pub global_symbol_address : {S : Type 0} → HashMap (Bor (List ℕ)) Definition S → List PlacedData → List ℕ → Option ℕ
+global_symbol_address names placed q = option_map (definition_address placed) (global_at_name names q)
 
 -- the map holds exactly these global symbols with their addresses
-abbrev pub AreGlobals : {S : Type 0} → HashMap (Bor (List ℕ)) Definition S → List PlacedData → List GlobalData → Type 0
-AreGlobals names placed all = (q : List ℕ) → address_named names placed q ≡ global_address all q
+abbrev pub HoldsGlobals : {S : Type 0} → HashMap (Bor (List ℕ)) Definition S → List PlacedData → List GlobalData → Type 0
+HoldsGlobals names placed all = (q : List ℕ) → global_symbol_address names placed q ≡ first_global_address all q
 
 -- for all addresses of the objects, the map holds exactly their global symbols
-abbrev pub DefinesGlobals : {S : Type 0} → HashMap (Bor (List ℕ)) Definition S → List ObjectData → Type 0
-DefinesGlobals names objects = (placed : List PlacedData) → map (λ p. p.object) placed ≡ objects → AreGlobals names placed (globals_of placed)
+abbrev pub HoldsAllGlobals : {S : Type 0} → HashMap (Bor (List ℕ)) Definition S → List ObjectData → Type 0
+HoldsAllGlobals names objects = (placed : List PlacedData) → map (λ p. p.object) placed ≡ objects → HoldsGlobals names placed (globals_of placed)

@@ -2,7 +2,7 @@
 use Rattle.std.specs.Prelude.{◌≡◌, ◌≤◌, ◌++◌, ℕ, List, length, All, Option, Some, ◌+◌, ◌∷◌, Result, Ok, Err, []}
 use Rattle.std.specs.Option.{option_and_then, option_to_list}
 use Rattle.tc_object.specs.Names.{object_name_of}
-use Rattle.tc_object.specs.Objects.{InTurn}
+use Rattle.tc_object.specs.Objects.{AllInTurn}
 use Rattle.tc_link.specs.Layouts.{PlaceData, IsPlaceAfter, LayoutData}
 use Rattle.tc_link.specs.LayoutLines.{LayoutLineData, entry, entry_in_line, place_in_line}
 use Rattle.tc_link.specs.declared.layout_errors.LayoutErr.{LayoutErr}
@@ -17,11 +17,11 @@ pub record LayoutDraftData : Type 0 where
 pub record IsLayoutDraft (d : LayoutDraftData) : Type 0 where
   pub entries : All (λ n. object_name_of n ≡ Some n) d.entries
   pub few : length d.places ≤ 64
-  pub places : InTurn IsPlaceAfter [] d.places
+  pub places : AllInTurn IsPlaceAfter [] d.places
 
 -- the draft of a layout after a further line: the line's entry or place is added
-abbrev pub with_layout_line : LayoutDraftData → Option LayoutLineData → LayoutDraftData
-with_layout_line d line = record {
+abbrev pub draft_with_line : LayoutDraftData → Option LayoutLineData → LayoutDraftData
+draft_with_line d line = record {
   entries = d.entries ++ option_to_list (option_and_then entry_in_line line);
   places = d.places ++ option_to_list (option_and_then place_in_line line);
 }

@@ -48,8 +48,8 @@ place_in_line (entry name) = None
 place_in_line (place p) = Some p
 
 -- the names of entries in these lines, in order
-unfoldable pub layout_entries : List (List ℕ) → List (List ℕ)
-layout_entries lines = filter_map (λ l. option_and_then entry_in_line (layout_line_contents l)) lines
+unfoldable pub entries_in_lines : List (List ℕ) → List (List ℕ)
+entries_in_lines lines = filter_map (λ l. option_and_then entry_in_line (layout_line_contents l)) lines
 
 -- the places in these lines, in order
 unfoldable pub places_in_lines : List (List ℕ) → List PlaceData

@@ -3,7 +3,7 @@ use Rattle.std.specs.Prelude.{◌≡◌, ◌≤◌, ◌<◌, ◌+◌, ◌%◌, �
 use Rattle.std.specs.List.{list_any}
 use Rattle.std.specs.Str.{bytes_eq}
 use Rattle.tc_object.specs.Names.{object_name_of}
-use Rattle.tc_object.specs.Objects.{InTurn}
+use Rattle.tc_object.specs.Objects.{AllInTurn}
 
 -- a place for the sections of one name: its address, and the most bytes that it holds
 pub record PlaceData : Type 0 where
@@ -35,20 +35,20 @@ are_overlapping_places p q = is_overlapping_place p.at p.most q
 
 -- some place of a layout is for sections of this name, which the invariant of layouts excludes for
 -- a further place
-abbrev pub is_placed : List PlaceData → List ℕ → Bool
-is_placed ps name = list_any (λ p. bytes_eq name p.section) ps
+abbrev pub has_place_for : List PlaceData → List ℕ → Bool
+has_place_for ps name = list_any (λ p. bytes_eq name p.section) ps
 
 -- a place for other sections than the earlier places, without a byte of theirs
 pub record IsPlaceAfter (before : List PlaceData) (p : PlaceData) : Type 0 where
   pub place : IsPlace p
-  pub new : is_placed before p.section ≡ false
+  pub new : has_place_for before p.section ≡ false
   pub apart : list_any (are_overlapping_places p) before ≡ false
 
 -- a layout: an entry's name, and at most 64 places for different sections, which share no byte
 pub record IsLayout (l : LayoutData) : Type 0 where
   pub entry : object_name_of l.entry ≡ Some l.entry
   pub few : length l.places ≤ 64
-  pub places : InTurn IsPlaceAfter [] l.places
+  pub places : AllInTurn IsPlaceAfter [] l.places
 
 -- a layout's place for the sections of this name, if there is one
 abbrev pub place_of : List PlaceData → List ℕ → Option PlaceData

@@ -6,30 +6,30 @@ use Rattle.std.specs.Str.{bytes_eq}
 use Rattle.std.specs.List.{list_any}
 
 -- the least multiple of 4 that isn't below n
-abbrev pub round_up_place_size : ℕ → ℕ
-round_up_place_size n = (n + 3) / 4 * 4
+abbrev pub next_multiple_of_4 : ℕ → ℕ
+next_multiple_of_4 n = (n + 3) / 4 * 4
 
 -- the number of used bytes of the place for this name after a further section
-abbrev pub place_size_with_section : List ℕ → ℕ → SectionData → ℕ
-place_size_with_section name n s = if bytes_eq name s.name then round_up_place_size n + length s.bytes else n
+abbrev pub used_size_with_section : List ℕ → ℕ → SectionData → ℕ
+used_size_with_section name n s = if bytes_eq name s.name then next_multiple_of_4 n + length s.bytes else n
 
 -- the number of bytes that the sections of this name, each at a multiple of 4, use of their place
 -- in the layout
-unfoldable pub taken_place_size : List ℕ → List SectionData → ℕ
-taken_place_size name sections = fold (place_size_with_section name) 0 sections
+unfoldable pub used_place_size : List ℕ → List SectionData → ℕ
+used_place_size name sections = fold (used_size_with_section name) 0 sections
 
 -- for each place, the number of bytes that these sections use of it
 abbrev pub AreTaken : List PlaceData → List SectionData → List ℕ → Type 0
-AreTaken places sections sizes = (k : ℕ) (d : PlaceData) → k < length places → slice_index sizes k ≡ taken_place_size (slice_index_or places k d).section sections
+AreTaken places sections sizes = (k : ℕ) (d : PlaceData) → k < length places → slice_index sizes k ≡ used_place_size (slice_index_or places k d).section sections
 
 -- the numbers of used bytes of a layout's places are at most 2^32
 abbrev pub AreSmallPlaceSizes : List ℕ → Type 0
 AreSmallPlaceSizes sizes = (k : ℕ) → slice_index sizes k ≤ 2 ^ 32
 
 -- the number of bytes that the sections use in all places
-unfoldable pub total_place_size : List PlaceData → List SectionData → ℕ
-total_place_size places sections = sum_by (λ p. taken_place_size p.section sections) places
+unfoldable pub total_used_size : List PlaceData → List SectionData → ℕ
+total_used_size places sections = sum_by (λ p. used_place_size p.section sections) places
 
 -- these sections are too large for a place, or for the 16,777,216 bytes of an image
 unfoldable pub are_places_overfull : List PlaceData → List SectionData → Bool
-are_places_overfull places sections = list_any (λ p. nat_lt p.most (taken_place_size p.section sections)) places || nat_lt (2 ^ 24) (total_place_size places sections)
+are_places_overfull places sections = list_any (λ p. nat_lt p.most (used_place_size p.section sections)) places || nat_lt (2 ^ 24) (total_used_size places sections)

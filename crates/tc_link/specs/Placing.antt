@@ -4,7 +4,7 @@ use Rattle.std.specs.Option.{option_map_or}
 use Rattle.std.specs.List.{flat_map}
 use Rattle.tc_object.specs.Objects.{SectionData, ObjectData}
 use Rattle.tc_link.specs.Layouts.{PlaceData, LayoutData, place_of}
-use Rattle.tc_link.specs.PlaceSizes.{round_up_place_size, taken_place_size}
+use Rattle.tc_link.specs.PlaceSizes.{next_multiple_of_4, used_place_size}
 use Rattle.tc_link.specs.declared.definitions.Definition.{Definition}
 
 -- ---- sections
@@ -13,13 +13,13 @@ abbrev pub sections_to_link : List ObjectData → List SectionData
 sections_to_link objects = flat_map (λ o. o.sections) objects
 
 -- the address at which the linker places a section after these sections, and 0 if it has no place
-abbrev pub base_of : List PlaceData → List SectionData → SectionData → ℕ
-base_of places before s = option_map_or (λ p. p.at + round_up_place_size (taken_place_size s.name before)) (place_of places s.name) 0
+abbrev pub section_base : List PlaceData → List SectionData → SectionData → ℕ
+section_base places before s = option_map_or (λ p. p.at + next_multiple_of_4 (used_place_size s.name before)) (place_of places s.name) 0
 
 -- the addresses of sections after these sections, each after the one before it
-unfoldable pub bases_after : List PlaceData → List SectionData → List SectionData → List ℕ
-bases_after places before [] = []
-bases_after places before (s ∷ ss) = base_of places before s ∷ bases_after places (before ++ s ∷ []) ss
+unfoldable pub section_bases_after : List PlaceData → List SectionData → List SectionData → List ℕ
+section_bases_after places before [] = []
+section_bases_after places before (s ∷ ss) = section_base places before s ∷ section_bases_after places (before ++ s ∷ []) ss
 
 -- an object, and the address of each of its sections
 pub record PlacedData : Type 0 where
@@ -29,7 +29,7 @@ pub record PlacedData : Type 0 where
 -- objects with their addresses, after these sections, in order
 unfoldable pub placed_after : List PlaceData → List SectionData → List ObjectData → List PlacedData
 placed_after places before [] = []
-placed_after places before (o ∷ os) = record { object = o; bases = bases_after places before o.sections } ∷ placed_after places (before ++ o.sections) os
+placed_after places before (o ∷ os) = record { object = o; bases = section_bases_after places before o.sections } ∷ placed_after places (before ++ o.sections) os
 
 -- ---- symbols
 
@@ -40,9 +40,9 @@ address_in_section bases section offset = (slice_index bases section + offset) %
 
 -- the address of a symbol's definition in an object whose sections are placed, from the address of
 -- its section
-abbrev pub address_of : List PlacedData → Definition → ℕ
-address_of placed d = option_map_or (λ p. address_in_section p.bases d.section d.offset) (slice_get placed d.object) 0
+abbrev pub definition_address : List PlacedData → Definition → ℕ
+definition_address placed d = option_map_or (λ p. address_in_section p.bases d.section d.offset) (slice_get placed d.object) 0
 
 -- the objects with the addresses of their sections in the layout
-abbrev pub placed_of : LayoutData → List ObjectData → List PlacedData
-placed_of layout objects = placed_after layout.places [] objects
+abbrev pub placed_in_layout : LayoutData → List ObjectData → List PlacedData
+placed_in_layout layout objects = placed_after layout.places [] objects

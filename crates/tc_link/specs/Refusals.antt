@@ -6,12 +6,12 @@ use Rattle.std.specs.List.{list_any}
 use Rattle.tc_object.specs.Objects.{undefined_symbol, SectionData, SymbolData, ObjectData}
 use Rattle.tc_object.specs.declared.relocs.Reloc.{Reloc}
 use Rattle.tc_reloc.specs.declared.refusals.RelocErr.{RelocErr}
-use Rattle.tc_link.specs.Layouts.{PlaceData, is_placed, LayoutData}
+use Rattle.tc_link.specs.Layouts.{PlaceData, has_place_for, LayoutData}
 use Rattle.tc_link.specs.Placing.{PlacedData, sections_to_link}
-use Rattle.tc_link.specs.GlobalSymbols.{GlobalData, is_global, globals_named}
+use Rattle.tc_link.specs.GlobalSymbols.{GlobalData, is_global, count_globals_named}
 use Rattle.tc_link.specs.PlaceSizes.{are_places_overfull}
 use Rattle.tc_reloc.specs.Refusals.{reloc_value_refusal}
-use Rattle.tc_link.specs.Relocated.{field_place, reloc_value}
+use Rattle.tc_link.specs.Relocated.{reloc_field_address, reloc_value}
 
 -- why objects can't be linked
 pub data Refusal : Type 0 where
@@ -35,11 +35,11 @@ first_refusal_over f xs = first_refusal_from f 0 xs
 
 -- a refusal if the symbol is global and several objects define its name, else None
 abbrev pub repeated_symbol_refusal : List ObjectData → ℕ → SymbolData → Option Refusal
-repeated_symbol_refusal objects number s = then_some (is_global s && nat_lt 1 (globals_named objects s.name)) (twice s.name)
+repeated_symbol_refusal objects number s = then_some (is_global s && nat_lt 1 (count_globals_named objects s.name)) (twice s.name)
 
 -- the first global symbol that is defined in two objects, if there is one
-unfoldable pub repeated_symbol_refusal_in : List ObjectData → Option Refusal
-repeated_symbol_refusal_in objects = first_refusal_over (λ _ o. first_refusal_over (repeated_symbol_refusal objects) o.symbols) objects
+unfoldable pub first_repeated_symbol_refusal : List ObjectData → Option Refusal
+first_repeated_symbol_refusal objects = first_refusal_over (λ _ o. first_refusal_over (repeated_symbol_refusal objects) o.symbols) objects
 
 -- a relocation uses the symbol with this number, so that the linker refuses the objects if the
 -- symbol is missing
@@ -49,49 +49,49 @@ is_used_by_relocs relocs number = list_any (λ r. r.symbol == number) relocs
 -- a refusal if a relocation uses the symbol, which is undefined in its object and global in none,
 -- else None
 abbrev pub missing_symbol_refusal : List ObjectData → List Reloc → ℕ → SymbolData → Option Refusal
-missing_symbol_refusal objects relocs number s = then_some (s.kind == undefined_symbol && is_used_by_relocs relocs number && globals_named objects s.name == 0) (missing s.name)
+missing_symbol_refusal objects relocs number s = then_some (s.kind == undefined_symbol && is_used_by_relocs relocs number && count_globals_named objects s.name == 0) (missing s.name)
 
 -- the first symbol that is used, undefined in its object and global in none, if there is one
-unfoldable pub missing_symbol_refusal_in : List ObjectData → Option Refusal
-missing_symbol_refusal_in objects = first_refusal_over (λ _ o. first_refusal_over (missing_symbol_refusal objects o.relocs) o.symbols) objects
+unfoldable pub first_missing_symbol_refusal : List ObjectData → Option Refusal
+first_missing_symbol_refusal objects = first_refusal_over (λ _ o. first_refusal_over (missing_symbol_refusal objects o.relocs) o.symbols) objects
 
 -- a symbol is defined in the section with this number, so that the linker refuses the section if it
 -- has no place
-abbrev pub has_symbol : List SymbolData → ℕ → Bool
-has_symbol symbols number = list_any (λ s. not (s.kind == undefined_symbol) && s.section == number) symbols
+abbrev pub has_symbol_in_section : List SymbolData → ℕ → Bool
+has_symbol_in_section symbols number = list_any (λ s. not (s.kind == undefined_symbol) && s.section == number) symbols
 
 -- a refusal if the section has no place, but has bytes or a symbol defined in it, else None
 abbrev pub no_place_refusal : List PlaceData → List SymbolData → ℕ → SectionData → Option Refusal
-no_place_refusal places symbols number s = then_some ((nat_lt 0 (length s.bytes) || has_symbol symbols number) && not (is_placed places s.name)) (no_place s.name)
+no_place_refusal places symbols number s = then_some ((nat_lt 0 (length s.bytes) || has_symbol_in_section symbols number) && not (has_place_for places s.name)) (no_place s.name)
 
 -- the first section that needs a place and has none, if there is one
-unfoldable pub no_place_refusal_in : List PlaceData → List ObjectData → Option Refusal
-no_place_refusal_in places objects = first_refusal_over (λ _ o. first_refusal_over (no_place_refusal places o.symbols) o.sections) objects
+unfoldable pub first_no_place_refusal : List PlaceData → List ObjectData → Option Refusal
+first_no_place_refusal places objects = first_refusal_over (λ _ o. first_refusal_over (no_place_refusal places o.symbols) o.sections) objects
 
 -- a refusal if there is no room for the section after these sections, else None
 abbrev pub no_room_refusal : List PlaceData → List SectionData → SectionData → Option Refusal
 no_room_refusal places before s = then_some (are_places_overfull places (before ++ s ∷ [])) (no_room s.name)
 
 -- the first section for which there is no room, after these sections and those before it
-unfoldable pub no_room_refusal_after : List PlaceData → List SectionData → List SectionData → Option Refusal
-no_room_refusal_after places before [] = None
-no_room_refusal_after places before (s ∷ ss) = option_or (no_room_refusal places before s) (no_room_refusal_after places (before ++ s ∷ []) ss)
+unfoldable pub first_no_room_refusal : List PlaceData → List SectionData → List SectionData → Option Refusal
+first_no_room_refusal places before [] = None
+first_no_room_refusal places before (s ∷ ss) = option_or (no_room_refusal places before s) (first_no_room_refusal places (before ++ s ∷ []) ss)
 
 -- the reason why a relocation can't be written, so that the linker refuses it, if there is one
-abbrev pub reloc_refusal : List GlobalData → PlacedData → Reloc → Option RelocErr
-reloc_refusal globals p r = reloc_value_refusal r.kind (field_place p r) (reloc_value globals p r)
+abbrev pub reloc_error : List GlobalData → PlacedData → Reloc → Option RelocErr
+reloc_error globals p r = reloc_value_refusal r.kind (reloc_field_address p r) (reloc_value globals p r)
 
 -- a refusal if this relocation can't be written into the object with this number, else None
 abbrev pub refusal_at : List GlobalData → ℕ → PlacedData → ℕ → Reloc → Option Refusal
-refusal_at globals object p number r = option_map (λ err. reloc object r.section r.offset err) (reloc_refusal globals p r)
+refusal_at globals object p number r = option_map (λ err. reloc object r.section r.offset err) (reloc_error globals p r)
 
 -- the first relocation that can't be written, in the order of the objects, if there is one
-unfoldable pub reloc_refusal_in : List GlobalData → List PlacedData → Option Refusal
-reloc_refusal_in globals placed = first_refusal_over (λ object p. first_refusal_over (refusal_at globals object p) p.object.relocs) placed
+unfoldable pub first_reloc_refusal : List GlobalData → List PlacedData → Option Refusal
+first_reloc_refusal globals placed = first_refusal_over (λ object p. first_refusal_over (refusal_at globals object p) p.object.relocs) placed
 
 -- the first refusal before relocations are written, in this order
 abbrev pub refusal_before_relocs : LayoutData → List ObjectData → Option Refusal
 refusal_before_relocs layout objects =
-    option_or (repeated_symbol_refusal_in objects)
-    (option_or (missing_symbol_refusal_in objects)
-    (option_or (no_place_refusal_in layout.places objects) (no_room_refusal_after layout.places [] (sections_to_link objects))))
+    option_or (first_repeated_symbol_refusal objects)
+    (option_or (first_missing_symbol_refusal objects)
+    (option_or (first_no_place_refusal layout.places objects) (first_no_room_refusal layout.places [] (sections_to_link objects))))

@@ -4,12 +4,12 @@ use Rattle.std.specs.Str.{bytes_eq}
 use Rattle.elf_image.specs.Images.{SegmentData}
 use Rattle.tc_object.specs.Objects.{SectionData}
 use Rattle.tc_link.specs.Layouts.{PlaceData}
-use Rattle.tc_link.specs.PlaceSizes.{round_up_place_size}
+use Rattle.tc_link.specs.PlaceSizes.{next_multiple_of_4}
 
 -- the bytes of a place with zeros up to a multiple of 4, where its next section begins in the
 -- segment
 abbrev pub with_segment_padding : List ℕ → List ℕ
-with_segment_padding bytes = bytes ++ replicate (round_up_place_size (length bytes) - length bytes) 0
+with_segment_padding bytes = bytes ++ replicate (next_multiple_of_4 (length bytes) - length bytes) 0
 
 -- the bytes of a place after a further section, if it has the place's name
 abbrev pub with_section : List ℕ → List ℕ → SectionData → List ℕ

@@ -1,7 +1,7 @@
 // Computes the addresses of symbols.
 ghost use Rattle.std.specs.Prelude.{◌≡◌, List, slice_index, IfOk, IfErr, ◌<◌, None};
 ghost use Rattle.tc_link.specs.Placing.{address_in_section};
-ghost use Rattle.tc_link.specs.GlobalSymbols.{GlobalData, address_named, AreGlobals};
+ghost use Rattle.tc_link.specs.GlobalSymbols.{GlobalData, global_symbol_address, HoldsGlobals};
 ghost use Rattle.tc_link.specs.Relocated.{symbol_addresses};
 ghost use Rattle.tc_link.specs.declared.errors.LinkErr.TheVariants.{NoMemory};
 
@@ -30,7 +30,7 @@ pub(crate) fn global_symbol_address(
     placed: &[Placed<'_, '_>],
     name: &str,
 ) -> Option<u32>
-    ensures { result ≡ address_named names.now placed.now name.now }
+    ensures { result ≡ global_symbol_address names.now placed.now name.now }
 {
     let Some(definition) = names.get(name) else {
         return None;
@@ -51,7 +51,7 @@ pub(crate) fn symbol_addresses(
     each: &Placed<'_, '_>,
 ) -> Result<Vec<u32>, LinkErr>
     ensures ok { IfOk result (λ addresses. (all : List GlobalData)
-        → AreGlobals names.now placed.now all
+        → HoldsGlobals names.now placed.now all
         → addresses.items ≡ symbol_addresses all each.now) }
     ensures err { IfErr result (λ e. e ≡ NoMemory) }
 {

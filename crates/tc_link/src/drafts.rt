@@ -33,10 +33,10 @@ impl Model for Draft {
 impl Draft {
     ghost use Rattle.std.specs.Prelude.{◌≡◌, ◌<◌, ◌+◌, ◌^◌, [], length, Some, None, Ok, OnOk, IfOk, IfErr, IfNone};
     ghost use Rattle.std.specs.List.{list_any};
-    ghost use Rattle.tc_link.specs.Layouts.{IsPlace, IsPlaceAfter, is_placed, is_overlapping_place};
+    ghost use Rattle.tc_link.specs.Layouts.{IsPlace, IsPlaceAfter, has_place_for, is_overlapping_place};
     ghost use Rattle.tc_link.specs.LayoutLines.{layout_line_contents, place};
-    ghost use Rattle.tc_link.specs.LayoutFaults.{line_fault, IsLayoutFaultOf, IsLayoutFault};
-    ghost use Rattle.tc_link.specs.LayoutDrafts.{with_entry, with_layout_line};
+    ghost use Rattle.tc_link.specs.LayoutFaults.{layout_line_fault, IsLayoutFaultOf, IsLayoutFault};
+    ghost use Rattle.tc_link.specs.LayoutDrafts.{with_entry, draft_with_line};
     ghost use Rattle.tc_link.specs.declared.layout_errors.LayoutErr.TheVariants.{Twice, TooMany, Overlap};
 
     /// An empty draft of a layout, before its first line.
@@ -58,12 +58,12 @@ impl Draft {
         line: &[u8],
     ) -> Result<(), LayoutErr>
         ensures good { OnOk result
-            (line_fault number self.old.entries self.old.places (layout_line_contents line.now)
+            (layout_line_fault number self.old.entries self.old.places (layout_line_contents line.now)
             ≡ None) }
         ensures ok { OnOk result (self.new
-            ≡ with_layout_line self.old (layout_line_contents line.now)) }
+            ≡ draft_with_line self.old (layout_line_contents line.now)) }
         ensures err { IfErr result
-            (IsLayoutFault (line_fault number self.old.entries self.old.places
+            (IsLayoutFault (layout_line_fault number self.old.entries self.old.places
             (layout_line_contents line.now))) }
     {
         let Some(line) = layout_line_contents(line) else {
@@ -107,7 +107,7 @@ impl Draft {
     // or it overlaps another.
     fn place_fault(&self, number: u32, section: &str, at: u32, most: u32) -> Option<LayoutErr>
         requires { IsPlace (record { section = section.now; at = at; most = most }) }
-        ensures fault { result ≡ line_fault number self.now.entries self.now.places
+        ensures fault { result ≡ layout_line_fault number self.now.entries self.now.places
             (Some (place (record { section = section.now; at = at; most = most }))) }
         ensures after { IfNone result (IsPlaceAfter self.now.places
             (record { section = section.now; at = at; most = most })) }

@@ -1,7 +1,7 @@
 // A map of the global symbols of objects by name, so that each look-up is a few steps.
 ghost use Rattle.std.specs.Prelude.{◌≡◌, ◌+◌, ◌++◌, ◌∷◌, nat_lt, ◌==◌, ℕ, List, [], true, false, count_by, map, filter, slice_get, OnOk, IfOk, IfErr, if◌then◌else◌, Some, None};
 ghost use Rattle.tc_link.specs.Placing.{PlacedData};
-ghost use Rattle.tc_link.specs.GlobalSymbols.{GlobalData, is_global, global_data, has_global_name, twice_at, twice_of_count, AreGlobals, CountsGlobals, DefinesGlobals};
+ghost use Rattle.tc_link.specs.GlobalSymbols.{GlobalData, is_global, global_data, has_global_name, twice_at, twice_of_count, HoldsGlobals, KnowsRepeatedGlobals, HoldsAllGlobals};
 ghost use Rattle.tc_link.specs.declared.errors.LinkErr.TheVariants.{NoMemory};
 
 use crate::LinkErr;
@@ -15,8 +15,8 @@ pub(crate) fn globals_by_name<'a>(
     alloc: Global,
     objects: &[ObjectRef<'a>],
 ) -> Result<HashMap<&'a str, Definition>, LinkErr>
-    ensures counts { IfOk result (λ names. CountsGlobals names objects.now) }
-    ensures globals { IfOk result (λ names. DefinesGlobals names objects.now) }
+    ensures counts { IfOk result (λ names. KnowsRepeatedGlobals names objects.now) }
+    ensures globals { IfOk result (λ names. HoldsAllGlobals names objects.now) }
     ensures err { IfErr result (λ e. e ≡ NoMemory) }
 {
     let mut names = HashMap::with_capacity(alloc, count_globals(objects))?;
@@ -66,7 +66,7 @@ fn add_global_symbols<'a>(
         → twice_at names.new q ≡ twice_of_count (n + count_by (has_global_name q) symbols.now)) }
     ensures globals { OnOk result ((placed : List PlacedData) (p : PlacedData)
         (before : List GlobalData) → slice_get placed object ≡ Some p
-        → AreGlobals names.old placed before → AreGlobals names.new placed
+        → HoldsGlobals names.old placed before → HoldsGlobals names.new placed
         (before ++ map (global_data p.bases) (filter is_global symbols.now))) }
     ensures err { IfErr result (λ e. e ≡ NoMemory) }
 {
@@ -88,7 +88,7 @@ fn add_symbol_if_global<'a>(
         ≡ twice_of_count (n + (if has_global_name q symbol.now then 1 else 0))) }
     ensures globals { OnOk result ((placed : List PlacedData) (p : PlacedData)
         (before : List GlobalData) → slice_get placed object ≡ Some p
-        → AreGlobals names.old placed before → AreGlobals names.new placed
+        → HoldsGlobals names.old placed before → HoldsGlobals names.new placed
         (before ++ map (global_data p.bases) (filter is_global (symbol.now ∷ [])))) }
     ensures err { IfErr result (λ e. e ≡ NoMemory) }
 {

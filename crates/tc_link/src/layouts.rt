@@ -1,7 +1,7 @@
 // Layouts, with the invariant of each layout.
 ghost use Rattle.std.specs.Prelude.{◌≡◌, ◌<◌, length, position, IfSome, ◌==◌};
 ghost use Rattle.std.specs.Str.{bytes_eq};
-ghost use Rattle.tc_link.specs.Layouts.{is_placed};
+ghost use Rattle.tc_link.specs.Layouts.{has_place_for};
 
 use crate::LayoutErr;
 use crate::drafts::Draft;
@@ -90,7 +90,7 @@ pub(crate) fn find_place(places: &[Place], name: &str) -> Option<usize>
 
 /// Returns true if a layout with these places has one for sections of this name.
 pub(crate) fn has_place_for(places: &[Place], name: &str) -> bool
-    ensures { result ≡ is_placed places.now name.now }
+    ensures { result ≡ has_place_for places.now name.now }
 {
     places.iter().any(|place| name == place.section.as_str())
 }

@@ -2,8 +2,8 @@
 ghost use Rattle.std.specs.Prelude.{◌≡◌, ◌≤◌, ◌<◌, length, Ok, Err, IfOk, IfErr, IfSome};
 ghost use Rattle.tc_link.specs.Segments.{segments_of};
 ghost use Rattle.tc_link.specs.Linked.{image_of_objects};
-ghost use Rattle.tc_link.specs.Placing.{placed_of};
-ghost use Rattle.tc_link.specs.Relocated.{relocated_contents};
+ghost use Rattle.tc_link.specs.Placing.{placed_in_layout};
+ghost use Rattle.tc_link.specs.Relocated.{all_relocated_sections};
 ghost use Rattle.tc_link.specs.Errors.{refusal_of};
 
 use crate::addresses::global_symbol_address;

@@ -1,7 +1,7 @@
 // Computes the sizes of places.
 ghost use Rattle.std.specs.Prelude.{◌≡◌, ◌≤◌, ◌<◌, ◌+◌, ◌++◌, ◌∷◌, [], ◌*◌, ◌^◌, List, length, false};
 ghost use Rattle.tc_object.specs.Objects.{SectionData};
-ghost use Rattle.tc_link.specs.PlaceSizes.{round_up_place_size, AreTaken, AreSmallPlaceSizes, are_places_overfull};
+ghost use Rattle.tc_link.specs.PlaceSizes.{next_multiple_of_4, AreTaken, AreSmallPlaceSizes, are_places_overfull};
 
 use crate::{LinkErr, Place};
 use std::alloc::Global;
@@ -14,7 +14,7 @@ const MOST_BYTES: u64 = 0x100_0000;
 /// The least multiple of 4 that isn't below `size`.
 pub(crate) fn next_multiple_of_4(size: u64) -> u64
     requires { size ≤ 2 ^ 33 }
-    ensures { result ≡ round_up_place_size size }
+    ensures { result ≡ next_multiple_of_4 size }
 {
     (size + 3) / 4 * 4
 }
@@ -35,7 +35,7 @@ pub(crate) fn add_section_size(places: &[Place], sizes: &mut [u64], section: &Se
 }
 
 // Whether a place is too small, or all places together are above the limit of an image.
-#[tactic(auto, unfolding(crate::specs::PlaceSizes::are_places_overfull, crate::specs::PlaceSizes::total_place_size))]
+#[tactic(auto, unfolding(crate::specs::PlaceSizes::are_places_overfull, crate::specs::PlaceSizes::total_used_size))]
 pub(crate) fn are_places_overfull(places: &[Place], sizes: &[u64]) -> bool
     requires count { length sizes.now ≡ length places.now }
     requires few { length places.now ≤ 64 }

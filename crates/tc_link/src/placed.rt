@@ -1,9 +1,9 @@
 // Gives the sections of objects their addresses.
 ghost use Rattle.std.specs.Prelude.{◌≡◌, ◌≤◌, ◌<◌, [], ℕ, IfOk, IfErr, length, slice_index_or, None, List, ◌+◌, ◌++◌, OnOk};
 ghost use Rattle.tc_object.specs.Objects.{ObjectData, IsObject, SectionData};
-ghost use Rattle.tc_link.specs.Placing.{placed_after, sections_to_link, base_of, bases_after};
-ghost use Rattle.tc_link.specs.Refusals.{no_room_refusal_after};
-ghost use Rattle.tc_link.specs.PlaceSizes.{AreTaken, AreSmallPlaceSizes, round_up_place_size, are_places_overfull};
+ghost use Rattle.tc_link.specs.Placing.{placed_after, sections_to_link, section_base, section_bases_after};
+ghost use Rattle.tc_link.specs.Refusals.{first_no_room_refusal};
+ghost use Rattle.tc_link.specs.PlaceSizes.{AreTaken, AreSmallPlaceSizes, next_multiple_of_4, are_places_overfull};
 ghost use Rattle.tc_link.specs.Errors.{IsRefusal};
 
 use crate::layouts::find_place;
@@ -40,9 +40,9 @@ pub(crate) fn place_objects<'a, 'b>(
     ensures good { IfOk result (λ _. (k : ℕ) (d : ObjectData) → k < length objects.now
         → IsObject (slice_index_or objects.now k d)) }
     ensures room { IfOk result
-        (λ _. no_room_refusal_after places.now [] (sections_to_link objects.now) ≡ None) }
+        (λ _. first_no_room_refusal places.now [] (sections_to_link objects.now) ≡ None) }
     ensures err { IfErr result
-        (IsRefusal (no_room_refusal_after places.now [] (sections_to_link objects.now))) }
+        (IsRefusal (first_no_room_refusal places.now [] (sections_to_link objects.now))) }
 {
     let mut zeros = vec![in alloc; 0u64; places.len()]?;
     let sizes: &mut [u64] = &mut zeros;
@@ -60,7 +60,7 @@ pub(crate) fn section_base(places: &[Place], sizes: &[u64], section: &SectionRef
     requires count { length sizes.now ≡ length places.now }
     requires small { AreSmallPlaceSizes sizes.now }
     ensures { (before : List SectionData) → AreTaken places.now before sizes.now
-        → result ≡ base_of places.now before section.now }
+        → result ≡ section_base places.now before section.now }
 {
     match find_place(places, section.name) {
         None => 0,
@@ -84,15 +84,15 @@ pub(crate) fn place_sections(
     requires small { AreSmallPlaceSizes sizes.old }
     ensures bases { IfOk result (λ bases. (before : List SectionData)
         → AreTaken places.now before sizes.old
-        → bases.items ≡ bases_after places.now before sections.now) }
+        → bases.items ≡ section_bases_after places.now before sections.now) }
     ensures taken { OnOk result ((before : List SectionData) → AreTaken places.now before sizes.old
         → AreTaken places.now (before ++ sections.now) sizes.new) }
     ensures room { OnOk result ((before : List SectionData) → AreTaken places.now before sizes.old
-        → no_room_refusal_after places.now before sections.now ≡ None) }
+        → first_no_room_refusal places.now before sections.now ≡ None) }
     ensures small { OnOk result (AreSmallPlaceSizes sizes.new) }
     ensures err { IfErr result (λ e. (before : List SectionData)
         → AreTaken places.now before sizes.old
-        → IsRefusal (no_room_refusal_after places.now before sections.now) e) }
+        → IsRefusal (first_no_room_refusal places.now before sections.now) e) }
 {
     let mut bases = Vec::new(alloc);
     for section in sections {

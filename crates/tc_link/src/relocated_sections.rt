@@ -2,9 +2,9 @@
 ghost use Rattle.std.specs.Prelude.{◌≡◌, ◌≤◌, ◌<◌, ◌+◌, List, length, map, Some, None, OnOk, IfOk, IfErr, MatchResult};
 ghost use Rattle.tc_object.specs.Objects.{section_size_at};
 ghost use Rattle.tc_reloc.specs.Refusals.{reloc_value_refusal};
-ghost use Rattle.tc_link.specs.GlobalSymbols.{GlobalData, globals_of, AreGlobals};
-ghost use Rattle.tc_link.specs.Relocated.{symbol_addresses, with_relocated_field, with_filled_field, sections_with_reloc, relocated_sections, relocated_contents, reloc_value, reloc_field_at};
-ghost use Rattle.tc_link.specs.Refusals.{reloc_refusal, first_refusal_over, refusal_at, reloc_refusal_in};
+ghost use Rattle.tc_link.specs.GlobalSymbols.{GlobalData, globals_of, HoldsGlobals};
+ghost use Rattle.tc_link.specs.Relocated.{symbol_addresses, section_bytes_with_field, section_with_filled_field, sections_with_reloc, relocated_sections, all_relocated_sections, reloc_value, reloc_field_at};
+ghost use Rattle.tc_link.specs.Refusals.{reloc_error, first_refusal_over, refusal_at, first_reloc_refusal};
 ghost use Rattle.tc_link.specs.Shapes.{section_shape};
 ghost use Rattle.tc_link.specs.Errors.{IsRefusal};
 ghost use Rattle.tc_link.specs.Placing.{PlacedData};
@@ -21,17 +21,17 @@ use tc_reloc::{RelocErr, apply};
 
 /// Returns the sections of all objects, with their relocations written, or the first relocation
 /// that is refused.
-#[tactic(auto, unfolding(crate::specs::Relocated::relocated_contents, crate::specs::Refusals::reloc_refusal_in))]
+#[tactic(auto, unfolding(crate::specs::Relocated::all_relocated_sections, crate::specs::Refusals::first_reloc_refusal))]
 pub(crate) fn all_relocated_sections<'a>(
     alloc: Global,
     names: &HashMap<&str, Definition>,
     placed: &[Placed<'_, 'a>],
 ) -> Result<Vec<WrittenSection<'a>>, LinkErr>
     requires few { length placed.now ≤ 65535 }
-    requires globals { AreGlobals names.now placed.now (globals_of placed.now) }
-    ensures sections { IfOk result (λ ss. ss.items ≡ relocated_contents placed.now) }
-    ensures none { OnOk result (reloc_refusal_in (globals_of placed.now) placed.now ≡ None) }
-    ensures err { IfErr result (IsRefusal (reloc_refusal_in (globals_of placed.now) placed.now)) }
+    requires globals { HoldsGlobals names.now placed.now (globals_of placed.now) }
+    ensures sections { IfOk result (λ ss. ss.items ≡ all_relocated_sections placed.now) }
+    ensures none { OnOk result (first_reloc_refusal (globals_of placed.now) placed.now ≡ None) }
+    ensures err { IfErr result (IsRefusal (first_reloc_refusal (globals_of placed.now) placed.now)) }
 {
     let mut contents = Vec::new(alloc);
     for (number, each) in placed.iter().enumerate() {
@@ -59,10 +59,10 @@ fn relocate_object<'a>(
     each: &Placed<'_, 'a>,
 ) -> Result<Vec<WrittenSection<'a>>, LinkErr>
     ensures sections { IfOk result (λ ss. (all : List GlobalData)
-        → AreGlobals names.now placed.now all → ss.items ≡ relocated_sections all each.now) }
-    ensures none { OnOk result ((all : List GlobalData) → AreGlobals names.now placed.now all
+        → HoldsGlobals names.now placed.now all → ss.items ≡ relocated_sections all each.now) }
+    ensures none { OnOk result ((all : List GlobalData) → HoldsGlobals names.now placed.now all
         → first_refusal_over (refusal_at all number each.now) each.now.object.relocs ≡ None) }
-    ensures err { IfErr result (λ e. (all : List GlobalData) → AreGlobals names.now placed.now all
+    ensures err { IfErr result (λ e. (all : List GlobalData) → HoldsGlobals names.now placed.now all
         → IsRefusal (first_refusal_over (refusal_at all number each.now) each.now.object.relocs)
         e) }
 {
@@ -119,8 +119,8 @@ fn write_reloc_in_object(
     requires within { reloc.now.section < length sections.old }
     requires room { reloc.now.offset + 4 ≤ section_size_at sections.old reloc.now.section }
     ensures refusal { (all : List GlobalData) → addresses.now ≡ symbol_addresses all placed.now
-        → MatchResult result (λ _. reloc_refusal all placed.now reloc.now ≡ None)
-        (λ err. reloc_refusal all placed.now reloc.now ≡ Some err) }
+        → MatchResult result (λ _. reloc_error all placed.now reloc.now ≡ None)
+        (λ err. reloc_error all placed.now reloc.now ≡ Some err) }
     ensures written { OnOk result ((all : List GlobalData)
         → addresses.now ≡ symbol_addresses all placed.now
         → sections.new ≡ sections_with_reloc all placed.now sections.old reloc.now) }
@@ -145,7 +145,7 @@ fn write_reloc_in_section(
         (λ _. reloc_value_refusal reloc.now.kind place value ≡ None)
         (λ err. reloc_value_refusal reloc.now.kind place value ≡ Some err) }
     ensures written { OnOk result
-        (section.new ≡ with_filled_field reloc.now place value section.old) }
+        (section.new ≡ section_with_filled_field reloc.now place value section.old) }
 {
     let at = reloc.offset as usize;
     let field = apply(reloc.kind, reloc_field_at(&section.bytes, at), place, value)?;
@@ -164,7 +164,7 @@ fn reloc_field_at(bytes: &[u8], at: usize) -> [u8; 4]
 /// Writes the four bytes of a relocation's field at an offset of the section that is relocated.
 fn write_reloc_field(bytes: &mut [u8], at: usize, field: [u8; 4])
     requires { at + 4 ≤ length bytes.old }
-    ensures { bytes.new ≡ with_relocated_field bytes.old at field }
+    ensures { bytes.new ≡ section_bytes_with_field bytes.old at field }
 {
     bytes[at..at + 4].copy_from_slice(&field);
 }

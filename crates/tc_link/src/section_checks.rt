@@ -2,8 +2,8 @@
 ghost use Rattle.std.specs.Prelude.{◌≡◌, ◌<◌, ◌&&◌, ◌||◌, nat_lt, not, ℕ, Bool, List, length, slice_index_or, None, OnOk, IfOk, IfErr};
 ghost use Rattle.std.specs.Option.{option_map};
 ghost use Rattle.tc_object.specs.Objects.{SymbolData};
-ghost use Rattle.tc_link.specs.Layouts.{is_placed};
-ghost use Rattle.tc_link.specs.Refusals.{no_place, no_place_refusal, no_place_refusal_in, first_refusal_over, has_symbol};
+ghost use Rattle.tc_link.specs.Layouts.{has_place_for};
+ghost use Rattle.tc_link.specs.Refusals.{no_place, no_place_refusal, first_no_place_refusal, first_refusal_over, has_symbol_in_section};
 ghost use Rattle.tc_link.specs.Errors.{IsRefusal};
 ghost use Rattle.tc_link.specs.declared.errors.LinkErr.TheVariants.{NoMemory};
 
@@ -19,8 +19,8 @@ pub(crate) fn check_places(
     places: &[Place],
     objects: &[ObjectRef<'_>],
 ) -> Result<(), LinkErr>
-    ensures ok { OnOk result (no_place_refusal_in places.now objects.now ≡ None) }
-    ensures err { IfErr result (IsRefusal (no_place_refusal_in places.now objects.now)) }
+    ensures ok { OnOk result (first_no_place_refusal places.now objects.now ≡ None) }
+    ensures err { IfErr result (IsRefusal (first_no_place_refusal places.now objects.now)) }
 {
     for object in objects {
         let held = section_symbol_marks(alloc, object)?;
@@ -34,7 +34,7 @@ pub(crate) fn check_places(
 // For each section of an object, whether a symbol is defined in it.
 fn section_symbol_marks(alloc: Global, object: &ObjectRef<'_>) -> Result<Vec<bool>, LinkErr>
     ensures held { IfOk result (λ held. (k : ℕ) (d : Bool) → k < length object.now.sections
-        → slice_index_or held.items k d ≡ has_symbol object.now.symbols k) }
+        → slice_index_or held.items k d ≡ has_symbol_in_section object.now.symbols k) }
     ensures count { IfOk result (λ held. length held.items ≡ length object.now.sections) }
     ensures err { IfErr result (λ e. e ≡ NoMemory) }
 {
@@ -56,7 +56,7 @@ fn first_unplaced_section<'a>(
     requires { length held.now ≡ length sections.now }
     ensures { (symbols : List SymbolData)
         → ((k : ℕ) (d : Bool) → k < length sections.now
-        → slice_index_or held.now k d ≡ has_symbol symbols k)
+        → slice_index_or held.now k d ≡ has_symbol_in_section symbols k)
         → first_refusal_over (no_place_refusal places.now symbols) sections.now
         ≡ option_map (λ name. no_place name.now) result }
 {
@@ -72,7 +72,7 @@ fn first_unplaced_section<'a>(
 fn is_unplaced(places: &[Place], held: bool, section: &SectionRef<'_>) -> bool
     ensures { result
         ≡ ((nat_lt 0 (length section.now.bytes) || held)
-        && not (is_placed places.now section.now.name)) }
+        && not (has_place_for places.now section.now.name)) }
 {
     (!section.bytes.is_empty() || held) && !has_place_for(places, section.name)
 }

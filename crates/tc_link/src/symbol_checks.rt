@@ -3,8 +3,8 @@ ghost use Rattle.std.specs.Prelude.{◌≡◌, ◌<◌, ◌==◌, ◌&&◌, nat_
 ghost use Rattle.std.specs.Option.{option_map};
 ghost use Rattle.tc_object.specs.declared.relocs.Reloc.{Reloc};
 ghost use Rattle.tc_object.specs.Objects.{ObjectData};
-ghost use Rattle.tc_link.specs.GlobalSymbols.{is_global, globals_named, CountsGlobals};
-ghost use Rattle.tc_link.specs.Refusals.{twice, missing, repeated_symbol_refusal, repeated_symbol_refusal_in, missing_symbol_refusal, missing_symbol_refusal_in, first_refusal_over, is_used_by_relocs};
+ghost use Rattle.tc_link.specs.GlobalSymbols.{is_global, count_globals_named, KnowsRepeatedGlobals};
+ghost use Rattle.tc_link.specs.Refusals.{twice, missing, repeated_symbol_refusal, first_repeated_symbol_refusal, missing_symbol_refusal, first_missing_symbol_refusal, first_refusal_over, is_used_by_relocs};
 ghost use Rattle.tc_link.specs.Errors.{IsRefusal};
 ghost use Rattle.tc_link.specs.declared.errors.LinkErr.TheVariants.{NoMemory};
 
@@ -21,9 +21,9 @@ pub(crate) fn check_repeated_symbols(
     names: &HashMap<&str, Definition>,
     objects: &[ObjectRef<'_>],
 ) -> Result<(), LinkErr>
-    requires { CountsGlobals names.now objects.now }
-    ensures ok { OnOk result (repeated_symbol_refusal_in objects.now ≡ None) }
-    ensures err { IfErr result (IsRefusal (repeated_symbol_refusal_in objects.now)) }
+    requires { KnowsRepeatedGlobals names.now objects.now }
+    ensures ok { OnOk result (first_repeated_symbol_refusal objects.now ≡ None) }
+    ensures err { IfErr result (IsRefusal (first_repeated_symbol_refusal objects.now)) }
 {
     if names.values().all(|definition| !definition.is_twice) {
         return Ok(());
@@ -52,9 +52,9 @@ pub(crate) fn check_missing_symbols(
     names: &HashMap<&str, Definition>,
     objects: &[ObjectRef<'_>],
 ) -> Result<(), LinkErr>
-    requires { CountsGlobals names.now objects.now }
-    ensures ok { OnOk result (missing_symbol_refusal_in objects.now ≡ None) }
-    ensures err { IfErr result (IsRefusal (missing_symbol_refusal_in objects.now)) }
+    requires { KnowsRepeatedGlobals names.now objects.now }
+    ensures ok { OnOk result (first_missing_symbol_refusal objects.now ≡ None) }
+    ensures err { IfErr result (IsRefusal (first_missing_symbol_refusal objects.now)) }
 {
     for object in objects {
         let used = used_symbol_marks(alloc, object)?;
@@ -70,7 +70,7 @@ fn first_repeated_symbol<'a>(
     names: &HashMap<&str, Definition>,
     symbols: &[SymbolRef<'a>],
 ) -> Option<&'a str>
-    ensures { (objects : List ObjectData) → CountsGlobals names.now objects
+    ensures { (objects : List ObjectData) → KnowsRepeatedGlobals names.now objects
         → first_refusal_over (repeated_symbol_refusal objects) symbols.now
         ≡ option_map (λ name. twice name.now) result }
 {
@@ -84,8 +84,8 @@ fn first_repeated_symbol<'a>(
 
 // Whether a symbol is global and several objects define its name.
 fn is_repeated_symbol(names: &HashMap<&str, Definition>, symbol: &SymbolRef<'_>) -> bool
-    ensures { (objects : List ObjectData) → CountsGlobals names.now objects
-        → result ≡ (is_global symbol.now && nat_lt 1 (globals_named objects symbol.now.name)) }
+    ensures { (objects : List ObjectData) → KnowsRepeatedGlobals names.now objects
+        → result ≡ (is_global symbol.now && nat_lt 1 (count_globals_named objects symbol.now.name)) }
 {
     symbol.kind == GLOBAL_SYMBOL && has_several_globals(names, symbol.name)
 }
@@ -111,7 +111,7 @@ fn first_missing_symbol<'a>(
     symbols: &[SymbolRef<'a>],
 ) -> Option<&'a str>
     requires { length used.now ≡ length symbols.now }
-    ensures { (objects : List ObjectData) → CountsGlobals names.now objects
+    ensures { (objects : List ObjectData) → KnowsRepeatedGlobals names.now objects
         → (relocs : List Reloc)
         → ((k : ℕ) (d : Bool) → k < length symbols.now
         → slice_index_or used.now k d ≡ is_used_by_relocs relocs k)
@@ -129,8 +129,8 @@ fn first_missing_symbol<'a>(
 // Whether a symbol is used, and undefined in its object and all others. `used` says whether a
 // relocation uses it.
 fn is_missing_symbol(names: &HashMap<&str, Definition>, used: bool, symbol: &SymbolRef<'_>) -> bool
-    ensures { (objects : List ObjectData) → CountsGlobals names.now objects
-        → result ≡ (symbol.now.kind == 0 && used && globals_named objects symbol.now.name == 0) }
+    ensures { (objects : List ObjectData) → KnowsRepeatedGlobals names.now objects
+        → result ≡ (symbol.now.kind == 0 && used && count_globals_named objects symbol.now.name == 0) }
 {
     symbol.kind == UNDEFINED_SYMBOL && used && has_no_global(names, symbol.name)
 }

@@ -12,7 +12,7 @@ use Rattle.std.specs.FinMap.{same_map, nat_cmp-IsAntisymmetric}
 use Rattle.std.specs.Cmp.{nat_cmp_total}
 use Rattle.csa_chain.specs.MemoryBytes.{Memory, is_mapped}
 use Rattle.elf_image.specs.declared.segments.Segment.{Segment}
-use Rattle.elf_image.specs.Images.{ImageData, SegmentData, segment_data, is_segment, segments_byte, image_byte}
+use Rattle.elf_image.specs.Images.{ImageData, SegmentData, segment_data, is_segment, byte_in_segments, image_byte}
 use Rattle.tcd_base.specs.declared.range.Range.{Range}
 use Rattle.tc_mem.specs.Written.{IsMemoryWritten}
 use Rattle.tc_machine.specs.Starting.{with_image_in_range, IsCopiedToMemory}
@@ -26,20 +26,20 @@ held_or_not s q =
       | inr above ↦ elim (cases_lt q (s.at + length s.bytes)) [ inl within ↦ inl (above, within) | inr beyond ↦ inr (inr beyond) ]
     ]
 
-byte_held : (s : SegmentData) (ss : List SegmentData) (q : ℕ) → s.at ≤ q → q < s.at + length s.bytes → segments_byte (s ∷ ss) q ≡ Some (get_or s.bytes (q - s.at) 0)
+byte_held : (s : SegmentData) (ss : List SegmentData) (q : ℕ) → s.at ≤ q → q < s.at + length s.bytes → byte_in_segments (s ∷ ss) q ≡ Some (get_or s.bytes (q - s.at) 0)
 byte_held s ss q low high =
     let e1 : nat_le s.at q ≡ true = le-leb s.at q low in
     let e2 : nat_lt q (s.at + length s.bytes) ≡ true = lt-ltb q (s.at + length s.bytes) high in
-    ap (λ (t : Bool). cond (t && nat_lt q (s.at + length s.bytes)) (slice_get s.bytes (q - s.at)) (segments_byte ss q)) e1
-    ∙ ap (λ (t : Bool). cond t (slice_get s.bytes (q - s.at)) (segments_byte ss q)) e2
+    ap (λ (t : Bool). cond (t && nat_lt q (s.at + length s.bytes)) (slice_get s.bytes (q - s.at)) (byte_in_segments ss q)) e1
+    ∙ ap (λ (t : Bool). cond t (slice_get s.bytes (q - s.at)) (byte_in_segments ss q)) e2
     ∙ slice_get-get_or s.bytes (q - s.at) 0 (omega arith)
 
-byte_passed : (s : SegmentData) (ss : List SegmentData) (q : ℕ) → (q < s.at) ⊎ (s.at + length s.bytes ≤ q) → segments_byte (s ∷ ss) q ≡ segments_byte ss q
+byte_passed : (s : SegmentData) (ss : List SegmentData) (q : ℕ) → (q < s.at) ⊎ (s.at + length s.bytes ≤ q) → byte_in_segments (s ∷ ss) q ≡ byte_in_segments ss q
 byte_passed s ss q (inl below) =
-    ap (λ (t : Bool). cond (t && nat_lt q (s.at + length s.bytes)) (slice_get s.bytes (q - s.at)) (segments_byte ss q)) (lt-leb s.at q below)
+    ap (λ (t : Bool). cond (t && nat_lt q (s.at + length s.bytes)) (slice_get s.bytes (q - s.at)) (byte_in_segments ss q)) (lt-leb s.at q below)
 byte_passed s ss q (inr beyond) =
-    ap (λ (t : Bool). cond (t && nat_lt q (s.at + length s.bytes)) (slice_get s.bytes (q - s.at)) (segments_byte ss q)) (le-leb s.at q (omega arith))
-    ∙ ap (λ (t : Bool). cond t (slice_get s.bytes (q - s.at)) (segments_byte ss q)) (le-ltb q (s.at + length s.bytes) beyond)
+    ap (λ (t : Bool). cond (t && nat_lt q (s.at + length s.bytes)) (slice_get s.bytes (q - s.at)) (byte_in_segments ss q)) (le-leb s.at q (omega arith))
+    ∙ ap (λ (t : Bool). cond t (slice_get s.bytes (q - s.at)) (byte_in_segments ss q)) (le-ltb q (s.at + length s.bytes) beyond)
 
 nothing : (o : Option ℕ) (x : ℕ) → o ≡ None → o ≡ Some x → ⊥
 nothing o x none some = cc
@@ -66,12 +66,12 @@ segment_copied s r start end f l bytes m new w same start_is end_is some f_is l_
                 ∙ ap (λ (x : ℕ). Some x) (get_or-between bytes f l (q - start) 0 (omega arith) ∙ ap (λ (i : ℕ). get_or bytes i 0) offset ∙ ap (λ (xs : List ℕ). get_or xs (q - s.at) 0) same)
                 ∙ sym (byte_held s [] q lo hi)
                 ∙ e
-            | inr out ↦ absurd (nothing (segments_byte (s ∷ []) q) b (byte_passed s [] q out) e)
+            | inr out ↦ absurd (nothing (byte_in_segments (s ∷ []) q) b (byte_passed s [] q out) e)
           ];
       outside = λ q out. w.elsewhere q (elim out [ inl below ↦ inl (omega arith) | inr beyond ↦ inr (omega arith) ]);
       none = λ q e.
           elim (held_or_not s q) [
-            | inl here ↦ absurd (nothing (segments_byte (s ∷ []) q) (get_or s.bytes (q - s.at) 0) e (byte_held s [] q here.0 here.1))
+            | inl here ↦ absurd (nothing (byte_in_segments (s ∷ []) q) (get_or s.bytes (q - s.at) 0) e (byte_held s [] q here.0 here.1))
             | inr out ↦ w.elsewhere q (elim out [ inl below ↦ inl (omega arith) | inr beyond ↦ inr (omega arith) ])
           ];
     }
@@ -91,7 +91,7 @@ one_more s ss r m now new before more = record {
   outside = λ q out. more.outside q out ∙ before.outside q out;
   none = λ q e.
       elim (held_or_not s q) [
-        | inl here ↦ absurd (nothing (segments_byte (s ∷ ss) q) (get_or s.bytes (q - s.at) 0) e (byte_held s ss q here.0 here.1))
+        | inl here ↦ absurd (nothing (byte_in_segments (s ∷ ss) q) (get_or s.bytes (q - s.at) 0) e (byte_held s ss q here.0 here.1))
         | inr out ↦ more.none q (byte_passed s [] q out) ∙ before.none q (sym (byte_passed s ss q out) ∙ e)
       ];
 }

@@ -14,10 +14,10 @@ use Rattle.tc_machine.specs.declared.events.End.TheVariants.{Running, Dead}
 use Rattle.tc_machine.specs.declared.state.Machine.{Machine}
 use Rattle.tc_machine.specs.Machine.{with_reg, dead_machine, if_end_running, if_running, psw_with_status, with_core_register}
 use Rattle.tc_machine.specs.Instructions.{access_address, with_base_incremented, is_trapping_access, with_register_decremented, does}
-use Rattle.tc_machine.specs.Handlers.{trap}
-use Rattle.tc_machine.specs.SavesAndRestores.{with_context_saved, save, has_kind, with_context_restored, restore}
+use Rattle.tc_machine.specs.Handlers.{after_trap}
+use Rattle.tc_machine.specs.SavesAndRestores.{with_context_saved, save, is_last_context_of_kind, with_context_restored, restore}
 use Rattle.tc_machine.specs.Fetching.{fetched_instruction}
-use Rattle.tc_machine.specs.Stepping.{is_interrupt_taken, after_found_instruction, machine_after_event, step}
+use Rattle.tc_machine.specs.Stepping.{is_interrupt_taken, after_fetch_result, machine_after_event, step}
 use Rattle.tc_machine.specs.MachineLaws.{DeathChangesEndOnly}
 
 -- n is m after an event: if it died, and not of Fcd, only the end changed
@@ -60,7 +60,7 @@ module _ (m : Machine) (runs : m.end ≡ Running) where
   unfolding restore
   only_restore upper =
       cond_both (link_in m.pcxi == 0) _ _ (OnlyEnd m) (λ _. only_died m Csu) (λ _.
-      cond_both (has_kind m upper) _ _ (OnlyEnd m)
+      cond_both (is_last_context_of_kind m upper) _ _ (OnlyEnd m)
       (λ _. cond_both (is_area m.mem (link_in m.pcxi)) _ _ (OnlyEnd m) (λ _. only_running m (with_context_restored m upper) (end_restored m upper ∙ runs)) (λ _. only_died m NoArea))
       (λ _. only_died m Ctyp))
 
@@ -91,7 +91,7 @@ end_core_register m number w =
 
 -- ---- what an event does
 module _ (m : Machine) (runs : m.end ≡ Running) where
-  only_trap : (class tin back : ℕ) → OnlyEnd m (trap m class tin back)
+  only_trap : (class tin back : ℕ) → OnlyEnd m (after_trap m class tin back)
   only_trap class tin back = only_then m (save m true) _ (λ n. refl) (only_save m runs true)
 
   only_does : (e : Event) (s : Shape) (n : ℕ) → OnlyEnd m (does m e s n)
@@ -116,7 +116,7 @@ module _ (m : Machine) (runs : m.end ≡ Running) where
   only_does e (Mtcr src number) n = only_running m _ (end_core_register m number _ ∙ runs)
   only_does e _ n = only_running m _ runs
 
-  only_executed : (e : Event) (found : Result (Shape × ℕ) Cause) → OnlyEnd m (after_found_instruction m e found)
+  only_executed : (e : Event) (found : Result (Shape × ℕ) Cause) → OnlyEnd m (after_fetch_result m e found)
   only_executed e (Ok found) = only_does e found.0 found.1
   only_executed e (Err cause) = only_died m cause
 

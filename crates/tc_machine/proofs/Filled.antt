@@ -3,7 +3,7 @@ use Rattle.std.proofs.Common.{◌≡◌, ◌≢◌, ℕ, zero, suc, ◌+◌, ◌
 use Rattle.std.proofs.lemmas.Bool.{cases_eq, cases_lt}
 use Rattle.std.specs.Prelude.{is_some}
 use Rattle.std.specs.FinMap as map
-use Rattle.csa_chain.specs.MemoryBytes.{Memory, is_mapped, with_byte, HasBytes}
+use Rattle.csa_chain.specs.MemoryBytes.{Memory, is_mapped, with_byte, HasOnlyBytes}
 use Rattle.csa_chain.proofs.MemoryLaws.{get-with_byte_same, get-with_byte_other, is_mapped-with_byte, is_mapped-with_words, get-with_words_other}
 use Rattle.csa_chain.proofs.WordLaws.{HasBytes-with_words}
 use Rattle.elf_image.specs.Images.{ImageData, image_byte}
@@ -119,7 +119,7 @@ module _ (at first n : ℕ) (m : Memory) where
   links_mapped zero y = refl
   links_mapped (suc k) y = is_mapped-with_words (with_area_links at first n m k) (at + 64 * k) (next_start_link first n k ∷ []) y ∙ links_mapped k y
 
-  pub links_bytes : HasBytes m → (k : ℕ) → HasBytes (with_area_links at first n m k)
+  pub links_bytes : HasOnlyBytes m → (k : ℕ) → HasOnlyBytes (with_area_links at first n m k)
   unfolding with_area_links
   links_bytes h zero = h
   links_bytes h (suc k) = HasBytes-with_words (with_area_links at first n m k) (at + 64 * k) (next_start_link first n k ∷ []) (links_bytes h k)

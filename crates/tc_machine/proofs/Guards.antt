@@ -11,14 +11,14 @@ use Rattle.tcd_base.specs.declared.range.Range.{Range}
 use Rattle.tcd_base.specs.Ranges.{IsInOneRange}
 use Rattle.tcd_plan.specs.declared.plans.Device.{Device}
 use Rattle.tcd_plan.specs.PlanData.{PlanData}
-use Rattle.tcd_plan.specs.MappedAddresses.{IsInDevice, AnswersAt, IsStoreInRange}
+use Rattle.tcd_plan.specs.MappedAddresses.{IsInDevice, MayAnswerAt, IsStoreInRange}
 use Rattle.tc_machine.specs.declared.events.Event.{Event}
 use Rattle.tc_machine.specs.declared.state.Machine.{Machine}
 use Rattle.tc_machine.specs.PlanAreas.{first_link, plan_areas}
 use Rattle.tc_machine.specs.Instructions.{access_address}
 use Rattle.tc_machine.specs.Stepping.{load_at_pc, run, stored}
 use Rattle.tc_machine.specs.Safe.{Fits, AllFit, IsSafeAt}
-use Rattle.tc_machine.specs.MachineLaws.{EveryEventFits, first_events, EveryRunFits, StartEquationsSuffice, IsAreaWalk, LiesInRange, HasFiveParts, SafeHasFiveParts, StoreInstructionStores}
+use Rattle.tc_machine.specs.MachineLaws.{EventEquationsSuffice, first_events, RunEquationsSuffice, StartEquationsSuffice, IsAreaWalk, LiesInRange, MeetsSafetyEquations, SafeImpliesEquations, StoreInstructionStores}
 use Rattle.tc_machine.proofs.PlanLaws.{link_lt, length-links_up, length-reverse_onto, get_or-links_up}
 use Rattle.tc_machine.proofs.Steps.{stored-is}
 
@@ -27,10 +27,10 @@ not_taken : (ie : Bool) (ccpn irq : ℕ) → (ie && nat_lt ccpn irq) ≡ false �
 not_taken true ccpn irq free on = ltb-false ccpn irq free
 not_taken false ccpn irq free on = cc
 
-answers_at : (ds : List Device) (x input : ℕ) → ((k : ℕ) (d : Device) → slice_get ds k ≡ Some d → d.range.at ≤ x → x + 4 ≤ d.range.at + d.range.len → (d.lo ≤ input) × (input ≤ d.hi)) → AnswersAt x input ds
+answers_at : (ds : List Device) (x input : ℕ) → ((k : ℕ) (d : Device) → slice_get ds k ≡ Some d → d.range.at ≤ x → x + 4 ≤ d.range.at + d.range.len → (d.lo ≤ input) × (input ≤ d.hi)) → MayAnswerAt x input ds
 answers_at ds x input h k d lt within = h k (get_or ds k d) (slice_get-get_or ds k d lt) within.0 within.1
 
-pub every_event : EveryEventFits
+pub every_event : EventEquationsSuffice
 every_event plan m irq input status aln stated small byte answers = record {
   irq = stated;
   input = small;
@@ -38,11 +38,11 @@ every_event plan m irq input status aln stated small byte answers = record {
   answers = λ free. by_load (not_taken m.ie m.ccpn irq free) (load_at_pc m) refl;
 }
   where
-    by_load : (m.ie ≡ true → irq ≤ m.ccpn) → (o : Option (ℕ × ℕ)) → load_at_pc m ≡ o → IfSome o (λ l. l.1 ≡ 4 → AnswersAt l.0 input plan.devices)
+    by_load : (m.ie ≡ true → irq ≤ m.ccpn) → (o : Option (ℕ × ℕ)) → load_at_pc m ≡ o → IfSome o (λ l. l.1 ≡ 4 → MayAnswerAt l.0 input plan.devices)
     by_load low None e = tt
     by_load low (Some l) e = λ four. answers_at plan.devices l.0 input (λ k d. answers low l.0 k d (e ∙ ap (λ (n : ℕ). let o : Option (ℕ × ℕ) = Some (l.0, n) in o) four))
 
-pub every_run : EveryRunFits
+pub every_run : RunEquationsSuffice
 every_run plan states events zero walk fits = (tt, refl)
 every_run plan states events (suc n) walk fits =
     let es = first_events n (λ k. events (suc k)) in
@@ -122,7 +122,7 @@ store_lies plan o h x n e =
     let at : IsStoreInRange plan (x, n) = subst (λ (p : Option (ℕ × ℕ)). IfSome p (IsStoreInRange plan)) e h in
     (at.0, elim at.1 [ inl ram ↦ inl (lies_in plan.ram x n ram) | inr device ↦ inr (lies_in_device plan.devices x n device) ])
 
-five_parts : (image : ImageData) (plan : PlanData) (most : ℕ) (m : Machine) (e : Event) → IsSafeAt image plan most m e → HasFiveParts image plan most m e
+five_parts : (image : ImageData) (plan : PlanData) (most : ℕ) (m : Machine) (e : Event) → IsSafeAt image plan most m e → MeetsSafetyEquations image plan most m e
 five_parts image plan most m e at =
     let chains = at.chains in
     let spells = at.code_in_rom.spells in
@@ -145,7 +145,7 @@ five_parts image plan most m e at =
       store = store_lies plan (stored m e) at.stores_in_range;
     }
 
-pub safe_says : SafeHasFiveParts
+pub safe_says : SafeImpliesEquations
 safe_says image plan most states events n e safe walk starts fits last =
     let r = every_run plan states events n walk fits in
     let here = safe (states 0) (first_events n events) e starts r.0 (subst (λ (m : Machine). Fits plan m e) (sym r.1) last) in

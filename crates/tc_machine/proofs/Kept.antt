@@ -19,7 +19,7 @@ use Rattle.tc_machine.specs.declared.state.Machine.{Machine}
 use Rattle.tc_machine.specs.Machine.{with_reg, if_running, if_end_running, psw_with_status}
 use Rattle.tc_machine.specs.Instructions.{does, with_base_incremented, with_register_decremented, access_address}
 use Rattle.tc_machine.specs.Fetching.{fetched_instruction, mapped_bytes, fetched_shape}
-use Rattle.tc_machine.specs.Stepping.{is_interrupt_taken, after_found_instruction, machine_after_event, step, used_area_count}
+use Rattle.tc_machine.specs.Stepping.{is_interrupt_taken, after_fetch_result, machine_after_event, step, used_area_count}
 use Rattle.tc_machine.specs.InstructionKinds.{is_area_keeping_shape}
 
 -- two states with equal memory and PCXI
@@ -76,7 +76,7 @@ same_does e Nothing k m n = record { mem = refl; pcxi = refl }
 same_does e _ k m n = cc
 
 -- ---- an event that does it
-same_executed : (m : Machine) (e : Event) (shape : Shape) (n : ℕ) (even : Bool) → is_area_keeping_shape e shape ≡ true → Same m (after_found_instruction m e (cond even (Ok (shape, n)) (Err NoCode)))
+same_executed : (m : Machine) (e : Event) (shape : Shape) (n : ℕ) (even : Bool) → is_area_keeping_shape e shape ≡ true → Same m (after_fetch_result m e (cond even (Ok (shape, n)) (Err NoCode)))
 same_executed m e shape n true k = same_does e shape k m n
 same_executed m e shape n false k = record { mem = refl; pcxi = refl }
 

@@ -3,11 +3,11 @@ use Rattle.std.proofs.Common.{◌≡◌, ℕ, zero, suc, ◌+◌, ◌*◌, ◌^�
 use Rattle.std.proofs.lemmas.Bool.{cases_eq, cases_lt}
 use Rattle.std.specs.Prelude.{is_some}
 use Rattle.std.specs.FinMap as finite
-use Rattle.csa_chain.specs.MemoryBytes.{Memory, is_mapped, word_at, with_words, HasBytes}
+use Rattle.csa_chain.specs.MemoryBytes.{Memory, is_mapped, word_at, with_words, HasOnlyBytes}
 use Rattle.csa_chain.specs.Chain.{link_address, is_area, area_word}
 use Rattle.csa_chain.proofs.ChainLaws.{area_word-written, SameArea-written, area_word_same, are_mapped_from}
 use Rattle.elf_image.specs.Images.{ImageData, image_byte}
-use Rattle.tcd_plan.specs.PlanData.{PlanData, IsPlan, areas_range, are_all_ranges_apart}
+use Rattle.tcd_plan.specs.PlanData.{PlanData, IsPlan, areas_range, are_all_ranges_disjoint}
 use Rattle.tc_mem.specs.PlanMemory.{IsMemoryOfZeros, HoldsRom, IsPlanMemory}
 use Rattle.tcd_base.specs.Ranges.{is_address_in_ranges, IsInOneRange}
 use Rattle.tc_machine.specs.Starting.{AreAreasLinked, with_image_in_ranges, next_start_link, with_area_links, start_memory_ranges, IsFilledStartMemory}
@@ -40,7 +40,7 @@ pub record IsStartMemory (image : ImageData) (plan : PlanData) (mem : Memory) : 
   pub memory : IsPlanMemory plan mem
   pub holds : HoldsRom image plan mem
   pub linked : AreAreasLinked plan mem
-  pub bytes : HasBytes mem
+  pub bytes : HasOnlyBytes mem
   pub ram : (x : ℕ) → IsInOneRange x 1 plan.ram → finite.get mem x ≡ Some 0
   pub rom : (x : ℕ) → IsInOneRange x 1 plan.rom → image_byte image x ≡ None → finite.get mem x ≡ Some 0
   pub words : (i k : ℕ) → i < plan.areas → 0 < k → k < 16 → area_word mem (first_link plan + i) k ≡ 0
@@ -75,8 +75,8 @@ module _ (image : ImageData) (plan : PlanData) (ok : IsPlan plan) (zeros : Memor
   rom_and_ram : (x : ℕ) → IsInOneRange x 1 plan.rom → IsInOneRange x 1 plan.ram → ⊥
   rom_and_ram x rom ram =
       let rest = map (λ d. d.range) plan.devices ++ areas_range plan ∷ [] in
-      let e : are_all_ranges_apart (plan.rom ++ (plan.ram ++ rest)) ≡ true =
-      ap are_all_ranges_apart (sym (append_assoc plan.rom plan.ram rest) ∙ sym (append_assoc (plan.rom ++ plan.ram) (map (λ d. d.range) plan.devices) (areas_range plan ∷ []))) ∙ ok.apart in
+      let e : are_all_ranges_disjoint (plan.rom ++ (plan.ram ++ rest)) ≡ true =
+      ap are_all_ranges_disjoint (sym (append_assoc plan.rom plan.ram rest) ∙ sym (append_assoc (plan.rom ++ plan.ram) (map (λ d. d.range) plan.devices) (areas_range plan ∷ []))) ∙ ok.apart in
       all_apart-before x plan.rom (plan.ram ++ rest) e rom (IsInOne-front x 1 plan.ram rest ram)
 
   out_of_areas : (x : ℕ) → (IsInAreas plan x → ⊥) → (j : ℕ) → j < plan.areas → (x < plan.csa_at + 64 * j) ⊎ (plan.csa_at + 64 * j + 4 ≤ x)
@@ -141,7 +141,7 @@ module _ (image : ImageData) (plan : PlanData) (ok : IsPlan plan) (zeros : Memor
   is_in_ranges x (inr (inl ram)) = ram_in x ram
   is_in_ranges x (inr (inr at)) = areas_in x at
 
-  pub start_memory : HasBytes (with_image_in_ranges image zeros plan.rom) → IsStartMemory image plan (with_area_links plan.csa_at (first_link plan) plan.areas (with_image_in_ranges image zeros plan.rom) plan.areas)
+  pub start_memory : HasOnlyBytes (with_image_in_ranges image zeros plan.rom) → IsStartMemory image plan (with_area_links plan.csa_at (first_link plan) plan.areas (with_image_in_ranges image zeros plan.rom) plan.areas)
   start_memory bytes = record {
     memory = λ x. (
       λ h. is_mapped_by x (is_in-one x (start_memory_ranges plan.rom plan.ram plan.csa_at plan.areas)

@@ -5,7 +5,7 @@ use Rattle.std.proofs.lemmas.List.Sums.{AllPass-from_list_all}
 use Rattle.tcd_plan.specs.PlanData.{PlanData, IsPlan}
 use Rattle.std.proofs.lemmas.Nat.{or_lt}
 use Rattle.csa_chain.specs.Chain.{link_in, link_address, is_area, area_word}
-use Rattle.csa_chain.specs.ContextWordLaws.{HasContextWords}
+use Rattle.csa_chain.specs.ContextWordLaws.{IsListOfWords}
 use Rattle.csa_chain.specs.ContextWords.{pcpn_of, pie_of}
 use Rattle.csa_chain.proofs.ContextLaws.{pcxi_word-lt, with_link-lt, link_in-lt, pcpn_of-lt}
 use Rattle.csa_chain.proofs.WordLaws.{area_word-lt, HasBytes-with_words, All-16, d_after_upper-HasWords, a_after_upper-HasWords, d_after_lower-HasWords, a_after_lower-HasWords}
@@ -27,11 +27,11 @@ use Rattle.tc_machine.specs.declared.events.End.TheVariants.{Running, Dead}
 use Rattle.tc_machine.specs.declared.events.Event.{Event}
 use Rattle.tc_machine.specs.declared.state.Machine.{Machine}
 use Rattle.tc_machine.specs.Machine.{reg, with_reg, a10, a11, is_interrupt_stack_used, dead_machine, if_end_running, if_running, psw_with_status, AreRegisters, IsMachine, core_register, with_core_register}
-use Rattle.tc_machine.specs.Instructions.{machine_address_ahead, operand_value, with_pc_advanced, access_address, with_base_incremented, is_trapping_access, misaligned_access_trap, target_of, with_register_decremented, does}
-use Rattle.tc_machine.specs.Handlers.{handler_psw, handler_stack, at_handler_entry, trap, interrupt}
-use Rattle.tc_machine.specs.Stepping.{is_interrupt_taken, after_found_instruction, machine_after_event, step, run}
-use Rattle.tc_machine.specs.SavesAndRestores.{context_of, with_context_saved, save, has_kind, last_context, with_area_released, with_context_restored, restore}
-use Rattle.csa_chain.specs.MemoryBytes.{loaded_number, with_bytes, extend_loaded_bytes}
+use Rattle.tc_machine.specs.Instructions.{wrapping_sum, operand_value, with_pc_advanced, access_address, with_base_incremented, is_trapping_access, misaligned_access_trap, target_of, with_register_decremented, does}
+use Rattle.tc_machine.specs.Handlers.{handler_psw, handler_stack, at_handler_entry, after_trap, after_interrupt}
+use Rattle.tc_machine.specs.Stepping.{is_interrupt_taken, after_fetch_result, machine_after_event, step, run}
+use Rattle.tc_machine.specs.SavesAndRestores.{context_of, with_context_saved, save, is_last_context_of_kind, last_context, with_area_released, with_context_restored, restore}
+use Rattle.csa_chain.specs.MemoryBytes.{loaded_number, with_bytes, load_result}
 use Rattle.tc_machine.specs.Fetching.{mapped_bytes, fetched_shape, fetched_instruction}
 use Rattle.tc_machine.specs.Safe.{Fits, AllFit}
 use Rattle.tc_machine.proofs.Saves.{moved-lt}
@@ -41,10 +41,10 @@ use Rattle.tc_machine.proofs.Words.{register_lt, AreRegisters-set, alu_lt, load_
 abbrev IsWord : ℕ → Type 0
 IsWord w = w < 2 ^ 32
 
-has_words : (ws : List ℕ) → AreRegisters ws → HasContextWords 16 ws
+has_words : (ws : List ℕ) → AreRegisters ws → IsListOfWords 16 ws
 has_words ws h = (h.count, h.words)
 
-are_registers : (ws : List ℕ) → HasContextWords 16 ws → AreRegisters ws
+are_registers : (ws : List ℕ) → IsListOfWords 16 ws → AreRegisters ws
 are_registers ws h = record { count = h.0; words = h.1 }
 
 -- ---- reading
@@ -83,7 +83,7 @@ stays_at : (m : Machine) → IsMachine m → (pc : ℕ) → pc < 2 ^ 32 → IsMa
 stays_at m k pc small = record { d = k.d; a = k.a; pc = small; psw = k.psw; pcxi = k.pcxi; fcx = k.fcx; lcx = k.lcx; ccpn = k.ccpn; biv = k.biv; btv = k.btv; isp = k.isp; bytes = k.bytes }
 
 stays_advanced : (m : Machine) → IsMachine m → (n : ℕ) → IsMachine (with_pc_advanced n m)
-stays_advanced m k n = stays_at m k (machine_address_ahead m.pc n) (moved-lt m.pc n)
+stays_advanced m k n = stays_at m k (wrapping_sum m.pc n) (moved-lt m.pc n)
 
 stays_died : (m : Machine) → IsMachine m → (cause : Cause) → IsMachine (dead_machine cause m)
 stays_died m k cause = record { d = k.d; a = k.a; pc = k.pc; psw = k.psw; pcxi = k.pcxi; fcx = k.fcx; lcx = k.lcx; ccpn = k.ccpn; biv = k.biv; btv = k.btv; isp = k.isp; bytes = k.bytes }
@@ -131,7 +131,7 @@ stays_save m k upper =
     (λ _. stays_died (with_context_saved m upper) (stays_saved m k upper) Fcd) (λ _. stays_saved m k upper))
     (λ _. stays_died m k NoArea))
 
-last_words : (m : Machine) → IsMachine m → HasContextWords 16 (last_context m)
+last_words : (m : Machine) → IsMachine m → IsListOfWords 16 (last_context m)
 last_words m k =
     let w = area_word-lt m.mem k.bytes (link_in m.pcxi) in
     (refl, All-16 IsWord _ _ _ _ _ _ _ _ _ _ _ _ _ _ _ _ (w 0) (w 1) (w 2) (w 3) (w 4) (w 5) (w 6) (w 7) (w 8) (w 9) (w 10) (w 11) (w 12) (w 13) (w 14) (w 15))
@@ -197,9 +197,9 @@ stays_restored m k false =
 pub stays_restore : (m : Machine) → IsMachine m → (upper : Bool) → IsMachine (restore m upper)
 unfolding restore
 stays_restore m k upper =
-    cond_both (link_in m.pcxi == 0) (dead_machine Csu m) (cond (has_kind m upper) (cond (is_area m.mem (link_in m.pcxi)) (with_context_restored m upper) (dead_machine NoArea m)) (dead_machine Ctyp m)) IsMachine
+    cond_both (link_in m.pcxi == 0) (dead_machine Csu m) (cond (is_last_context_of_kind m upper) (cond (is_area m.mem (link_in m.pcxi)) (with_context_restored m upper) (dead_machine NoArea m)) (dead_machine Ctyp m)) IsMachine
     (λ _. stays_died m k Csu)
-    (λ _. cond_both (has_kind m upper) (cond (is_area m.mem (link_in m.pcxi)) (with_context_restored m upper) (dead_machine NoArea m)) (dead_machine Ctyp m) IsMachine
+    (λ _. cond_both (is_last_context_of_kind m upper) (cond (is_area m.mem (link_in m.pcxi)) (with_context_restored m upper) (dead_machine NoArea m)) (dead_machine Ctyp m) IsMachine
     (λ _. cond_both (is_area m.mem (link_in m.pcxi)) (with_context_restored m upper) (dead_machine NoArea m) IsMachine (λ _. stays_restored m k upper) (λ _. stays_died m k NoArea))
     (λ _. stays_died m k Ctyp))
 
@@ -226,14 +226,14 @@ stays_handler m k s h back entry ccpn back_small entry_small ccpn_small = record
   bytes = h.bytes;
 }
 
-pub stays_interrupt : (m : Machine) → IsMachine m → (irq : ℕ) → irq < 2 ^ 8 → IsMachine (interrupt m irq)
+pub stays_interrupt : (m : Machine) → IsMachine m → (irq : ℕ) → irq < 2 ^ 8 → IsMachine (after_interrupt m irq)
 stays_interrupt m k irq small =
     stays_then (save m true) (stays_save m k true) _ (λ s h. stays_handler m k s h m.pc (bit_or m.biv (irq * 2 ^ 5)) irq k.pc (or_lt 32 m.biv (irq * 2 ^ 5) k.biv (omega arith)) small)
 
 with_d15 : (m : Machine) → IsMachine m → (w : ℕ) → w < 2 ^ 32 → IsMachine (record m { d = set m.d 15 w })
 with_d15 m k w small = record { d = AreRegisters-set m.d 15 w small k.d; a = k.a; pc = k.pc; psw = k.psw; pcxi = k.pcxi; fcx = k.fcx; lcx = k.lcx; ccpn = k.ccpn; biv = k.biv; btv = k.btv; isp = k.isp; bytes = k.bytes }
 
-pub stays_trap : (m : Machine) → IsMachine m → (class tin back : ℕ) → class < 8 → tin < 2 ^ 32 → back < 2 ^ 32 → IsMachine (trap m class tin back)
+pub stays_trap : (m : Machine) → IsMachine m → (class tin back : ℕ) → class < 8 → tin < 2 ^ 32 → back < 2 ^ 32 → IsMachine (after_trap m class tin back)
 stays_trap m k class tin back low small back_small =
     stays_then (save m true) (stays_save m k true) _
     (λ s h. with_d15 (at_handler_entry m s back (bit_or m.btv (class * 2 ^ 5))) (stays_handler m k s h back (bit_or m.btv (class * 2 ^ 5)) s.ccpn back_small (or_lt 32 m.btv (class * 2 ^ 5) k.btv (omega arith)) h.ccpn) tin small)
@@ -243,7 +243,7 @@ stays_misaligned m k = stays_trap m k 2 4 m.pc (omega arith) (omega arith) k.pc
 
 -- ---- parts of instructions
 stays_base : (m : Machine) → IsMachine m → (base : Arg) (offset : ℕ) (after : Bool) → IsMachine (with_base_incremented m base offset after)
-stays_base m k (Reg r) offset after = cond_both after (with_reg m r (machine_address_ahead (reg m r) offset)) m IsMachine (λ _. stays_reg m k r (machine_address_ahead (reg m r) offset) (moved-lt (reg m r) offset)) (λ _. k)
+stays_base m k (Reg r) offset after = cond_both after (with_reg m r (wrapping_sum (reg m r) offset)) m IsMachine (λ _. stays_reg m k r (wrapping_sum (reg m r) offset) (moved-lt (reg m r) offset)) (λ _. k)
 stays_base m k (Word w) offset after = k
 
 stays_stored : (m : Machine) → IsMachine m → (base : Arg) (offset : ℕ) (after : Bool) (x w size : ℕ) → IsMachine (record (with_base_incremented m base offset after) { mem = with_bytes m.mem x w size })
@@ -252,7 +252,7 @@ stays_stored m k base offset after x w size =
     record { d = b.d; a = b.a; pc = b.pc; psw = b.psw; pcxi = b.pcxi; fcx = b.fcx; lcx = b.lcx; ccpn = b.ccpn; biv = b.biv; btv = b.btv; isp = b.isp; bytes = HasBytes-with_bytes m.mem x w size k.bytes }
 
 stays_lowered : (m : Machine) → IsMachine m → (x : ℕ) (lowers : Bool) → IsMachine (with_register_decremented m x lowers)
-stays_lowered m k x lowers = cond_both lowers (with_reg m x (machine_address_ahead (reg m x) (2 ^ 32 - 1))) m IsMachine (λ _. stays_reg m k x (machine_address_ahead (reg m x) (2 ^ 32 - 1)) (moved-lt (reg m x) (2 ^ 32 - 1))) (λ _. k)
+stays_lowered m k x lowers = cond_both lowers (with_reg m x (wrapping_sum (reg m x) (2 ^ 32 - 1))) m IsMachine (λ _. stays_reg m k x (wrapping_sum (reg m x) (2 ^ 32 - 1)) (moved-lt (reg m x) (2 ^ 32 - 1))) (λ _. k)
 
 stays_core : (m : Machine) → IsMachine m → (number w : ℕ) → w < 2 ^ 32 → IsMachine (with_core_register m number w)
 stays_core m k number w small =
@@ -276,30 +276,30 @@ stays_called m k back to small at = record { d = k.d; a = AreRegisters-set m.a 1
 pub stays_does : (m : Machine) → IsMachine m → (e : Event) → e.input < 2 ^ 32 → (shape : Shape) (n : ℕ) → IsShape shape → IsMachine (does m e shape n)
 unfolding does
 stays_does m k e small (Compute op dst x y) n h = stays_advanced _ (stays_reg m k dst (alu_of op (operand_value m x) (operand_value m y)) (alu_lt op (operand_value m x) (operand_value m y) (arg_lt m k x h.0) (arg_lt m k y h.1))) n
-stays_does m k e small (Scaled dst base index c) n h = stays_advanced _ (stays_reg m k dst (machine_address_ahead (reg m base) (reg m index * 2 ^ c)) (moved-lt (reg m base) (reg m index * 2 ^ c))) n
+stays_does m k e small (Scaled dst base index c) n h = stays_advanced _ (stays_reg m k dst (wrapping_sum (reg m base) (reg m index * 2 ^ c)) (moved-lt (reg m base) (reg m index * 2 ^ c))) n
 stays_does m k e small (Load dst base offset size signed after) n h =
     let x = access_address m base offset after in
-    cond_both (is_trapping_access e x size) (misaligned_access_trap m) (with_pc_advanced n (with_reg (with_base_incremented m base offset after) dst (extend_loaded_bytes signed size (loaded_number m.mem e.input x size)))) IsMachine (λ _. stays_misaligned m k)
-    (λ _. stays_advanced _ (stays_reg (with_base_incremented m base offset after) (stays_base m k base offset after) dst (extend_loaded_bytes signed size (loaded_number m.mem e.input x size)) (load_lt m.mem k.bytes signed e.input x size h)) n)
+    cond_both (is_trapping_access e x size) (misaligned_access_trap m) (with_pc_advanced n (with_reg (with_base_incremented m base offset after) dst (load_result signed size (loaded_number m.mem e.input x size)))) IsMachine (λ _. stays_misaligned m k)
+    (λ _. stays_advanced _ (stays_reg (with_base_incremented m base offset after) (stays_base m k base offset after) dst (load_result signed size (loaded_number m.mem e.input x size)) (load_lt m.mem k.bytes signed e.input x size h)) n)
 stays_does m k e small (Store src base offset size after) n h =
     let x = access_address m base offset after in
     cond_both (is_trapping_access e x size) (misaligned_access_trap m) (with_pc_advanced n (record (with_base_incremented m base offset after) { mem = with_bytes m.mem x (reg m src) size })) IsMachine (λ _. stays_misaligned m k)
     (λ _. stays_advanced _ (stays_stored m k base offset after x (reg m src) size) n)
 stays_does m k e small (Branch cond' x y by lowers) n h =
-    stays_at (with_register_decremented m x lowers) (stays_lowered m k x lowers) (cond (taken_of cond' (reg m x) (operand_value m y)) (machine_address_ahead m.pc by) (machine_address_ahead m.pc n))
-    (cond_both (taken_of cond' (reg m x) (operand_value m y)) (machine_address_ahead m.pc by) (machine_address_ahead m.pc n) IsWord (λ _. moved-lt m.pc by) (λ _. moved-lt m.pc n))
+    stays_at (with_register_decremented m x lowers) (stays_lowered m k x lowers) (cond (taken_of cond' (reg m x) (operand_value m y)) (wrapping_sum m.pc by) (wrapping_sum m.pc n))
+    (cond_both (taken_of cond' (reg m x) (operand_value m y)) (wrapping_sum m.pc by) (wrapping_sum m.pc n) IsWord (λ _. moved-lt m.pc by) (λ _. moved-lt m.pc n))
 stays_does m k e small (Jump to) n h = stays_at m k (target_of m to) (target_lt m k to h)
-stays_does m k e small (Call to) n h = stays_then (save m true) (stays_save m k true) _ (λ s ks. stays_called s ks (machine_address_ahead m.pc n) (target_of m to) (moved-lt m.pc n) (target_lt m k to h))
+stays_does m k e small (Call to) n h = stays_then (save m true) (stays_save m k true) _ (λ s ks. stays_called s ks (wrapping_sum m.pc n) (target_of m to) (moved-lt m.pc n) (target_lt m k to h))
 stays_does m k e small Ret n h = stays_then (restore m true) (stays_restore m k true) _ (λ r kr. stays_at r kr (a11 m / 2 * 2) (half_lt (a11 m) (register_lt m.a k.a 11)))
 stays_does m k e small Rfe n h =
     stays_then (restore m true) (stays_restore m k true) _
     (λ r kr. stays_priority r kr (a11 m / 2 * 2) (pcpn_of m.core m.pcxi) (pie_of m.core m.pcxi) (half_lt (a11 m) (register_lt m.a k.a 11)) (pcpn_of-lt m.core m.pcxi))
 stays_does m k e small Svlcx n h = stays_then (save m false) (stays_save m k false) _ (λ s ks. stays_advanced s ks n)
 stays_does m k e small Rslcx n h = stays_then (restore m false) (stays_restore m k false) _ (λ r kr. stays_advanced r kr n)
-stays_does m k e small (Bisr c) n h = stays_then (save m false) (stays_save m k false) _ (λ s ks. stays_priority s ks (machine_address_ahead s.pc n) c true (moved-lt s.pc n) h)
-stays_does m k e small Enable n h = stays_priority m k (machine_address_ahead m.pc n) m.ccpn true (moved-lt m.pc n) k.ccpn
-stays_does m k e small Disable n h = stays_priority m k (machine_address_ahead m.pc n) m.ccpn false (moved-lt m.pc n) k.ccpn
-stays_does m k e small (Syscall tin) n h = stays_trap m k 6 tin (machine_address_ahead m.pc n) (omega arith) h (moved-lt m.pc n)
+stays_does m k e small (Bisr c) n h = stays_then (save m false) (stays_save m k false) _ (λ s ks. stays_priority s ks (wrapping_sum s.pc n) c true (moved-lt s.pc n) h)
+stays_does m k e small Enable n h = stays_priority m k (wrapping_sum m.pc n) m.ccpn true (moved-lt m.pc n) k.ccpn
+stays_does m k e small Disable n h = stays_priority m k (wrapping_sum m.pc n) m.ccpn false (moved-lt m.pc n) k.ccpn
+stays_does m k e small (Syscall tin) n h = stays_trap m k 6 tin (wrapping_sum m.pc n) (omega arith) h (moved-lt m.pc n)
 stays_does m k e small (Mfcr dst number) n h = stays_advanced _ (stays_reg m k dst (core_register m e number) (core_register_lt m k e small number)) n
 stays_does m k e small (Mtcr src number) n h = stays_advanced _ (stays_core m k number (reg m src) (reg_lt m k src)) n
 stays_does m k e small Nothing n h = stays_advanced m k n
@@ -319,13 +319,13 @@ fetched-suits m =
     let bytes = mapped_bytes 4 m.mem m.pc in
     cond_both (m.pc % 2 == 0) (fetched_shape (decoded_of bytes)) (Err NoCode) IfShape (λ _. shaped-suits (decoded_of bytes) (λ i n is. (decode_laws.decoded bytes i n is).inst)) (λ _. tt)
 
-stays_executed : (m : Machine) → IsMachine m → (e : Event) → e.input < 2 ^ 32 → (r : Result (Shape × ℕ) Cause) → IfShape r → IsMachine (after_found_instruction m e r)
+stays_executed : (m : Machine) → IsMachine m → (e : Event) → e.input < 2 ^ 32 → (r : Result (Shape × ℕ) Cause) → IfShape r → IsMachine (after_fetch_result m e r)
 stays_executed m k e small (Ok found) h = stays_does m k e small found.0 found.1 h
 stays_executed m k e small (Err cause) h = stays_died m k cause
 
 stays_done : (m : Machine) → IsMachine m → (e : Event) → e.irq < 2 ^ 8 → e.input < 2 ^ 32 → IsMachine (machine_after_event m e)
 stays_done m k e irq small =
-    cond_both (is_interrupt_taken m e) (interrupt m e.irq) (after_found_instruction m e (fetched_instruction m)) IsMachine (λ _. stays_interrupt m k e.irq irq) (λ _. stays_executed m k e small (fetched_instruction m) (fetched-suits m))
+    cond_both (is_interrupt_taken m e) (after_interrupt m e.irq) (after_fetch_result m e (fetched_instruction m)) IsMachine (λ _. stays_interrupt m k e.irq irq) (λ _. stays_executed m k e small (fetched_instruction m) (fetched-suits m))
 
 with_status-lt : (psw status : ℕ) → status < 2 ^ 8 → psw_with_status psw status < 2 ^ 32
 with_status-lt psw status h = omega arith

@@ -8,16 +8,16 @@ use Rattle.tc_machine.specs.declared.events.Event.{Event}
 use Rattle.tc_machine.specs.declared.events.End.TheVariants.{Running}
 use Rattle.tc_machine.specs.declared.state.Machine.{Machine}
 use Rattle.tc_machine.specs.Machine.{a11, if_running, psw_with_status}
-use Rattle.tc_machine.specs.Instructions.{machine_address_ahead, with_pc_advanced, target_of, does}
-use Rattle.tc_machine.specs.Stepping.{is_interrupt_taken, after_found_instruction, machine_after_event, step, store_of_fetched, none_if_dead, stored}
-use Rattle.tc_machine.specs.Handlers.{interrupt}
+use Rattle.tc_machine.specs.Instructions.{wrapping_sum, with_pc_advanced, target_of, does}
+use Rattle.tc_machine.specs.Stepping.{is_interrupt_taken, after_fetch_result, machine_after_event, step, store_of_fetched, none_if_dead, stored}
+use Rattle.tc_machine.specs.Handlers.{after_interrupt}
 use Rattle.tc_machine.specs.SavesAndRestores.{save, restore}
 use Rattle.tc_machine.specs.Fetching.{fetched_instruction}
 use Rattle.tc_machine.proofs.Saves.{then_-running}
 
 -- if no interrupt is taken, the instruction at pc is executed
 pub done-is : (m : Machine) (e : Event) (shape : Shape) (n : ℕ) → is_interrupt_taken m e ≡ false → fetched_instruction m ≡ Ok (shape, n) → machine_after_event m e ≡ does m e shape n
-done-is m e shape n none at = ap (λ t. cond t (interrupt m e.irq) (after_found_instruction m e (fetched_instruction m))) none ∙ ap (after_found_instruction m e) at
+done-is m e shape n none at = ap (λ t. cond t (after_interrupt m e.irq) (after_fetch_result m e (fetched_instruction m))) none ∙ ap (after_fetch_result m e) at
 
 -- the machine after an event that left it running
 abbrev pub with_event : Machine → Event → Machine
@@ -47,7 +47,7 @@ called m to back = if_running (save m true) (λ s. record s { a = set s.a 11 bac
 abbrev pub returned : Machine → Machine
 returned m = if_running (restore m true) (λ r. record r { pc = a11 m / 2 * 2 })
 
-pub does-call : (m : Machine) (e : Event) (to : Target) (n : ℕ) → does m e (Call to) n ≡ called m (target_of m to) (machine_address_ahead m.pc n)
+pub does-call : (m : Machine) (e : Event) (to : Target) (n : ℕ) → does m e (Call to) n ≡ called m (target_of m to) (wrapping_sum m.pc n)
 unfolding does
 does-call m e to n = refl
 

@@ -5,11 +5,11 @@ use Rattle.std.specs.Bool.{MatchBool}
 use Rattle.std.proofs.lemmas.Bool.{and_parts, leb-true}
 use Rattle.std.proofs.lemmas.Option.{cond_some}
 use Rattle.std.specs.FinMap as map
-use Rattle.csa_chain.specs.MemoryBytes.{Memory, is_mapped, byte_at, are_mapped, word_at, with_word, loaded_number, with_bytes, HasBytes}
+use Rattle.csa_chain.specs.MemoryBytes.{Memory, is_mapped, byte_at, are_mapped, word_at, with_word, loaded_number, with_bytes, HasOnlyBytes}
 use Rattle.csa_chain.specs.Chain.{link_address, is_area, area_word}
 use Rattle.csa_chain.proofs.ChainLaws.{are_mapped_each}
 use Rattle.tcd_base.specs.Bytes.{bytes_of_word}
-use Rattle.tc_mem.specs.Blocks.{are_in_block, mapped_block_word, memory_half_at, mapped_block_half, with_block_word, with_block_half, with_half}
+use Rattle.tc_mem.specs.Blocks.{are_mapped_in_block, mapped_block_word, memory_half_at, mapped_block_half, with_block_word, with_block_half, with_half}
 use Rattle.tc_mem.specs.Areas.{area_first_word}
 use Rattle.tc_machine.specs.Fetching.{mapped_bytes}
 
@@ -31,7 +31,7 @@ record IsBlock (m : Memory) (x n : ℕ) : Type 0 where
   ends : x + n ≤ 2 ^ 32
   mapped : (j : ℕ) → j < n → is_mapped m (x + j) ≡ true
 
-is_block : (m : Memory) (x n : ℕ) → x < 2 ^ 32 → are_in_block m x n ≡ true → IsBlock m x n
+is_block : (m : Memory) (x n : ℕ) → x < 2 ^ 32 → are_mapped_in_block m x n ≡ true → IsBlock m x n
 is_block m x n small here =
     let both = and_parts (nat_le (x % 64 + n) 64) (are_mapped m x n) here in
     let inside = leb-true (x % 64 + n) 64 both.0 in
@@ -50,7 +50,7 @@ next_3 x h = omega arith
 pub loaded_word : (m : Memory) (input x w : ℕ) → x < 2 ^ 32 → Some w ≡ mapped_block_word m x → w ≡ loaded_number m input x 4
 unfolding loaded_number word_at
 loaded_word m input x w small is =
-    let parts = cond_some (are_in_block m x 4) (word_at m x) w (sym is) in
+    let parts = cond_some (are_mapped_in_block m x 4) (word_at m x) w (sym is) in
     let block = is_block m x 4 small parts.0 in
     let e1 = next_1 x (omega (arith, block.ends)) in
     let e2 = next_2 x (omega (arith, block.ends)) in
@@ -65,7 +65,7 @@ loaded_word m input x w small is =
 pub loaded_half : (m : Memory) (input x h : ℕ) → x < 2 ^ 32 → Some h ≡ mapped_block_half m x → h ≡ loaded_number m input x 2
 unfolding loaded_number
 loaded_half m input x h small is =
-    let parts = cond_some (are_in_block m x 2) (memory_half_at m x) h (sym is) in
+    let parts = cond_some (are_mapped_in_block m x 2) (memory_half_at m x) h (sym is) in
     let block = is_block m x 2 small parts.0 in
     let e1 = next_1 x (omega (arith, block.ends)) in
     let b0 = some_byte (map.get m x) (input % 2 ^ 8) (rw add-zero at (block.mapped 0 (omega arith))) in
@@ -74,10 +74,10 @@ loaded_half m input x h small is =
     rw (e1, b0, b1) (omega (arith, value))
 
 -- ---- the bytes of an instruction
-pub mapped_word : (m : Memory) (x w : ℕ) → HasBytes m → x < 2 ^ 32 → Some w ≡ mapped_block_word m x → bytes_of_word w ≡ mapped_bytes 4 m x
+pub mapped_word : (m : Memory) (x w : ℕ) → HasOnlyBytes m → x < 2 ^ 32 → Some w ≡ mapped_block_word m x → bytes_of_word w ≡ mapped_bytes 4 m x
 unfolding mapped_bytes word_at
 mapped_word m x w bytes small is =
-    let parts = cond_some (are_in_block m x 4) (word_at m x) w (sym is) in
+    let parts = cond_some (are_mapped_in_block m x 4) (word_at m x) w (sym is) in
     let block = is_block m x 4 small parts.0 in
     let e1 = next_1 x (omega (arith, block.ends)) in
     let e2 = next_2 x (omega (arith, block.ends)) in
@@ -119,22 +119,22 @@ stored_half m x w h =
     let v1 : w % 2 ^ 16 / 2 ^ 8 % 2 ^ 8 ≡ w / 2 ^ 8 % 2 ^ 8 = omega arith in
     rw (e1, v0, v1) refl
 
-pub whole_word : (m n : Memory) (x w : ℕ) (t : Bool) → x < 2 ^ 32 → t ≡ are_in_block m x 4 → n ≡ with_block_word m x w → MatchBool t (n ≡ with_bytes m x w 4) (n ≡ m)
+pub whole_word : (m n : Memory) (x w : ℕ) (t : Bool) → x < 2 ^ 32 → t ≡ are_mapped_in_block m x 4 → n ≡ with_block_word m x w → MatchBool t (n ≡ with_bytes m x w 4) (n ≡ m)
 whole_word m n x w true small here is =
     let block = is_block m x 4 small (sym here) in
     is ∙ ap (λ (t : Bool). cond t (with_word m x w) m) (sym here) ∙ sym (stored_word m x w block.ends)
 whole_word m n x w false small gone is = is ∙ ap (λ (t : Bool). cond t (with_word m x w) m) (sym gone)
 
-pub whole_half : (m n : Memory) (x w : ℕ) (t : Bool) → x < 2 ^ 32 → t ≡ are_in_block m x 2 → n ≡ with_block_half m x (w % 2 ^ 16) → MatchBool t (n ≡ with_bytes m x w 2) (n ≡ m)
+pub whole_half : (m n : Memory) (x w : ℕ) (t : Bool) → x < 2 ^ 32 → t ≡ are_mapped_in_block m x 2 → n ≡ with_block_half m x (w % 2 ^ 16) → MatchBool t (n ≡ with_bytes m x w 2) (n ≡ m)
 whole_half m n x w true small here is =
     let block = is_block m x 2 small (sym here) in
     is ∙ ap (λ (t : Bool). cond t (with_half m x (w % 2 ^ 16)) m) (sym here) ∙ sym (stored_half m x w block.ends)
 whole_half m n x w false small gone is = is ∙ ap (λ (t : Bool). cond t (with_half m x (w % 2 ^ 16)) m) (sym gone)
 
-pub put_whole : (m n : Memory) (x w : ℕ) (t : Bool) → t ≡ are_in_block m x 4 → n ≡ with_block_word m x w → t ≡ true → n ≡ with_word m x w
+pub put_whole : (m n : Memory) (x w : ℕ) (t : Bool) → t ≡ are_mapped_in_block m x 4 → n ≡ with_block_word m x w → t ≡ true → n ≡ with_word m x w
 put_whole m n x w t is written here = written ∙ ap (λ (t : Bool). cond t (with_word m x w) m) (sym is ∙ here)
 
-pub put_none : (m n : Memory) (x w : ℕ) (t : Bool) → t ≡ are_in_block m x 4 → n ≡ with_block_word m x w → t ≡ false → n ≡ m
+pub put_none : (m n : Memory) (x w : ℕ) (t : Bool) → t ≡ are_mapped_in_block m x 4 → n ≡ with_block_word m x w → t ≡ false → n ≡ m
 put_none m n x w t is written gone = written ∙ ap (λ (t : Bool). cond t (with_word m x w) m) (sym is ∙ gone)
 
 -- ---- word 0 of an area

@@ -6,11 +6,11 @@ use Rattle.std.proofs.lemmas.List.Elements.{All-set}
 use Rattle.std.proofs.Math.Nat.{div-le_self}
 use Rattle.std.proofs.lemmas.Nat.{or_lt, and_le_l, xor_lt}
 use Rattle.std.specs.FinMap as map
-use Rattle.csa_chain.specs.MemoryBytes.{Memory, with_byte, loaded_number, with_bytes, extend_loaded_bytes, HasBytes}
+use Rattle.csa_chain.specs.MemoryBytes.{Memory, with_byte, loaded_number, with_bytes, load_result, HasOnlyBytes}
 use Rattle.csa_chain.proofs.WordLaws.{HasBytes-with_byte}
 use Rattle.tc_isa.specs.declared.shapes.Op.{Op}
 use Rattle.tc_isa.specs.declared.shapes.Op.TheVariants as op
-use Rattle.tc_isa.specs.Arithmetic.{signed_order_place, complement, one_if, logical_shift, arithmetic_shift, alu_of}
+use Rattle.tc_isa.specs.Arithmetic.{signed_rank, complement, word_of_bool, logical_shift, arithmetic_shift, alu_of}
 use Rattle.tc_machine.specs.Machine.{AreRegisters}
 use Rattle.tc_machine.proofs.ShapeWords.{IsSize, extended_lt}
 
@@ -32,7 +32,7 @@ and_lt x y h = let le = and_le_l x y in omega arith
 complement_lt : (x : ℕ) → complement x < 2 ^ 32
 complement_lt x = omega arith
 
-one_if_lt : (b : Bool) → one_if b < 2 ^ 32
+one_if_lt : (b : Bool) → word_of_bool b < 2 ^ 32
 one_if_lt true = omega arith
 one_if_lt false = omega arith
 
@@ -60,9 +60,9 @@ alu_lt op.Andn x y h g = and_lt x (complement y) h
 alu_lt op.Orn x y h g = or_lt 32 x (complement y) h (complement_lt y)
 alu_lt op.Eq x y h g = one_if_lt (x == y)
 alu_lt op.Ne x y h g = one_if_lt (not (x == y))
-alu_lt op.Lt x y h g = one_if_lt (nat_lt (signed_order_place x) (signed_order_place y))
+alu_lt op.Lt x y h g = one_if_lt (nat_lt (signed_rank x) (signed_rank y))
 alu_lt op.LtU x y h g = one_if_lt (nat_lt x y)
-alu_lt op.Ge x y h g = one_if_lt (nat_le (signed_order_place y) (signed_order_place x))
+alu_lt op.Ge x y h g = one_if_lt (nat_le (signed_rank y) (signed_rank x))
 alu_lt op.GeU x y h g = one_if_lt (nat_le y x)
 alu_lt op.Sh x y h g = shifted_lt x (y % 64) h
 alu_lt op.Sha x y h g = shifted_signed_lt x (y % 64) h
@@ -73,7 +73,7 @@ byte_lt : (o : Option ℕ) (d : ℕ) → ((b : ℕ) → o ≡ Some b → b < 2 ^
 byte_lt None d h g = g
 byte_lt (Some b) d h g = h b refl
 
-module _ (m : Memory) (bytes : HasBytes m) where
+module _ (m : Memory) (bytes : HasOnlyBytes m) where
   loaded_byte : (input x : ℕ) → unwrap_or (map.get m x) (input % 2 ^ 8) < 2 ^ 8
   loaded_byte input x = byte_lt (map.get m x) (input % 2 ^ 8) (bytes x) (omega arith)
 
@@ -91,24 +91,24 @@ module _ (m : Memory) (bytes : HasBytes m) where
   loaded_4 : (input x : ℕ) → loaded_number m input x 4 < 2 ^ 32
   loaded_4 = loaded_more 3 (2 ^ 24) (loaded_more 2 (2 ^ 16) loaded_2)
 
-  extended_1 : (signed : Bool) (input x : ℕ) → extend_loaded_bytes signed 1 (loaded_number m input x 1) < 2 ^ 32
+  extended_1 : (signed : Bool) (input x : ℕ) → load_result signed 1 (loaded_number m input x 1) < 2 ^ 32
   extended_1 true input x = let l = loaded_1 input x in extended_lt (loaded_number m input x 1) (2 ^ 8) (nat_lt (loaded_number m input x 1) (2 ^ 7)) l (omega arith)
   extended_1 false input x = let l = loaded_1 input x in omega arith
 
-  extended_2 : (signed : Bool) (input x : ℕ) → extend_loaded_bytes signed 2 (loaded_number m input x 2) < 2 ^ 32
+  extended_2 : (signed : Bool) (input x : ℕ) → load_result signed 2 (loaded_number m input x 2) < 2 ^ 32
   extended_2 true input x = let l = loaded_2 input x in extended_lt (loaded_number m input x 2) (2 ^ 16) (nat_lt (loaded_number m input x 2) (2 ^ 15)) l (omega arith)
   extended_2 false input x = let l = loaded_2 input x in omega arith
 
-  extended_4 : (signed : Bool) (input x : ℕ) → extend_loaded_bytes signed 4 (loaded_number m input x 4) < 2 ^ 32
+  extended_4 : (signed : Bool) (input x : ℕ) → load_result signed 4 (loaded_number m input x 4) < 2 ^ 32
   extended_4 true input x = let l = loaded_4 input x in extended_lt (loaded_number m input x 4) (2 ^ 32) (nat_lt (loaded_number m input x 4) (2 ^ 31)) l (omega arith)
   extended_4 false input x = loaded_4 input x
 
-  pub load_lt : (signed : Bool) (input x size : ℕ) → IsSize size → extend_loaded_bytes signed size (loaded_number m input x size) < 2 ^ 32
-  load_lt signed input x size (inl e) = subst (λ n. extend_loaded_bytes signed n (loaded_number m input x n) < 2 ^ 32) (sym e) (extended_1 signed input x)
-  load_lt signed input x size (inr (inl e)) = subst (λ n. extend_loaded_bytes signed n (loaded_number m input x n) < 2 ^ 32) (sym e) (extended_2 signed input x)
-  load_lt signed input x size (inr (inr e)) = subst (λ n. extend_loaded_bytes signed n (loaded_number m input x n) < 2 ^ 32) (sym e) (extended_4 signed input x)
+  pub load_lt : (signed : Bool) (input x size : ℕ) → IsSize size → load_result signed size (loaded_number m input x size) < 2 ^ 32
+  load_lt signed input x size (inl e) = subst (λ n. load_result signed n (loaded_number m input x n) < 2 ^ 32) (sym e) (extended_1 signed input x)
+  load_lt signed input x size (inr (inl e)) = subst (λ n. load_result signed n (loaded_number m input x n) < 2 ^ 32) (sym e) (extended_2 signed input x)
+  load_lt signed input x size (inr (inr e)) = subst (λ n. load_result signed n (loaded_number m input x n) < 2 ^ 32) (sym e) (extended_4 signed input x)
 
-pub HasBytes-with_bytes : (m : Memory) (x w n : ℕ) → HasBytes m → HasBytes (with_bytes m x w n)
+pub HasBytes-with_bytes : (m : Memory) (x w n : ℕ) → HasOnlyBytes m → HasOnlyBytes (with_bytes m x w n)
 unfolding with_bytes
 HasBytes-with_bytes m x w zero h = h
 HasBytes-with_bytes m x w (suc n) h = HasBytes-with_bytes (with_byte m x (w % 2 ^ 8)) ((x + 1) % 2 ^ 32) (w / 2 ^ 8) n (HasBytes-with_byte m x (w % 2 ^ 8) (omega arith) h)

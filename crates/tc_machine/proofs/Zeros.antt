@@ -2,7 +2,7 @@
 use Rattle.std.proofs.Common.{◌≡◌, ℕ, ◌+◌, ◌^◌, ◌<◌, inl, inr, Bool, true, false, ◌&&◌, cond, List, [], ◌∷◌, Some, None, sym, ap, ◌∙◌, arith, nat_le, nat_lt}
 use Rattle.std.proofs.lemmas.Bool.{and_parts, and_from, or_cases, le-leb, leb-true, lt-ltb, ltb-true, or_right, or_left}
 use Rattle.std.specs.FinMap as map
-use Rattle.csa_chain.specs.MemoryBytes.{Memory, HasBytes}
+use Rattle.csa_chain.specs.MemoryBytes.{Memory, HasOnlyBytes}
 use Rattle.tcd_base.specs.declared.range.Range.{Range}
 use Rattle.tc_mem.specs.PlanMemory.{IsMemoryOfZeros}
 use Rattle.tcd_base.specs.Ranges.{is_address_in_ranges, IsInOneRange}
@@ -28,7 +28,7 @@ byte_zero : (t : Bool) (b : ℕ) → cond t (Some 0) None ≡ Some b → b < 2 ^
 byte_zero true b e = let z : 0 ≡ b = cc in omega arith
 byte_zero false b e = cc
 
-pub zeros_bytes : (ranges : List Range) (m : Memory) → IsMemoryOfZeros ranges m → HasBytes m
+pub zeros_bytes : (ranges : List Range) (m : Memory) → IsMemoryOfZeros ranges m → HasOnlyBytes m
 zeros_bytes ranges m zeros x b at = byte_zero (is_address_in_ranges ranges x) b (sym (zeros x) ∙ at)
 
 pub zero_at : (ranges : List Range) (m : Memory) (q : ℕ) → IsMemoryOfZeros ranges m → IsInOneRange q 1 ranges → map.get m q ≡ Some 0

@@ -26,12 +26,12 @@ at_handler_entry m s back entry = record s {
 
 -- what a trap does, such as that of syscall or of a misaligned access: the upper context is saved,
 -- the handler of its class is entered, and D15 is set to the trap's number
-abbrev pub trap : Machine → ℕ → ℕ → ℕ → Machine
-trap m class tin back =
+abbrev pub after_trap : Machine → ℕ → ℕ → ℕ → Machine
+after_trap m class tin back =
     if_running (save m true) (λ s. record (at_handler_entry m s back (bit_or m.btv (class * 2 ^ 5))) { d = slice_set s.d 15 tin })
 
 -- what an interrupt does (manual, volume 1, interrupts): the upper context is saved, its handler is
 -- entered, CCPN is irq, and pc is BIV with irq in bits 12:5
-abbrev pub interrupt : Machine → ℕ → Machine
-interrupt m irq =
+abbrev pub after_interrupt : Machine → ℕ → Machine
+after_interrupt m irq =
     if_running (save m true) (λ s. record (at_handler_entry m s m.pc (bit_or m.biv (irq * 2 ^ 5))) { ccpn = irq })

@@ -9,29 +9,29 @@ use Rattle.tc_machine.specs.declared.state.Machine.{Machine}
 use Rattle.tc_machine.specs.Stepping.{is_interrupt_taken}
 
 -- P for a load or a store instruction; no statement for others
-abbrev pub OnAccessInstruction : Shape → Type 0 → Type 0
-OnAccessInstruction (Load dst base offset size signed after) P = P
-OnAccessInstruction (Store src base offset size after) P = P
-OnAccessInstruction _ P = Unit {0}
+abbrev pub IfLoadOrStore : Shape → Type 0 → Type 0
+IfLoadOrStore (Load dst base offset size signed after) P = P
+IfLoadOrStore (Store src base offset size after) P = P
+IfLoadOrStore _ P = Unit {0}
 
 -- P for an instruction that saves or restores a context; no statement for others
-abbrev pub OnContextInstruction : Shape → Type 0 → Type 0
-OnContextInstruction (Call to) P = P
-OnContextInstruction Ret P = P
-OnContextInstruction Rfe P = P
-OnContextInstruction Svlcx P = P
-OnContextInstruction Rslcx P = P
-OnContextInstruction (Bisr c) P = P
-OnContextInstruction (Syscall tin) P = P
-OnContextInstruction _ P = Unit {0}
+abbrev pub IfContextInstruction : Shape → Type 0 → Type 0
+IfContextInstruction (Call to) P = P
+IfContextInstruction Ret P = P
+IfContextInstruction Rfe P = P
+IfContextInstruction Svlcx P = P
+IfContextInstruction Rslcx P = P
+IfContextInstruction (Bisr c) P = P
+IfContextInstruction (Syscall tin) P = P
+IfContextInstruction _ P = Unit {0}
 
 -- P for an instruction on core registers or the interrupt system; no statement for others
-abbrev pub OnSystemInstruction : Shape → Type 0 → Type 0
-OnSystemInstruction Enable P = P
-OnSystemInstruction Disable P = P
-OnSystemInstruction (Mfcr dst number) P = P
-OnSystemInstruction (Mtcr src number) P = P
-OnSystemInstruction _ P = Unit {0}
+abbrev pub IfSystemInstruction : Shape → Type 0 → Type 0
+IfSystemInstruction Enable P = P
+IfSystemInstruction Disable P = P
+IfSystemInstruction (Mfcr dst number) P = P
+IfSystemInstruction (Mtcr src number) P = P
+IfSystemInstruction _ P = Unit {0}
 
 -- the kind of instructions that never change the machine's memory or PCXI: no store, save or
 -- restore, no write of a core register, and none that can trap

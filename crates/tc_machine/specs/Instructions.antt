@@ -12,8 +12,8 @@ use Rattle.tc_machine.specs.declared.events.Event.{Event}
 use Rattle.tc_machine.specs.declared.state.Machine.{Machine}
 use Rattle.tc_machine.specs.Machine.{reg, with_reg, a11, if_running, core_register, with_core_register}
 use Rattle.tc_machine.specs.SavesAndRestores.{save, restore}
-use Rattle.csa_chain.specs.MemoryBytes.{loaded_number, with_bytes, extend_loaded_bytes}
-use Rattle.tc_machine.specs.Handlers.{trap}
+use Rattle.csa_chain.specs.MemoryBytes.{loaded_number, with_bytes, load_result}
+use Rattle.tc_machine.specs.Handlers.{after_trap}
 
 -- ---- entries of handlers
 
@@ -24,22 +24,22 @@ operand_value m (Word w) = w
 
 -- the sum of an address and a number of bytes, modulo 2 ^ 32, as instructions add to pc and to
 -- registers
-abbrev pub machine_address_ahead : ℕ → ℕ → ℕ
-machine_address_ahead at by = (at + by) % 2 ^ 32
+abbrev pub wrapping_sum : ℕ → ℕ → ℕ
+wrapping_sum at by = (at + by) % 2 ^ 32
 
 -- the machine after an instruction of n bytes that is followed by the next one
 abbrev pub with_pc_advanced : ℕ → Machine → Machine
-with_pc_advanced n m = record m { pc = machine_address_ahead m.pc n }
+with_pc_advanced n m = record m { pc = wrapping_sum m.pc n }
 
 -- ---- loads and stores
 -- the address of an access: the base plus the offset, or the base alone with post-increment
 abbrev pub access_address : Machine → Arg → ℕ → Bool → ℕ
-access_address m base offset after = if after then operand_value m base else machine_address_ahead (operand_value m base) offset
+access_address m base offset after = if after then operand_value m base else wrapping_sum (operand_value m base) offset
 
 -- the machine after the post-increment of an access, if it has one: the offset is added to the base
 -- register
 abbrev pub with_base_incremented : Machine → Arg → ℕ → Bool → Machine
-with_base_incremented m (Reg r) offset after = if after then with_reg m r (machine_address_ahead (reg m r) offset) else m
+with_base_incremented m (Reg r) offset after = if after then with_reg m r (wrapping_sum (reg m r) offset) else m
 with_base_incremented m (Word w) offset after = m
 
 -- an access traps if its address is no multiple of its size and the event says so
@@ -49,36 +49,36 @@ is_trapping_access e x size = e.aln && not (x % size == 0)
 -- what a load or store instruction does if its access is misaligned and traps: the trap of class 2,
 -- number 4, back to the instruction itself
 abbrev pub misaligned_access_trap : Machine → Machine
-misaligned_access_trap m = trap m 2 4 m.pc
+misaligned_access_trap m = after_trap m 2 4 m.pc
 
 -- ---- instructions
 -- the address that a jump or a call goes to; bit 0 of a register's value is dropped
 abbrev pub target_of : Machine → Target → ℕ
-target_of m (target.Rel by) = machine_address_ahead m.pc by
+target_of m (target.Rel by) = wrapping_sum m.pc by
 target_of m (target.Abs x) = x
 target_of m (target.Reg r) = reg m r / 2 * 2
 
 -- the machine after the branch's register was decremented by 1, if the branch does that
 abbrev pub with_register_decremented : Machine → ℕ → Bool → Machine
-with_register_decremented m x lowers = if lowers then with_reg m x (machine_address_ahead (reg m x) (2 ^ 32 - 1)) else m
+with_register_decremented m x lowers = if lowers then with_reg m x (wrapping_sum (reg m x) (2 ^ 32 - 1)) else m
 
 -- the machine after an instruction of n bytes that does this (its shape)
 unfoldable pub does : Machine → Event → Shape → ℕ → Machine
 does m e (Compute op dst x y) n = with_pc_advanced n (with_reg m dst (alu_of op (operand_value m x) (operand_value m y)))
-does m e (Scaled dst base index k) n = with_pc_advanced n (with_reg m dst (machine_address_ahead (reg m base) (reg m index * 2 ^ k)))
+does m e (Scaled dst base index k) n = with_pc_advanced n (with_reg m dst (wrapping_sum (reg m base) (reg m index * 2 ^ k)))
 does m e (Load dst base offset size signed after) n =
     let x = access_address m base offset after in
     if is_trapping_access e x size then misaligned_access_trap m
-    else with_pc_advanced n (with_reg (with_base_incremented m base offset after) dst (extend_loaded_bytes signed size (loaded_number m.mem e.input x size)))
+    else with_pc_advanced n (with_reg (with_base_incremented m base offset after) dst (load_result signed size (loaded_number m.mem e.input x size)))
 does m e (Store src base offset size after) n =
     let x = access_address m base offset after in
     if is_trapping_access e x size then misaligned_access_trap m
     else with_pc_advanced n (record (with_base_incremented m base offset after) { mem = with_bytes m.mem x (reg m src) size })
 does m e (Branch cond x y by lowers) n =
     let goes = taken_of cond (reg m x) (operand_value m y) in
-    record (with_register_decremented m x lowers) { pc = if goes then machine_address_ahead m.pc by else machine_address_ahead m.pc n }
+    record (with_register_decremented m x lowers) { pc = if goes then wrapping_sum m.pc by else wrapping_sum m.pc n }
 does m e (Jump to) n = record m { pc = target_of m to }
-does m e (Call to) n = if_running (save m true) (λ s. record s { a = slice_set s.a 11 (machine_address_ahead m.pc n); pc = target_of m to })
+does m e (Call to) n = if_running (save m true) (λ s. record s { a = slice_set s.a 11 (wrapping_sum m.pc n); pc = target_of m to })
 does m e Ret n = if_running (restore m true) (λ r. record r { pc = a11 m / 2 * 2 })
 does m e Rfe n =
     if_running (restore m true) (λ r. record r { pc = a11 m / 2 * 2; ie = pie_of m.core m.pcxi; ccpn = pcpn_of m.core m.pcxi })
@@ -87,7 +87,7 @@ does m e Rslcx n = if_running (restore m false) (with_pc_advanced n)
 does m e (Bisr c) n = if_running (save m false) (λ s. record (with_pc_advanced n s) { ccpn = c; ie = true })
 does m e Enable n = record (with_pc_advanced n m) { ie = true }
 does m e Disable n = record (with_pc_advanced n m) { ie = false }
-does m e (Syscall tin) n = trap m 6 tin (machine_address_ahead m.pc n)
+does m e (Syscall tin) n = after_trap m 6 tin (wrapping_sum m.pc n)
 does m e (Mfcr dst number) n = with_pc_advanced n (with_reg m dst (core_register m e number))
 does m e (Mtcr src number) n = with_pc_advanced n (with_core_register m number (reg m src))
 does m e Nothing n = with_pc_advanced n m

@@ -4,7 +4,7 @@ use Rattle.tc_machine.specs.declared.events.Cause.{Cause}
 use Rattle.tc_machine.specs.declared.events.End.{End}
 use Rattle.tc_machine.specs.declared.events.End.TheVariants.{Running, Dead}
 pub use Rattle.tc_machine.specs.declared.state.Machine.{Machine}
-use Rattle.csa_chain.specs.MemoryBytes.{HasBytes}
+use Rattle.csa_chain.specs.MemoryBytes.{HasOnlyBytes}
 use Rattle.tc_machine.specs.declared.events.Event.{Event}
 use Rattle.tc_machine.specs.declared.state.Machine.{Machine}
 
@@ -69,7 +69,7 @@ pub record IsMachine (m : Machine) : Type 0 where
   pub biv : m.biv < 2 ^ 32
   pub btv : m.btv < 2 ^ 32
   pub isp : m.isp < 2 ^ 32
-  pub bytes : HasBytes m.mem
+  pub bytes : HasOnlyBytes m.mem
 
 -- what an instruction reads from the core register ICR: CCPN in bits 7:0, IE in bit 8, the other
 -- bits from the input

@@ -14,7 +14,7 @@ use Rattle.tc_machine.specs.declared.events.End.TheVariants.{Running, Dead}
 use Rattle.tc_machine.specs.declared.state.Machine.{Machine}
 use Rattle.tc_machine.specs.Instructions.{does, access_address}
 use Rattle.tc_machine.specs.Machine.{psw_with_status, IsMachine}
-use Rattle.tc_machine.specs.SavesAndRestores.{with_context_saved, save, has_kind, with_context_restored, restore}
+use Rattle.tc_machine.specs.SavesAndRestores.{with_context_saved, save, is_last_context_of_kind, with_context_restored, restore}
 use Rattle.tc_machine.specs.Fetching.{fetched_instruction}
 use Rattle.tc_machine.specs.Stepping.{is_interrupt_taken, step, run, load_at_pc, stored, IsRun}
 use Rattle.tc_machine.specs.Safe.{AllFit, SpellsAt, ChainsAreWhole, Fits, Safe}
@@ -49,7 +49,7 @@ MachineSaveSucceeds =
 -- a restore succeeds if PCXI names a mapped area with a context of its kind
 abbrev pub MachineRestoreSucceeds : Type 0
 MachineRestoreSucceeds =
-    (m : Machine) (upper : Bool) → link_in m.pcxi ≢ 0 → has_kind m upper ≡ true → is_area m.mem (link_in m.pcxi) ≡ true → restore m upper ≡ with_context_restored m upper
+    (m : Machine) (upper : Bool) → link_in m.pcxi ≢ 0 → is_last_context_of_kind m upper ≡ true → is_area m.mem (link_in m.pcxi) ≡ true → restore m upper ≡ with_context_restored m upper
 
 -- a step of a running machine, if no interrupt is taken and the instruction leaves it running
 abbrev pub MachineStepExecutes : Type 0
@@ -74,8 +74,8 @@ RunKeepsMachine = (image : ImageData) (plan : PlanData) (m : Machine) (es : List
 -- An event fits if its interrupt is none or one of the plan's, and its input is within bounds. If
 -- no interrupt is taken, these are the bounds of the peripheral that has the loaded word. The
 -- status is any byte, and a misaligned access may trap or not.
-abbrev pub EveryEventFits : Type 0
-EveryEventFits =
+abbrev pub EventEquationsSuffice : Type 0
+EventEquationsSuffice =
     (plan : PlanData) (m : Machine) (irq input status : ℕ) (aln : Bool) → (irq ≡ 0) ⊎ Contains plan.irqs irq → input < 2 ^ 32 → status < 2 ^ 8
     → ((m.ie ≡ true → irq ≤ m.ccpn) → (x k : ℕ) (d : Device) → load_at_pc m ≡ Some (x, 4) → slice_get plan.devices k ≡ Some d
     → d.range.at ≤ x → x + 4 ≤ d.range.at + d.range.len → (d.lo ≤ input) × (input ≤ d.hi))
@@ -88,8 +88,8 @@ first_events (suc n) events = events 0 ∷ first_events n (λ k. events (suc k))
 
 -- If each of the first n events fits the state before it, they all fit, and their run ends in state
 -- n.
-abbrev pub EveryRunFits : Type 0
-EveryRunFits =
+abbrev pub RunEquationsSuffice : Type 0
+RunEquationsSuffice =
     (plan : PlanData) (states : ℕ → Machine) (events : ℕ → Event) (n : ℕ) → IsRun states events → ((k : ℕ) → k < n → Fits plan (states k) (events k))
     → AllFit plan (states 0) (first_events n events) × (run (states 0) (first_events n events) ≡ states n)
 
@@ -143,7 +143,7 @@ pub record LiesInRange (ranges : List Range) (x n : ℕ) : Type 0 where
 
 -- what the guard law of safety says of a state and its next event: the machine runs, its areas are
 -- whole, at most `most` are used, its code is in rom, and its store is in range
-pub record HasFiveParts (image : ImageData) (plan : PlanData) (most : ℕ) (m : Machine) (e : Event) : Type 0 where
+pub record MeetsSafetyEquations (image : ImageData) (plan : PlanData) (most : ℕ) (m : Machine) (e : Event) : Type 0 where
   pub running : m.end ≡ Running
   pub used : List ℕ
   pub free : List ℕ
@@ -162,11 +162,11 @@ pub record HasFiveParts (image : ImageData) (plan : PlanData) (most : ℕ) (m : 
 
 -- guard law of safety: if the image is safe under the plan, each state of a run from a start state,
 -- under events that fit, has these five parts with each next event that fits
-abbrev pub SafeHasFiveParts : Type 0
-SafeHasFiveParts =
+abbrev pub SafeImpliesEquations : Type 0
+SafeImpliesEquations =
     (image : ImageData) (plan : PlanData) (most : ℕ) (states : ℕ → Machine) (events : ℕ → Event) (n : ℕ) (e : Event) → Safe image plan most
     → IsRun states events → Starts image plan (states 0) → ((k : ℕ) → k < n → Fits plan (states k) (events k)) → Fits plan (states n) e
-    → HasFiveParts image plan most (states n) e
+    → MeetsSafetyEquations image plan most (states n) e
 
 -- if no interrupt is taken, and the access is aligned or doesn't trap, a store instruction stores
 -- at its address

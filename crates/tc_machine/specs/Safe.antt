@@ -11,7 +11,7 @@ use Rattle.tc_machine.specs.declared.events.End.TheVariants.{Running}
 use Rattle.tc_machine.specs.declared.state.Machine.{Machine}
 use Rattle.tc_machine.specs.Stepping.{step, run, stored, is_interrupt_taken, load_at_pc}
 use Rattle.tcd_base.specs.Ranges.{IsInOneRange}
-use Rattle.tcd_plan.specs.MappedAddresses.{AnswersLoad, IsStoreInRange}
+use Rattle.tcd_plan.specs.MappedAddresses.{MayAnswerLoad, IsStoreInRange}
 use Rattle.tc_machine.specs.PlanAreas.{plan_areas}
 use Rattle.tc_machine.specs.Starting.{Starts}
 
@@ -21,7 +21,7 @@ pub record Fits (plan : PlanData) (m : Machine) (e : Event) : Type 0 where
   pub irq : (e.irq ≡ 0) ⊎ Contains plan.irqs e.irq
   pub input : e.input < 2 ^ 32
   pub status : e.status < 2 ^ 8
-  pub answers : is_interrupt_taken m e ≡ false → AnswersLoad plan e.input (load_at_pc m)
+  pub answers : is_interrupt_taken m e ≡ false → MayAnswerLoad plan e.input (load_at_pc m)
 
 -- each event fits the state before it
 abbrev pub AllFit : PlanData → Machine → List Event → Type 0

@@ -2,14 +2,14 @@
 use Rattle.std.specs.Prelude.{ℕ, Bool, not, ◌==◌, if◌then◌else◌, List, [], ◌∷◌, map}
 use Rattle.csa_chain.specs.MemoryBytes.{Memory, with_words}
 use Rattle.csa_chain.specs.Chain.{link_in, link_address, is_area, area_word, word_with_link}
-use Rattle.csa_chain.specs.ContextWords.{pcxi_word_of, ul_of, upper_words_of, lower_words_of, d_after_upper, a_after_upper, d_after_lower, a_after_lower}
+use Rattle.csa_chain.specs.ContextWords.{pcxi_word_of, ul_of, upper_context_words, lower_context_words, d_after_upper_restore, a_after_upper_restore, d_after_lower_restore, a_after_lower_restore}
 use Rattle.tc_machine.specs.declared.events.Cause.TheVariants.{Fcd, Fcu, Csu, Ctyp, NoArea}
 use Rattle.tc_machine.specs.declared.state.Machine.{Machine}
 use Rattle.tc_machine.specs.Machine.{dead_machine}
 
 -- the 16 words of the upper or the lower context
 abbrev pub context_of : Machine → Bool → List ℕ
-context_of m upper = if upper then upper_words_of m.pcxi m.psw m.d m.a else lower_words_of m.pcxi m.d m.a
+context_of m upper = if upper then upper_context_words m.pcxi m.psw m.d m.a else lower_context_words m.pcxi m.d m.a
 
 -- The machine after a context was saved to the first free area. Word 0 of that area was the link of
 -- the next free one.
@@ -32,8 +32,8 @@ save m upper =
     else dead_machine NoArea m
 
 -- the last context that was saved is of this kind, as PCXI says
-abbrev pub has_kind : Machine → Bool → Bool
-has_kind m upper = if upper then ul_of m.core m.pcxi else not (ul_of m.core m.pcxi)
+abbrev pub is_last_context_of_kind : Machine → Bool → Bool
+is_last_context_of_kind m upper = if upper then ul_of m.core m.pcxi else not (ul_of m.core m.pcxi)
 
 -- the machine after the area that PCXI names was moved to the front of the free list
 abbrev pub with_area_released : Machine → Machine
@@ -57,15 +57,15 @@ last_context m = saved_area_words m.mem (link_in m.pcxi)
 abbrev pub with_upper_restored : Machine → Machine
 with_upper_restored m = record (with_area_released m) {
   psw = area_word m.mem (link_in m.pcxi) 1;
-  d = d_after_upper (last_context m) m.d;
-  a = a_after_upper (last_context m) m.a;
+  d = d_after_upper_restore (last_context m) m.d;
+  a = a_after_upper_restore (last_context m) m.a;
 }
 
 -- the machine after the lower context was restored from the area that PCXI names
 abbrev pub with_lower_restored : Machine → Machine
 with_lower_restored m = record (with_area_released m) {
-  d = d_after_lower (last_context m) m.d;
-  a = a_after_lower (last_context m) m.a;
+  d = d_after_lower_restore (last_context m) m.d;
+  a = a_after_lower_restore (last_context m) m.a;
 }
 
 -- the machine after the upper or the lower context was restored from the area that PCXI names
@@ -77,6 +77,6 @@ with_context_restored m upper = if upper then with_upper_restored m else with_lo
 unfoldable pub restore : Machine → Bool → Machine
 restore m upper =
     if link_in m.pcxi == 0 then dead_machine Csu m
-    else if has_kind m upper then
+    else if is_last_context_of_kind m upper then
     (if is_area m.mem (link_in m.pcxi) then with_context_restored m upper else dead_machine NoArea m)
     else dead_machine Ctyp m

@@ -1,9 +1,9 @@
 -- Start states: how their memory is filled, and which states a run may start in.
 use Rattle.std.specs.Prelude.{◌≡◌, ℕ, zero, suc, ◌+◌, ◌*◌, ◌^◌, ◌<◌, ◌≤◌, ◌⊎◌, Bool, true, nat_lt, if◌then◌else◌, List, ◌∷◌, ◌++◌, slice_index, Option, Some, None, ◌-◌, ◌/◌, ◌%◌, []}
 use Rattle.std.specs.FinMap as map
-use Rattle.csa_chain.specs.MemoryBytes.{Memory, is_mapped, with_byte, with_words, HasBytes}
+use Rattle.csa_chain.specs.MemoryBytes.{Memory, is_mapped, with_byte, with_words, HasOnlyBytes}
 use Rattle.csa_chain.specs.Chain.{area_word, link_at}
-use Rattle.elf_image.specs.Images.{ImageData, SegmentData, segments_byte, image_byte}
+use Rattle.elf_image.specs.Images.{ImageData, SegmentData, byte_in_segments, image_byte}
 use Rattle.tcd_base.specs.declared.range.Range.{Range}
 use Rattle.tcd_plan.specs.PlanData.{PlanData}
 use Rattle.tc_mem.specs.PlanMemory.{IsMemoryOfZeros, HoldsRom, IsPlanMemory}
@@ -33,9 +33,9 @@ with_image_in_ranges image m (r ∷ rs) = with_image_in_ranges image (with_image
 -- segment holds is the segment's. All else is as it was, and no byte is mapped or unmapped.
 pub record IsCopiedToMemory (segments : List SegmentData) (r : Range) (m new : Memory) : Type 0 where
   pub mapped : (q : ℕ) → is_mapped new q ≡ is_mapped m q
-  pub held : (q b : ℕ) → r.at ≤ q → q < r.at + r.len → is_mapped m q ≡ true → segments_byte segments q ≡ Some b → map.get new q ≡ Some b
+  pub held : (q b : ℕ) → r.at ≤ q → q < r.at + r.len → is_mapped m q ≡ true → byte_in_segments segments q ≡ Some b → map.get new q ≡ Some b
   pub outside : (q : ℕ) → (q < r.at) ⊎ (r.at + r.len ≤ q) → map.get new q ≡ map.get m q
-  pub none : (q : ℕ) → segments_byte segments q ≡ None → map.get new q ≡ map.get m q
+  pub none : (q : ℕ) → byte_in_segments segments q ≡ None → map.get new q ≡ map.get m q
 
 -- in the memory that a machine starts with, the link to write into area i of n: that of the area
 -- after it, 0 in the last one
@@ -57,7 +57,7 @@ start_memory_ranges rom ram at n = rom ++ ram ++ record { at = at; len = 64 * n 
 pub record IsFilledStartMemory (image : ImageData) (rom ram : List Range) (at n : ℕ) (mem : Memory) : Type 0 where
   pub zeros : Memory
   pub are_zeros : IsMemoryOfZeros (start_memory_ranges rom ram at n) zeros
-  pub bytes : HasBytes (with_image_in_ranges image zeros rom)
+  pub bytes : HasOnlyBytes (with_image_in_ranges image zeros rom)
   pub is : mem ≡ with_area_links at (link_at at) n (with_image_in_ranges image zeros rom) n
 
 -- ---- the start

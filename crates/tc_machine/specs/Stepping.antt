@@ -12,7 +12,7 @@ use Rattle.tc_machine.specs.declared.events.End.TheVariants.{Running, Dead}
 use Rattle.tc_machine.specs.declared.state.Machine.{Machine}
 use Rattle.tc_machine.specs.Machine.{dead_machine, if_running, psw_with_status}
 use Rattle.tc_machine.specs.Instructions.{does, access_address, is_trapping_access}
-use Rattle.tc_machine.specs.Handlers.{interrupt}
+use Rattle.tc_machine.specs.Handlers.{after_interrupt}
 use Rattle.tc_machine.specs.Fetching.{fetched_instruction, mapped_bytes, fetched_shape}
 
 -- the event's interrupt is taken: interrupts are enabled, and its priority is above the current one
@@ -21,13 +21,13 @@ is_interrupt_taken m e = m.ie && nat_lt m.ccpn e.irq
 
 -- the machine after what was found at pc: the instruction is executed, or the machine dies by the
 -- cause
-abbrev pub after_found_instruction : Machine → Event → Result (Shape × ℕ) Cause → Machine
-after_found_instruction m e (Ok found) = does m e found.0 found.1
-after_found_instruction m e (Err cause) = dead_machine cause m
+abbrev pub after_fetch_result : Machine → Event → Result (Shape × ℕ) Cause → Machine
+after_fetch_result m e (Ok found) = does m e found.0 found.1
+after_fetch_result m e (Err cause) = dead_machine cause m
 
 -- an event of a machine that runs: an interrupt, else the instruction at pc
 abbrev pub machine_after_event : Machine → Event → Machine
-machine_after_event m e = if is_interrupt_taken m e then interrupt m e.irq else after_found_instruction m e (fetched_instruction m)
+machine_after_event m e = if is_interrupt_taken m e then after_interrupt m e.irq else after_fetch_result m e (fetched_instruction m)
 
 -- One event. A dead machine doesn't change. If the machine still runs after the event, the status
 -- byte of PSW is the event's.

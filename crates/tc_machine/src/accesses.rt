@@ -3,7 +3,7 @@ ghost use Rattle.std.specs.Prelude.{◌≡◌, ◌%◌, ◌^◌, unwrap_or};
 ghost use Rattle.std.specs.Bool.{MatchBool};
 ghost use Rattle.std.specs.FinMap as map;
 ghost use Rattle.tc_isa.specs.InBounds.{IsShapeAccessSize};
-ghost use Rattle.csa_chain.specs.MemoryBytes.{loaded_number, with_bytes, extend_loaded_bytes};
+ghost use Rattle.csa_chain.specs.MemoryBytes.{loaded_number, with_bytes, load_result};
 ghost use Rattle.tc_machine.specs.Instructions.{is_trapping_access};
 
 use crate::Event;
@@ -15,7 +15,7 @@ use tcd_base::sext;
 /// event's input, extended by the sign or by zeros.
 pub(crate) fn extended_loaded_word(mem: &Mem, input: u32, addr: u32, size: u8, signed: bool) -> u32
     requires { IsShapeAccessSize size }
-    ensures { result ≡ extend_loaded_bytes signed size (loaded_number mem.now input addr size) }
+    ensures { result ≡ load_result signed size (loaded_number mem.now input addr size) }
 {
     if size == 4 {
         return load_word_or_input(mem, input, addr);

@@ -3,7 +3,7 @@ ghost use Rattle.std.specs.Prelude.{◌≡◌};
 ghost use Rattle.tc_isa.specs.InBounds.{IsShape};
 ghost use Rattle.tc_machine.specs.declared.events.Event.{Event};
 ghost use Rattle.tc_machine.specs.Instructions.{does};
-ghost use Rattle.tc_machine.specs.InstructionKinds.{OnContextInstruction};
+ghost use Rattle.tc_machine.specs.InstructionKinds.{IfContextInstruction};
 
 use crate::operand_addresses::wrapping_sum;
 use crate::{End, Event, Machine};
@@ -18,7 +18,7 @@ impl Machine {
     #[tactic(auto, unfolding(crate::specs::Instructions::does))]
     pub(crate) fn execute_context_op(&mut self, event: &Event, shape: Shape, n: u32)
         requires { IsShape shape }
-        ensures { OnContextInstruction shape (self.new ≡ does self.old event.now shape n) }
+        ensures { IfContextInstruction shape (self.new ≡ does self.old event.now shape n) }
     {
         match shape {
             Shape::Call { to } => self.call(to, n),

@@ -1,6 +1,6 @@
 // Enters handlers of interrupts and traps.
 ghost use Rattle.std.specs.Prelude.{◌≡◌, ◌*◌, slice_set, false};
-ghost use Rattle.tc_machine.specs.Handlers.{handler_psw, handler_stack, trap, interrupt};
+ghost use Rattle.tc_machine.specs.Handlers.{handler_psw, handler_stack, after_trap, after_interrupt};
 
 use crate::{End, Machine};
 
@@ -16,7 +16,7 @@ impl Machine {
     /// Takes the interrupt of priority `irq` (manual, volume 1, interrupts): saves the upper
     /// context, and enters its handler with CCPN `irq` and interrupts off.
     pub(crate) fn take_interrupt(&mut self, irq: u8)
-        ensures { self.new ≡ interrupt self.old irq }
+        ensures { self.new ≡ after_interrupt self.old irq }
     {
         let back = self.pc;
         let entry = self.biv | u32::from(irq) * 32;
@@ -34,7 +34,7 @@ impl Machine {
 
     /// Takes a trap of a class, with its identification number in D15 (manual, volume 1, traps).
     pub(crate) fn take_trap(&mut self, class: u8, tin: u8, back: u32)
-        ensures { self.new ≡ trap self.old class tin back }
+        ensures { self.new ≡ after_trap self.old class tin back }
     {
         let entry = self.btv | u32::from(class) * 32;
         let stack = self.stack_of_handler();

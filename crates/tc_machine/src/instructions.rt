@@ -3,7 +3,7 @@ ghost use Rattle.std.specs.Prelude.{◌≡◌, ◌<◌};
 ghost use Rattle.tc_isa.specs.InBounds.{IsShape};
 ghost use Rattle.tc_machine.specs.declared.events.Event.{Event};
 ghost use Rattle.tc_machine.specs.Instructions.{does};
-ghost use Rattle.tc_machine.specs.InstructionKinds.{OnAccessInstruction, OnSystemInstruction};
+ghost use Rattle.tc_machine.specs.InstructionKinds.{IfLoadOrStore, IfSystemInstruction};
 
 use crate::accesses::{is_trapping_access, extended_loaded_word, store_low_bytes};
 use crate::operand_addresses::wrapping_sum;
@@ -73,7 +73,7 @@ impl Machine {
     #[tactic(auto, unfolding(crate::specs::Instructions::does))]
     fn execute_load_or_store(&mut self, event: &Event, shape: Shape, n: u32)
         requires { IsShape shape }
-        ensures { OnAccessInstruction shape (self.new ≡ does self.old event.now shape n) }
+        ensures { IfLoadOrStore shape (self.new ≡ does self.old event.now shape n) }
     {
         match shape {
             Shape::Load {
@@ -115,7 +115,7 @@ impl Machine {
     #[tactic(auto, unfolding(crate::specs::Instructions::does))]
     fn execute_system_op(&mut self, event: &Event, shape: Shape, n: u32)
         requires { IsShape shape }
-        ensures { OnSystemInstruction shape (self.new ≡ does self.old event.now shape n) }
+        ensures { IfSystemInstruction shape (self.new ≡ does self.old event.now shape n) }
     {
         match shape {
             Shape::Enable => {

@@ -1,6 +1,6 @@
 // Laws of the machine for all programs, and laws that pin the definitions under the headline.
 
-ghost use Rattle.tc_machine.specs.MachineLaws.{EveryEventFits, EveryRunFits, StartEquationsSuffice, SafeHasFiveParts, StoreInstructionStores, AllAreasFreeAtStart, SpelledCodeIsFetched, MachineSaveSucceeds, MachineRestoreSucceeds, MachineStepExecutes, DeathChangesEndOnly, StepKeepsMachine, RunKeepsMachine};
+ghost use Rattle.tc_machine.specs.MachineLaws.{EventEquationsSuffice, RunEquationsSuffice, StartEquationsSuffice, SafeImpliesEquations, StoreInstructionStores, AllAreasFreeAtStart, SpelledCodeIsFetched, MachineSaveSucceeds, MachineRestoreSucceeds, MachineStepExecutes, DeathChangesEndOnly, StepKeepsMachine, RunKeepsMachine};
 
 /// The laws of the machine: its areas at the start, what it fetches, saves, restores, steps and
 /// deaths.
@@ -18,9 +18,9 @@ pub fn machine_laws()
 /// The laws that pin the definitions of events and runs that fit, of machines that start, of
 /// safety, and of what a store stores.
 pub fn guard_laws()
-    ensures events { EveryEventFits }
-    ensures runs { EveryRunFits }
+    ensures events { EventEquationsSuffice }
+    ensures runs { RunEquationsSuffice }
     ensures starts { StartEquationsSuffice }
-    ensures safe { SafeHasFiveParts }
+    ensures safe { SafeImpliesEquations }
     ensures stores { StoreInstructionStores }
 {}

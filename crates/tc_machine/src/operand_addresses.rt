@@ -2,7 +2,7 @@
 ghost use Rattle.std.specs.Prelude.{◌≡◌, ◌<◌};
 ghost use Rattle.tc_isa.specs.InBounds.{IsArg, IsTarget};
 ghost use Rattle.tc_machine.specs.Machine.{reg};
-ghost use Rattle.tc_machine.specs.Instructions.{machine_address_ahead, operand_value, access_address, with_base_incremented, target_of, with_register_decremented};
+ghost use Rattle.tc_machine.specs.Instructions.{wrapping_sum, operand_value, access_address, with_base_incremented, target_of, with_register_decremented};
 
 use crate::Machine;
 use tc_isa::{Arg, Target};
@@ -64,7 +64,7 @@ impl Machine {
 
 /// Returns the address `by` bytes after `at`, modulo 2^32.
 pub(crate) fn wrapping_sum(at: u32, by: u32) -> u32
-    ensures { result ≡ machine_address_ahead at by }
+    ensures { result ≡ wrapping_sum at by }
 {
     at.wrapping_add(by)
 }

@@ -2,7 +2,7 @@
 ghost use Rattle.std.specs.Prelude.{◌≡◌, ◌<◌};
 ghost use Rattle.tc_isa.specs.InBounds.{IsArg};
 ghost use Rattle.tc_machine.specs.Machine.{reg, with_reg, dead_machine};
-ghost use Rattle.tc_machine.specs.Instructions.{machine_address_ahead, operand_value, with_pc_advanced};
+ghost use Rattle.tc_machine.specs.Instructions.{wrapping_sum, operand_value, with_pc_advanced};
 
 use crate::operand_addresses::wrapping_sum;
 use crate::{Cause, End, Machine};

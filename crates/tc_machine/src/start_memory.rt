@@ -2,7 +2,7 @@
 ghost use Rattle.std.specs.Prelude.{◌≡◌, ◌<◌, ◌≤◌, ◌+◌, ◌*◌, ◌^◌, [], ◌∷◌, ◌++◌, map, length, All, IsTrue, IfOk};
 ghost use Rattle.std.specs.List.{list_all};
 ghost use Rattle.elf_image.specs.Images.{segment_data, is_segment};
-ghost use Rattle.csa_chain.specs.MemoryBytes.{HasBytes};
+ghost use Rattle.csa_chain.specs.MemoryBytes.{HasOnlyBytes};
 ghost use Rattle.tc_machine.specs.Starting.{with_image_in_range, with_image_in_ranges, next_start_link, with_area_links, start_memory_ranges, IsFilledStartMemory, IsCopiedToMemory};
 ghost use Rattle.csa_chain.specs.Chain.{link_at};
 
@@ -63,7 +63,7 @@ fn start_memory_ranges(
 fn copy_image(mem: &mut Mem, image: &Image, ranges: &[Range])
     requires { All (λ r. r.at + r.len ≤ 2 ^ 32) ranges.now }
     ensures copied { mem.new ≡ with_image_in_ranges image.now mem.old ranges.now }
-    ensures bytes { HasBytes mem.old → HasBytes mem.new }
+    ensures bytes { HasOnlyBytes mem.old → HasOnlyBytes mem.new }
 {
     for range in ranges {
         copy_image_to_range(mem, image, range);
@@ -87,7 +87,7 @@ fn link_start_areas(mem: &mut Mem, at: u32, first: u32, n: u32)
 fn copy_image_to_range(mem: &mut Mem, image: &Image, range: &Range)
     requires { range.now.at + range.now.len ≤ 2 ^ 32 }
     ensures copied { mem.new ≡ with_image_in_range image.now mem.old range.now.at range.now.len }
-    ensures bytes { HasBytes mem.old → HasBytes mem.new }
+    ensures bytes { HasOnlyBytes mem.old → HasOnlyBytes mem.new }
 {
     copy_segments(mem, &image.segments, range);
 }
@@ -98,7 +98,7 @@ fn copy_segments(mem: &mut Mem, segments: &[Segment], range: &Range)
     requires segments { IsTrue (list_all is_segment (map segment_data segments.now)) }
     requires range { range.now.at + range.now.len ≤ 2 ^ 32 }
     ensures copied { IsCopiedToMemory (map segment_data segments.now) range.now mem.old mem.new }
-    ensures bytes { HasBytes mem.old → HasBytes mem.new }
+    ensures bytes { HasOnlyBytes mem.old → HasOnlyBytes mem.new }
 {
     let mut rest = segments.len();
     while rest > 0 {
@@ -113,7 +113,7 @@ fn copy_segment(mem: &mut Mem, segment: &Segment, range: &Range)
     requires segment { segment.now.at + length segment.now.bytes.items ≤ 2 ^ 32 }
     requires range { range.now.at + range.now.len ≤ 2 ^ 32 }
     ensures copied { IsCopiedToMemory (segment_data segment.now ∷ []) range.now mem.old mem.new }
-    ensures bytes { HasBytes mem.old → HasBytes mem.new }
+    ensures bytes { HasOnlyBytes mem.old → HasOnlyBytes mem.new }
 {
     let from = segment.at.max(range.at);
     let end = u64::from(segment.at) + segment.bytes.len() as u64;

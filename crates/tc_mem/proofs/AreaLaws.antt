@@ -8,7 +8,7 @@ use Rattle.std.proofs.lemmas.Nat.Bits.{bit_at_ones, same_from_bits_below}
 use Rattle.csa_chain.specs.MemoryBytes.{Memory, is_mapped, byte_at, are_mapped, word_at, memory_words_at}
 use Rattle.csa_chain.proofs.ChainLaws.{are_mapped_each, are_mapped_from}
 use Rattle.tcd_base.specs.Bytes.{word_in_bytes as word_in}
-use Rattle.tc_mem.specs.Pages.{is_page_bit_set, memory_of, ArePages, page_number_of}
+use Rattle.tc_mem.specs.Pages.{is_page_bit_set, memory_of, AreOrderedPages, page_number_of}
 use Rattle.tc_mem.specs.declared.page.Page.{Page}
 use Rattle.tc_mem.proofs.Search.{no_page}
 use Rattle.tc_mem.proofs.Mapped.{byte_of_same, get-memory_of, byte_in_none}
@@ -101,10 +101,10 @@ area_mapped ps i n o at aligned lt fits =
     ]
 
 -- if no page has the number, nothing is mapped
-pub get_none : (ps : List Page) (a : ℕ) → ArePages ps → All (λ p. page_number_of p ≢ a / 4096) ps → finite.get (memory_of ps) a ≡ None
+pub get_none : (ps : List Page) (a : ℕ) → AreOrderedPages ps → All (λ p. page_number_of p ≢ a / 4096) ps → finite.get (memory_of ps) a ≡ None
 get_none ps a pages none = get-memory_of ps a pages.whole ∙ byte_in_none a ps none
 
-pub area_none : (ps : List Page) (a : ℕ) → ArePages ps → All (λ p. page_number_of p ≢ a / 4096) ps → are_mapped (memory_of ps) a 64 ≡ false
+pub area_none : (ps : List Page) (a : ℕ) → AreOrderedPages ps → All (λ p. page_number_of p ≢ a / 4096) ps → are_mapped (memory_of ps) a 64 ≡ false
 area_none ps a pages none =
     not_true (are_mapped (memory_of ps) a 64) (λ all.
     let first : is_mapped (memory_of ps) a ≡ true = rw add-zero at (are_mapped_each (memory_of ps) a 64 all 0 (omega arith)) in

@@ -10,9 +10,9 @@ use Rattle.std.proofs.lemmas.List.{set-get_or}
 use Rattle.csa_chain.specs.MemoryBytes.{Memory, is_mapped, byte_at, are_mapped, word_at, with_word, with_words}
 use Rattle.csa_chain.proofs.ChainLaws.{are_mapped_each, are_mapped_from}
 use Rattle.tcd_base.specs.Bytes.{word_in_bytes as word_in, half_in_bytes as half_in}
-use Rattle.tc_mem.specs.Blocks.{are_in_block, mapped_block_word, memory_half_at, mapped_block_half, with_block_word, with_block_half, with_half}
+use Rattle.tc_mem.specs.Blocks.{are_mapped_in_block, mapped_block_word, memory_half_at, mapped_block_half, with_block_word, with_block_half, with_half}
 use Rattle.tc_mem.specs.Areas.{area_first_word}
-use Rattle.tc_mem.specs.Pages.{is_page_bit_set, are_page_bits_set, memory_of, page_bytes_with_words, ArePages, page_number_of}
+use Rattle.tc_mem.specs.Pages.{is_page_bit_set, are_page_bits_set, memory_of, page_bytes_with_words, AreOrderedPages, page_number_of}
 use Rattle.tc_mem.specs.declared.page.Page.{Page}
 use Rattle.tc_mem.proofs.Search.{no_page}
 use Rattle.tc_mem.proofs.Stored.{IsAt, changed, step, page_at, memory_of-words}
@@ -89,12 +89,12 @@ module _ (ps : List Page) (i a n : ℕ) (at : IsAt ps i (a / 4096)) (fits : a % 
             ∙ sym (not_true (are_mapped (memory_of ps) a n) (λ all. less (each_set n mapped (a % 4096) (low_fits a n fits) (λ j lt. sym (mapped_there j lt) ∙ are_mapped_each (memory_of ps) a n all j lt))))
       ]
 
-  pub block_is : are_page_bits_set n (get_or ps i no_page).mapped (a % 4096) ≡ are_in_block (memory_of ps) a n
+  pub block_is : are_page_bits_set n (get_or ps i no_page).mapped (a % 4096) ≡ are_mapped_in_block (memory_of ps) a n
   block_is = block_mapped ∙ ap (λ (t : Bool). t && are_mapped (memory_of ps) a n) (sym (le-leb (a % 64 + n) 64 fits))
 
   -- a write of other bytes into the page, if these are mapped
   pub block_written : (bytes : List ℕ) (new : Memory) → (are_page_bits_set n (get_or ps i no_page).mapped (a % 4096) ≡ true → memory_of (changed ps i bytes) ≡ new) → (t : Bool) → t ≡ are_page_bits_set n (get_or ps i no_page).mapped (a % 4096) →
-      memory_of (set ps i (put_in (get_or ps i no_page) t bytes)) ≡ cond (are_in_block (memory_of ps) a n) new (memory_of ps)
+      memory_of (set ps i (put_in (get_or ps i no_page) t bytes)) ≡ cond (are_mapped_in_block (memory_of ps) a n) new (memory_of ps)
   block_written bytes new is true here = is (sym here) ∙ ap (λ (t : Bool). cond t new (memory_of ps)) (here ∙ block_is)
   block_written bytes new is false gone = ap memory_of (set-get_or ps i no_page) ∙ ap (λ (t : Bool). cond t new (memory_of ps)) (gone ∙ block_is)
 
@@ -103,14 +103,14 @@ and_false true = refl
 and_false false = refl
 
 -- no page has the number
-none_mapped : (ps : List Page) (a n : ℕ) → ArePages ps → All (λ p. page_number_of p ≢ a / 4096) ps → 0 < n → are_mapped (memory_of ps) a n ≡ false
+none_mapped : (ps : List Page) (a n : ℕ) → AreOrderedPages ps → All (λ p. page_number_of p ≢ a / 4096) ps → 0 < n → are_mapped (memory_of ps) a n ≡ false
 none_mapped ps a n pages none some =
     not_true (are_mapped (memory_of ps) a n) (λ all.
     let first : is_mapped (memory_of ps) a ≡ true = rw add-zero at (are_mapped_each (memory_of ps) a n all 0 some) in
     let gone : is_mapped (memory_of ps) a ≡ false = ap is_some (get_none ps a pages none) in
     clash (sym first ∙ gone))
 
-pub block_none : (ps : List Page) (a n : ℕ) → ArePages ps → All (λ p. page_number_of p ≢ a / 4096) ps → 0 < n → are_in_block (memory_of ps) a n ≡ false
+pub block_none : (ps : List Page) (a n : ℕ) → AreOrderedPages ps → All (λ p. page_number_of p ≢ a / 4096) ps → 0 < n → are_mapped_in_block (memory_of ps) a n ≡ false
 block_none ps a n pages none some = ap (λ (t : Bool). nat_le (a % 64 + n) 64 && t) (none_mapped ps a n pages none some) ∙ and_false (nat_le (a % 64 + n) 64)
 
 -- ---- words
@@ -171,7 +171,7 @@ module _ (ps : List Page) (i a : ℕ) (at : IsAt ps i (a / 4096)) (fits : a % 64
       block_written ps i a 2 at fits (set (set (get_or ps i no_page).bytes (a % 4096) (h % 2 ^ 8)) (a % 4096 + 1) (h / 2 ^ 8 % 2 ^ 8)) (with_half (memory_of ps) a h) (two_written h) t is
 
 -- ---- the first word of an area
-pub first_none : (ps : List Page) (a : ℕ) → ArePages ps → All (λ p. page_number_of p ≢ a / 4096) ps → None ≡ area_first_word (memory_of ps) a
+pub first_none : (ps : List Page) (a : ℕ) → AreOrderedPages ps → All (λ p. page_number_of p ≢ a / 4096) ps → None ≡ area_first_word (memory_of ps) a
 first_none ps a pages none = ap (λ (t : Bool). cond {A = Option ℕ} t (Some (word_at (memory_of ps) a)) None) (sym (area_none ps a pages none))
 
 offset_aligned : (a : ℕ) → a % 64 ≡ 0 → a % 4096 % 64 ≡ 0
@@ -188,14 +188,14 @@ first_found ps i a (Some w) area is each =
     ap (λ (x : ℕ). Some x) there ∙ ap (λ (t : Bool). cond {A = Option ℕ} t (Some (word_at (memory_of ps) a)) None) (is ∙ area_is ps i a area)
 
 -- ---- no page: nothing is read, and nothing changes
-pub word_none : (ps : List Page) (a : ℕ) → ArePages ps → All (λ p. page_number_of p ≢ a / 4096) ps → None ≡ mapped_block_word (memory_of ps) a
+pub word_none : (ps : List Page) (a : ℕ) → AreOrderedPages ps → All (λ p. page_number_of p ≢ a / 4096) ps → None ≡ mapped_block_word (memory_of ps) a
 word_none ps a pages none = ap (λ (t : Bool). cond {A = Option ℕ} t (Some (word_at (memory_of ps) a)) None) (sym (block_none ps a 4 pages none (omega arith)))
 
-pub half_none : (ps : List Page) (a : ℕ) → ArePages ps → All (λ p. page_number_of p ≢ a / 4096) ps → None ≡ mapped_block_half (memory_of ps) a
+pub half_none : (ps : List Page) (a : ℕ) → AreOrderedPages ps → All (λ p. page_number_of p ≢ a / 4096) ps → None ≡ mapped_block_half (memory_of ps) a
 half_none ps a pages none = ap (λ (t : Bool). cond {A = Option ℕ} t (Some (memory_half_at (memory_of ps) a)) None) (sym (block_none ps a 2 pages none (omega arith)))
 
-pub word_unwritten : (ps : List Page) (a w : ℕ) → ArePages ps → All (λ p. page_number_of p ≢ a / 4096) ps → memory_of ps ≡ with_block_word (memory_of ps) a w
+pub word_unwritten : (ps : List Page) (a w : ℕ) → AreOrderedPages ps → All (λ p. page_number_of p ≢ a / 4096) ps → memory_of ps ≡ with_block_word (memory_of ps) a w
 word_unwritten ps a w pages none = ap (λ (t : Bool). cond t (with_word (memory_of ps) a w) (memory_of ps)) (sym (block_none ps a 4 pages none (omega arith)))
 
-pub half_unwritten : (ps : List Page) (a h : ℕ) → ArePages ps → All (λ p. page_number_of p ≢ a / 4096) ps → memory_of ps ≡ with_block_half (memory_of ps) a h
+pub half_unwritten : (ps : List Page) (a h : ℕ) → AreOrderedPages ps → All (λ p. page_number_of p ≢ a / 4096) ps → memory_of ps ≡ with_block_half (memory_of ps) a h
 half_unwritten ps a h pages none = ap (λ (t : Bool). cond t (with_half (memory_of ps) a h) (memory_of ps)) (sym (block_none ps a 2 pages none (omega arith)))

@@ -7,7 +7,7 @@ use Rattle.tc_mem.proofs.Search.{no_page, number_at_is}
 use Rattle.tc_mem.proofs.Mapped.{get-memory_of, byte_in_found, byte_in_none}
 use Rattle.tc_mem.proofs.Numbers.{place_of, not_contained}
 use Rattle.tc_mem.proofs.AreaLaws.{not_true}
-use Rattle.tc_mem.specs.Pages.{page_byte_at, memory_of, IsPage, ArePages, ArePageBytesSmall, AreMemoryPages, page_number_of}
+use Rattle.tc_mem.specs.Pages.{page_byte_at, memory_of, IsPage, AreOrderedPages, ArePageBytesSmall, AreMemoryPages, page_number_of}
 use Rattle.tc_mem.specs.PlanMemory.{IsMemoryOfZeros}
 use Rattle.tcd_base.specs.Ranges.{is_address_in_ranges}
 use Rattle.tc_mem.specs.declared.page.Page.{Page}
@@ -35,7 +35,7 @@ made_mem ranges numbers ps made rising = record {
 -- zeros
 pub made_zeros : (ranges : List Range) (numbers : List ℕ) (ps : List Page) → AreMade ranges numbers ps → IsStrictlyIncreasing numbers → ((q : ℕ) → IsTrue (is_address_in_ranges ranges q) → Contains numbers (q / 4096)) → IsMemoryOfZeros ranges (memory_of ps)
 made_zeros ranges numbers ps made rising all q =
-    let pages : ArePages ps = record { whole = made.pages; rising = subst IsStrictlyIncreasing (sym made.numbers_are) rising } in
+    let pages : AreOrderedPages ps = record { whole = made.pages; rising = subst IsStrictlyIncreasing (sym made.numbers_are) rising } in
     let size : length (map page_number_of ps) ≡ length ps = simp length-map in
     get-memory_of ps q made.pages
     ∙ elim (place_of (map page_number_of ps) (q / 4096)) [

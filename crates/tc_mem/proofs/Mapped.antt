@@ -10,7 +10,7 @@ use Rattle.std.specs.FinMap as finite
 use Rattle.std.specs.FinMap.{find, get-from_entries}
 use Rattle.std.specs.Ordering.{nat_cmp, eq_by_cmp}
 use Rattle.std.specs.Cmp.{nat_cmp_total, unsigned_tied}
-use Rattle.tc_mem.specs.Pages.{is_page_bit_set, page_byte_at, page_entries_from, entries_of, memory_of, IsPage, ArePages, page_number_of}
+use Rattle.tc_mem.specs.Pages.{is_page_bit_set, page_byte_at, page_entries_from, entries_of_pages, memory_of, IsPage, AreOrderedPages, page_number_of}
 use Rattle.tc_mem.specs.declared.page.Page.{Page}
 use Rattle.tc_mem.proofs.Search.{no_page, number_at_is, rises}
 
@@ -119,18 +119,18 @@ part_is q p page =
     ]
 
 -- ---- pages
-all_find : (q : ℕ) (ps : List Page) → All IsPage ps → find nat_cmp q (entries_of ps) ≡ byte_in q ps
-unfolding entries_of
+all_find : (q : ℕ) (ps : List Page) → All IsPage ps → find nat_cmp q (entries_of_pages ps) ≡ byte_in q ps
+unfolding entries_of_pages
 all_find q [] whole = refl
 all_find q (p ∷ ps) whole =
-    entries_find q p.mapped (p.number * 4096) p.bytes (entries_of ps)
-    ∙ ap (λ (o : Option ℕ). or_else o (find nat_cmp q (entries_of ps))) (part_is q p (All-head IsPage p ps whole))
+    entries_find q p.mapped (p.number * 4096) p.bytes (entries_of_pages ps)
+    ∙ ap (λ (o : Option ℕ). or_else o (find nat_cmp q (entries_of_pages ps))) (part_is q p (All-head IsPage p ps whole))
     ∙ ap (or_else (page_byte_at q p)) (all_find q ps (All-tail IsPage p ps whole))
 
 -- what the memory has at an address
 pub get-memory_of : (ps : List Page) (q : ℕ) → All IsPage ps → finite.get (memory_of ps) q ≡ byte_in q ps
 unfolding memory_of
-get-memory_of ps q whole = get-from_entries nat_cmp_total (entries_of ps) q ∙ all_find q ps whole
+get-memory_of ps q whole = get-from_entries nat_cmp_total (entries_of_pages ps) q ∙ all_find q ps whole
 
 -- no page has the number: no byte
 pub byte_in_none : (q : ℕ) (ps : List Page) → All (λ p. page_number_of p ≢ q / 4096) ps → byte_in q ps ≡ None
@@ -155,7 +155,7 @@ alone q (p ∷ ps) (suc i) lt others =
     ∙ alone q ps i (omega arith) (λ k h ne. others (suc k) (omega arith) (omega arith))
 
 -- the numbers of other pages differ
-others_differ : (ps : List Page) → ArePages ps → (i k : ℕ) → i < length ps → k < length ps → k ≢ i → page_number_of (get_or ps k no_page) ≢ page_number_of (get_or ps i no_page)
+others_differ : (ps : List Page) → AreOrderedPages ps → (i k : ℕ) → i < length ps → k < length ps → k ≢ i → page_number_of (get_or ps k no_page) ≢ page_number_of (get_or ps i no_page)
 others_differ ps pages i k lt lk ne same =
     let at_i = number_at_is ps i lt in
     let at_k = number_at_is ps k lk in
@@ -165,7 +165,7 @@ others_differ ps pages i k lt lk ne same =
       | inr g ↦ let r = rises (map page_number_of ps) pages.rising k i (omega arith) (omega arith) in absurd (omega arith)
     ]
 
-pub byte_in_found : (q : ℕ) (ps : List Page) (i : ℕ) → ArePages ps → i < length ps → page_number_of (get_or ps i no_page) ≡ q / 4096 → byte_in q ps ≡ page_byte_at q (get_or ps i no_page)
+pub byte_in_found : (q : ℕ) (ps : List Page) (i : ℕ) → AreOrderedPages ps → i < length ps → page_number_of (get_or ps i no_page) ≡ q / 4096 → byte_in q ps ≡ page_byte_at q (get_or ps i no_page)
 byte_in_found q ps i pages lt is = alone q ps i lt (λ k h ne e. others_differ ps pages i k lt h ne (e ∙ sym is))
 
 -- a page in which only the byte at another address differs
@@ -175,7 +175,7 @@ byte_in_set q (r ∷ ps) zero p lt same = ap (λ (o : Option ℕ). or_else o (by
 byte_in_set q (r ∷ ps) (suc i) p lt same = ap (or_else (page_byte_at q r)) (byte_in_set q ps i p (omega arith) same)
 
 -- a page whose number and sizes stay
-pub ArePages-set : (ps : List Page) (i : ℕ) (p : Page) → ArePages ps → IsPage p → page_number_of p ≡ page_number_of (get_or ps i no_page) → ArePages (set ps i p)
+pub ArePages-set : (ps : List Page) (i : ℕ) (p : Page) → AreOrderedPages ps → IsPage p → page_number_of p ≡ page_number_of (get_or ps i no_page) → AreOrderedPages (set ps i p)
 ArePages-set ps i p pages page same = record {
   whole = All-set IsPage ps i p page pages.whole;
   rising = rw (map-set_same page_number_of ps i p no_page same) pages.rising;

@@ -1,8 +1,8 @@
 -- Bytes stay below 256.
 use Rattle.std.proofs.Common.{◌≡◌, ◌+◌, ◌/◌, ◌%◌, ◌<◌, ◌==◌, ℕ, zero, suc, Bool, true, false, cond, List, [], ◌∷◌, get_or, set, replicate, lit<, Option, Some, None, sym, ◌∙◌, arith}
 use Rattle.std.proofs.lemmas.List.Elements.{All-head, All-tail, All-set}
-use Rattle.csa_chain.specs.MemoryBytes.{HasBytes}
-use Rattle.tc_mem.specs.Pages.{is_page_bit_set, page_byte_at, memory_of, page_bytes_with_words, ArePages, ArePageBytesSmall, AreMemoryPages}
+use Rattle.csa_chain.specs.MemoryBytes.{HasOnlyBytes}
+use Rattle.tc_mem.specs.Pages.{is_page_bit_set, page_byte_at, memory_of, page_bytes_with_words, AreOrderedPages, ArePageBytesSmall, AreMemoryPages}
 use Rattle.tc_mem.specs.declared.page.Page.{Page}
 use Rattle.tc_mem.proofs.Search.{no_page}
 use Rattle.tc_mem.proofs.Mapped.{or_else, byte_in, get-memory_of}
@@ -48,10 +48,10 @@ byte_in_small q (p ∷ ps) b small e =
     (byte_of_small q p b (All-head IsSmall p ps small) (q / 4096 == p.number) (is_page_bit_set p.mapped (q % 4096)))
     (byte_in_small q ps b (All-tail IsSmall p ps small)) e
 
-pub HasBytes-memory_of : (ps : List Page) → ArePages ps → ArePageBytesSmall ps → HasBytes (memory_of ps)
+pub HasBytes-memory_of : (ps : List Page) → AreOrderedPages ps → ArePageBytesSmall ps → HasOnlyBytes (memory_of ps)
 HasBytes-memory_of ps pages small q b e = byte_in_small q ps b small (sym (get-memory_of ps q pages.whole) ∙ e)
 
-pub HasBytes-mem : (ps : List Page) → AreMemoryPages ps → HasBytes (memory_of ps)
+pub HasBytes-mem : (ps : List Page) → AreMemoryPages ps → HasOnlyBytes (memory_of ps)
 HasBytes-mem ps mem = HasBytes-memory_of ps mem.pages mem.small
 
 -- a new page has zeros

@@ -10,7 +10,7 @@ use Rattle.std.specs.FinMap.{same_map, nat_cmp-IsAntisymmetric}
 use Rattle.std.specs.Cmp.{nat_cmp_total}
 use Rattle.csa_chain.specs.MemoryBytes.{Memory, is_mapped, with_byte, with_word, with_words}
 use Rattle.csa_chain.proofs.MemoryLaws.{get-with_byte_other, get-with_byte_same}
-use Rattle.tc_mem.specs.Pages.{is_page_bit_set, page_byte_at, memory_of, page_bytes_with_words, IsPage, ArePages, page_number_of}
+use Rattle.tc_mem.specs.Pages.{is_page_bit_set, page_byte_at, memory_of, page_bytes_with_words, IsPage, AreOrderedPages, page_number_of}
 use Rattle.tc_mem.specs.declared.page.Page.{Page}
 use Rattle.tc_mem.proofs.Search.{no_page}
 use Rattle.tc_mem.proofs.Mapped.{byte_in, byte_of_same, byte_of_other, get-memory_of, byte_in_found, byte_in_set, ArePages-set}
@@ -35,7 +35,7 @@ bytes_with_more bytes now o ws i j next lt is =
     rw (first, place, ← next, ← is) refl
 
 -- a page among pages is whole
-pub page_at : (ps : List Page) (i : ℕ) → ArePages ps → i < length ps → IsPage (get_or ps i no_page)
+pub page_at : (ps : List Page) (i : ℕ) → AreOrderedPages ps → i < length ps → IsPage (get_or ps i no_page)
 page_at ps i pages lt = All-get_or IsPage ps i no_page lt pages.whole
 
 -- a page with other bytes
@@ -46,7 +46,7 @@ with_bytes p bytes = record p { bytes = bytes }
 abbrev pub changed : List Page → ℕ → List ℕ → List Page
 changed ps i bytes = set ps i (with_bytes (get_or ps i no_page) bytes)
 
-pub ArePages-changed : (ps : List Page) (i : ℕ) (bytes : List ℕ) → ArePages ps → i < length ps → length bytes ≡ 4096 → ArePages (changed ps i bytes)
+pub ArePages-changed : (ps : List Page) (i : ℕ) (bytes : List ℕ) → AreOrderedPages ps → i < length ps → length bytes ≡ 4096 → AreOrderedPages (changed ps i bytes)
 ArePages-changed ps i bytes pages lt size =
     let page = page_at ps i pages lt in
     ArePages-set ps i (with_bytes (get_or ps i no_page) bytes) pages (record { bytes = size; bits = page.bits }) refl
@@ -71,10 +71,10 @@ written_other a b q p is other =
     ]
 
 -- the byte at an address of a page that was found
-pub get_found : (a : ℕ) (ps : List Page) (i : ℕ) → ArePages ps → i < length ps → page_number_of (get_or ps i no_page) ≡ a / 4096 → finite.get (memory_of ps) a ≡ page_byte_at a (get_or ps i no_page)
+pub get_found : (a : ℕ) (ps : List Page) (i : ℕ) → AreOrderedPages ps → i < length ps → page_number_of (get_or ps i no_page) ≡ a / 4096 → finite.get (memory_of ps) a ≡ page_byte_at a (get_or ps i no_page)
 get_found a ps i pages lt is = get-memory_of ps a pages.whole ∙ byte_in_found a ps i pages lt is
 
-pub mapped_found : (a : ℕ) (ps : List Page) (i : ℕ) → ArePages ps → i < length ps → page_number_of (get_or ps i no_page) ≡ a / 4096 → is_mapped (memory_of ps) a ≡ is_page_bit_set (get_or ps i no_page).mapped (a % 4096)
+pub mapped_found : (a : ℕ) (ps : List Page) (i : ℕ) → AreOrderedPages ps → i < length ps → page_number_of (get_or ps i no_page) ≡ a / 4096 → is_mapped (memory_of ps) a ≡ is_page_bit_set (get_or ps i no_page).mapped (a % 4096)
 mapped_found a ps i pages lt is =
     ap is_some (get_found a ps i pages lt is ∙ byte_of_same a (get_or ps i no_page) is) ∙ some_of (is_page_bit_set (get_or ps i no_page).mapped (a % 4096)) (get_or (get_or ps i no_page).bytes (a % 4096) 0)
   where
@@ -83,13 +83,13 @@ mapped_found a ps i pages lt is =
     some_of false x = refl
 
 -- a byte that is written into a page is the byte that is written into the memory
-pub memory_of-changed : (a b : ℕ) (ps : List Page) (i : ℕ) → ArePages ps → i < length ps → page_number_of (get_or ps i no_page) ≡ a / 4096 → is_page_bit_set (get_or ps i no_page).mapped (a % 4096) ≡ true → memory_of (changed ps i (set (get_or ps i no_page).bytes (a % 4096) b)) ≡ with_byte (memory_of ps) a b
+pub memory_of-changed : (a b : ℕ) (ps : List Page) (i : ℕ) → AreOrderedPages ps → i < length ps → page_number_of (get_or ps i no_page) ≡ a / 4096 → is_page_bit_set (get_or ps i no_page).mapped (a % 4096) ≡ true → memory_of (changed ps i (set (get_or ps i no_page).bytes (a % 4096) b)) ≡ with_byte (memory_of ps) a b
 memory_of-changed a b ps i pages lt is here =
     let p : Page = get_or ps i no_page in
     let page : IsPage p = page_at ps i pages lt in
     let bytes : List ℕ = set p.bytes (a % 4096) b in
     let size : length bytes ≡ 4096 = length-set p.bytes (a % 4096) b ∙ page.bytes in
-    let after : ArePages (changed ps i bytes) = ArePages-changed ps i bytes pages lt size in
+    let after : AreOrderedPages (changed ps i bytes) = ArePages-changed ps i bytes pages lt size in
     same_map nat_cmp_total nat_cmp-IsAntisymmetric (memory_of (changed ps i bytes)) (with_byte (memory_of ps) a b) (λ q.
     get-memory_of (changed ps i bytes) q after.whole
     ∙ elim (cases_eq q a) [
@@ -118,7 +118,7 @@ changed_again ps i bytes others lt =
 
 -- a list of pages, one of which has this place and number
 pub record IsAt (ps : List Page) (i n : ℕ) : Type 0 where
-  pub pages : ArePages ps
+  pub pages : AreOrderedPages ps
   pub within : i < length ps
   pub number : page_number_of (get_or ps i no_page) ≡ n
 

@@ -7,7 +7,7 @@ use Rattle.std.proofs.lemmas.List.Elements.{All-get_or}
 use Rattle.std.proofs.lemmas.List.Edits.{length-between, get_or-between}
 use Rattle.std.specs.FinMap as finite
 use Rattle.csa_chain.specs.MemoryBytes.{Memory, is_mapped}
-use Rattle.tc_mem.specs.Pages.{is_page_bit_set, page_byte_at, memory_of, page_bytes_with, ArePages, page_number_of}
+use Rattle.tc_mem.specs.Pages.{is_page_bit_set, page_byte_at, memory_of, page_bytes_with, AreOrderedPages, page_number_of}
 use Rattle.tc_mem.specs.Written.{IsMemoryWritten}
 use Rattle.tc_mem.specs.declared.page.Page.{Page}
 use Rattle.tc_mem.proofs.Search.{no_page}
@@ -67,7 +67,7 @@ module _ (bytes : List ℕ) (o : ℕ) (new : List ℕ) (fits : o + length new �
 
 -- ---- a page with other bytes
 module _ (ps : List Page) (i n : ℕ) (bytes : List ℕ) (at : IsAt ps i n) (size : length bytes ≡ 4096) where
-  after : ArePages (changed ps i bytes)
+  after : AreOrderedPages (changed ps i bytes)
   after = ArePages-changed ps i bytes at.pages at.within size
 
   there : get_or (changed ps i bytes) i no_page ≡ with_bytes (get_or ps i no_page) bytes
@@ -135,7 +135,7 @@ page_written ps i a new at fit =
     }
 
 -- no page has the bytes
-pub none_written : (ps : List Page) (a : ℕ) (new : List ℕ) → ArePages ps → All (λ p. page_number_of p ≢ a / 4096) ps → a % 4096 + length new ≤ 4096 → IsMemoryWritten (memory_of ps) a new (memory_of ps)
+pub none_written : (ps : List Page) (a : ℕ) (new : List ℕ) → AreOrderedPages ps → All (λ p. page_number_of p ≢ a / 4096) ps → a % 4096 + length new ≤ 4096 → IsMemoryWritten (memory_of ps) a new (memory_of ps)
 none_written ps a new pages none fit = record {
   mapped = λ q. refl;
   here = λ k lt is.

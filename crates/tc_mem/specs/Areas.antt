@@ -3,8 +3,8 @@ use Rattle.std.specs.Prelude.{ℕ, List, Option, Some, None, if◌then◌else◌
 use Rattle.csa_chain.specs.MemoryBytes.{Memory, are_mapped, memory_words_at, with_words, word_at}
 
 -- the 16 words from an address on, if all their bytes are mapped
-abbrev pub memory_area_of : Memory → ℕ → Option (List ℕ)
-memory_area_of m x = if are_mapped m x 64 then Some (memory_words_at m x 16) else None
+abbrev pub mapped_area_words : Memory → ℕ → Option (List ℕ)
+mapped_area_words m x = if are_mapped m x 64 then Some (memory_words_at m x 16) else None
 
 -- the memory with these words from an address on, if all their bytes are mapped
 abbrev pub memory_with_area : Memory → ℕ → List ℕ → Memory

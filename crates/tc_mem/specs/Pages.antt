@@ -24,13 +24,13 @@ page_entries_from mapped at [] = []
 page_entries_from mapped at (b ∷ bs) = if is_page_bit_set mapped (at % 4096) then (at, b) ∷ page_entries_from mapped (at + 1) bs else page_entries_from mapped (at + 1) bs
 
 -- the mapped bytes of all pages, each with its address
-unfoldable pub entries_of : List Page → List (ℕ × ℕ)
-entries_of [] = []
-entries_of (p ∷ ps) = page_entries_from p.mapped (p.number * 4096) p.bytes ++ entries_of ps
+unfoldable pub entries_of_pages : List Page → List (ℕ × ℕ)
+entries_of_pages [] = []
+entries_of_pages (p ∷ ps) = page_entries_from p.mapped (p.number * 4096) p.bytes ++ entries_of_pages ps
 
 -- the memory that a list of pages holds: their mapped bytes at their addresses
 unfoldable pub memory_of : List Page → Memory
-memory_of ps = finite.from_entries (entries_of ps)
+memory_of ps = finite.from_entries (entries_of_pages ps)
 
 -- a page has 4,096 bytes and as many bits
 pub record IsPage (p : Page) : Type 0 where
@@ -42,7 +42,7 @@ abbrev pub page_number_of : Page → ℕ
 page_number_of p = p.number
 
 -- each page is whole, and the numbers of the pages ascend
-pub record ArePages (ps : List Page) : Type 0 where
+pub record AreOrderedPages (ps : List Page) : Type 0 where
   pub whole : All IsPage ps
   pub rising : IsStrictlyIncreasing (map page_number_of ps)
 
@@ -52,7 +52,7 @@ ArePageBytesSmall ps = All (λ p. (k : ℕ) → slice_index p.bytes k < 256) ps
 
 -- the pages of a memory: each is whole, their numbers ascend, and their bytes are below 256
 pub record AreMemoryPages (ps : List Page) : Type 0 where
-  pub pages : ArePages ps
+  pub pages : AreOrderedPages ps
   pub small : ArePageBytesSmall ps
 
 -- the bytes of a page, with these bytes written from an offset on

@@ -2,9 +2,9 @@
 ghost use Rattle.std.specs.Prelude.{◌≡◌, ◌≤◌, ◌+◌, ◌%◌, ◌^◌, All, IfOk, length, ◌<◌, ◌-◌};
 ghost use Rattle.std.specs.Bool.{OnFalse};
 ghost use Rattle.std.specs.FinMap as finite;
-ghost use Rattle.csa_chain.specs.MemoryBytes.{is_mapped, are_mapped, with_byte, HasBytes};
-ghost use Rattle.tc_mem.specs.Areas.{memory_area_of, memory_with_area, area_first_word};
-ghost use Rattle.tc_mem.specs.Blocks.{are_in_block, mapped_block_word, mapped_block_half, with_block_word, with_block_half};
+ghost use Rattle.csa_chain.specs.MemoryBytes.{is_mapped, are_mapped, with_byte, HasOnlyBytes};
+ghost use Rattle.tc_mem.specs.Areas.{mapped_area_words, memory_with_area, area_first_word};
+ghost use Rattle.tc_mem.specs.Blocks.{are_mapped_in_block, mapped_block_word, mapped_block_half, with_block_word, with_block_half};
 ghost use Rattle.tc_mem.specs.Pages.{memory_of, AreMemoryPages};
 ghost use Rattle.tc_mem.specs.PlanMemory.{IsMemoryOfZeros};
 ghost use Rattle.tc_mem.specs.Written.{IsMemoryWritten};
@@ -47,7 +47,7 @@ impl Mem {
     pub fn of(alloc: Global, ranges: &[Range]) -> Result<Mem, NoMemory>
         requires { All (λ r. r.at + r.len ≤ 2 ^ 32) ranges.now }
         ensures zeros { IfOk result (λ m. IsMemoryOfZeros ranges.now m) }
-        ensures bytes { IfOk result (λ m. HasBytes m) }
+        ensures bytes { IfOk result (λ m. HasOnlyBytes m) }
     {
         Ok(Mem {
             pages: new_pages(alloc, ranges)?,
@@ -58,7 +58,7 @@ impl Mem {
     /// Returns the byte at an address, or `None` if it isn't mapped.
     pub fn get(&self, addr: u32) -> Option<u8>
         ensures byte { result ≡ finite.get self.now addr }
-        ensures bytes { HasBytes self.now }
+        ensures bytes { HasOnlyBytes self.now }
     {
         read_memory_byte(&self.pages, addr, self.near)
     }
@@ -68,7 +68,7 @@ impl Mem {
         ensures mapped { result ≡ is_mapped self.old addr }
         ensures written { self.new ≡ with_byte self.old addr byte }
         ensures kept { OnFalse result (self.new ≡ self.old) }
-        ensures bytes { HasBytes self.new }
+        ensures bytes { HasOnlyBytes self.new }
     {
         write_memory_byte(&mut self.pages, addr, byte, self.near)
     }
@@ -77,7 +77,7 @@ impl Mem {
     pub fn set_bytes(&mut self, addr: u32, bytes: &[u8])
         requires { addr + length bytes.now ≤ 2 ^ 32 }
         ensures written { IsMemoryWritten self.old addr bytes.now self.new }
-        ensures bytes { HasBytes self.new }
+        ensures bytes { HasOnlyBytes self.new }
     {
         write_memory_bytes(&mut self.pages, addr, bytes);
     }
@@ -86,8 +86,8 @@ impl Mem {
     /// one of the bytes isn't mapped, the answer is `None`.
     pub fn area(&self, addr: u32) -> Option<[u32; 16]>
         requires { addr % 64 ≡ 0 }
-        ensures words { result ≡ memory_area_of self.now addr }
-        ensures bytes { HasBytes self.now }
+        ensures words { result ≡ mapped_area_words self.now addr }
+        ensures bytes { HasOnlyBytes self.now }
     {
         read_area(&self.pages, addr, self.near)
     }
@@ -99,7 +99,7 @@ impl Mem {
         ensures mapped { result ≡ are_mapped self.old addr 64 }
         ensures written { self.new ≡ memory_with_area self.old addr words.now }
         ensures kept { OnFalse result (self.new ≡ self.old) }
-        ensures bytes { HasBytes self.new }
+        ensures bytes { HasOnlyBytes self.new }
     {
         write_area(&mut self.pages, addr, words, &mut self.near)
     }
@@ -108,7 +108,7 @@ impl Mem {
     /// isn't mapped, or they cross a multiple of 64, the answer is `None`.
     pub fn word(&self, addr: u32) -> Option<u32>
         ensures word { result ≡ mapped_block_word self.now addr }
-        ensures bytes { HasBytes self.now }
+        ensures bytes { HasOnlyBytes self.now }
     {
         read_memory_word(&self.pages, addr, self.near)
     }
@@ -117,7 +117,7 @@ impl Mem {
     /// them isn't mapped, or they cross a multiple of 64, the answer is `None`.
     pub fn half(&self, addr: u32) -> Option<u16>
         ensures half { result ≡ mapped_block_half self.now addr }
-        ensures bytes { HasBytes self.now }
+        ensures bytes { HasOnlyBytes self.now }
     {
         read_memory_half(&self.pages, addr, self.near)
     }
@@ -125,9 +125,9 @@ impl Mem {
     /// Writes a word to the four bytes from an address on, its lowest byte first. If one of them
     /// isn't mapped, or they cross a multiple of 64, the answer is false, and nothing changes.
     pub fn set_word(&mut self, addr: u32, word: u32) -> bool
-        ensures mapped { result ≡ are_in_block self.old addr 4 }
+        ensures mapped { result ≡ are_mapped_in_block self.old addr 4 }
         ensures written { self.new ≡ with_block_word self.old addr word }
-        ensures bytes { HasBytes self.new }
+        ensures bytes { HasOnlyBytes self.new }
     {
         write_memory_word(&mut self.pages, addr, word, self.near)
     }
@@ -135,9 +135,9 @@ impl Mem {
     /// Writes a halfword to the two bytes from an address on, its lower byte first. If one of them
     /// isn't mapped, or they cross a multiple of 64, the answer is false, and nothing changes.
     pub fn set_half(&mut self, addr: u32, half: u16) -> bool
-        ensures mapped { result ≡ are_in_block self.old addr 2 }
+        ensures mapped { result ≡ are_mapped_in_block self.old addr 2 }
         ensures written { self.new ≡ with_block_half self.old addr half }
-        ensures bytes { HasBytes self.new }
+        ensures bytes { HasOnlyBytes self.new }
     {
         write_memory_half(&mut self.pages, addr, half, self.near)
     }
@@ -148,7 +148,7 @@ impl Mem {
     pub fn area_first_word(&self, addr: u32, near: &mut usize) -> Option<u32>
         requires { addr % 64 ≡ 0 }
         ensures word { result ≡ area_first_word self.now addr }
-        ensures bytes { HasBytes self.now }
+        ensures bytes { HasOnlyBytes self.now }
     {
         read_area_first_word(&self.pages, addr, near)
     }

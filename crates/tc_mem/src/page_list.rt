@@ -2,9 +2,9 @@
 ghost use Rattle.std.specs.Prelude.{◌≡◌, ◌≤◌, ◌+◌, ◌%◌, ◌^◌, IfOk, length, ◌<◌, ◌/◌, Some, None, ◌-◌, false, ◌*◌};
 ghost use Rattle.std.specs.Bool.{OnFalse};
 ghost use Rattle.std.specs.FinMap as finite;
-ghost use Rattle.csa_chain.specs.MemoryBytes.{are_mapped, with_byte, HasBytes, is_mapped as has_byte};
-ghost use Rattle.tc_mem.specs.Areas.{memory_area_of, memory_with_area, area_first_word};
-ghost use Rattle.tc_mem.specs.Blocks.{are_in_block, mapped_block_word, mapped_block_half, with_block_word, with_block_half};
+ghost use Rattle.csa_chain.specs.MemoryBytes.{are_mapped, with_byte, HasOnlyBytes, is_mapped as has_byte};
+ghost use Rattle.tc_mem.specs.Areas.{mapped_area_words, memory_with_area, area_first_word};
+ghost use Rattle.tc_mem.specs.Blocks.{are_mapped_in_block, mapped_block_word, mapped_block_half, with_block_word, with_block_half};
 ghost use Rattle.tc_mem.specs.Pages.{memory_of, AreMemoryPages};
 ghost use Rattle.tc_mem.specs.PlanMemory.{IsMemoryOfZeros};
 ghost use Rattle.tc_mem.specs.Written.{IsMemoryWritten};
@@ -22,7 +22,7 @@ use tcd_base::{NoMemory, Range};
 pub(crate) fn read_memory_byte(pages: &[Page], addr: u32, near: usize) -> Option<u8>
     requires { AreMemoryPages pages.now }
     ensures byte { result ≡ finite.get (memory_of pages.now) addr }
-    ensures bytes { HasBytes (memory_of pages.now) }
+    ensures bytes { HasOnlyBytes (memory_of pages.now) }
 {
     let Some(i) = find_page(pages, addr / 4096, near) else {
         return None;
@@ -49,7 +49,7 @@ pub(crate) fn write_bytes_in_page(pages: &mut [Page], addr: u32, bytes: &[u8])
 pub(crate) fn read_memory_word(pages: &[Page], addr: u32, near: usize) -> Option<u32>
     requires { AreMemoryPages pages.now }
     ensures word { result ≡ mapped_block_word (memory_of pages.now) addr }
-    ensures bytes { HasBytes (memory_of pages.now) }
+    ensures bytes { HasOnlyBytes (memory_of pages.now) }
 {
     if addr % 64 > 60 {
         return None;
@@ -65,7 +65,7 @@ pub(crate) fn read_memory_word(pages: &[Page], addr: u32, near: usize) -> Option
 pub(crate) fn read_memory_half(pages: &[Page], addr: u32, near: usize) -> Option<u16>
     requires { AreMemoryPages pages.now }
     ensures half { result ≡ mapped_block_half (memory_of pages.now) addr }
-    ensures bytes { HasBytes (memory_of pages.now) }
+    ensures bytes { HasOnlyBytes (memory_of pages.now) }
 {
     if addr % 64 > 62 {
         return None;
@@ -83,7 +83,7 @@ pub(crate) fn write_memory_byte(pages: &mut [Page], addr: u32, byte: u8, near: u
     ensures written { memory_of pages.new ≡ with_byte (memory_of pages.old) addr byte }
     ensures kept { OnFalse result (memory_of pages.new ≡ memory_of pages.old) }
     ensures pages { AreMemoryPages pages.new }
-    ensures bytes { HasBytes (memory_of pages.new) }
+    ensures bytes { HasOnlyBytes (memory_of pages.new) }
 {
     let Some(i) = find_page(pages, addr / 4096, near) else {
         return false;
@@ -98,7 +98,7 @@ pub(crate) fn write_memory_bytes(pages: &mut [Page], addr: u32, bytes: &[u8])
     requires fits { addr + length bytes.now ≤ 2 ^ 32 }
     ensures written { IsMemoryWritten (memory_of pages.old) addr bytes.now (memory_of pages.new) }
     ensures pages { AreMemoryPages pages.new }
-    ensures bytes { HasBytes (memory_of pages.new) }
+    ensures bytes { HasOnlyBytes (memory_of pages.new) }
 {
     let mut done = 0;
     while done < bytes.len() {
@@ -113,10 +113,10 @@ pub(crate) fn write_memory_bytes(pages: &mut [Page], addr: u32, bytes: &[u8])
 /// of 64, and returns whether they are.
 pub(crate) fn write_memory_word(pages: &mut [Page], addr: u32, word: u32, near: usize) -> bool
     requires { AreMemoryPages pages.old }
-    ensures mapped { result ≡ are_in_block (memory_of pages.old) addr 4 }
+    ensures mapped { result ≡ are_mapped_in_block (memory_of pages.old) addr 4 }
     ensures written { memory_of pages.new ≡ with_block_word (memory_of pages.old) addr word }
     ensures pages { AreMemoryPages pages.new }
-    ensures bytes { HasBytes (memory_of pages.new) }
+    ensures bytes { HasOnlyBytes (memory_of pages.new) }
 {
     if addr % 64 > 60 {
         return false;
@@ -131,10 +131,10 @@ pub(crate) fn write_memory_word(pages: &mut [Page], addr: u32, word: u32, near: 
 /// block of 64, and returns whether they are.
 pub(crate) fn write_memory_half(pages: &mut [Page], addr: u32, half: u16, near: usize) -> bool
     requires { AreMemoryPages pages.old }
-    ensures mapped { result ≡ are_in_block (memory_of pages.old) addr 2 }
+    ensures mapped { result ≡ are_mapped_in_block (memory_of pages.old) addr 2 }
     ensures written { memory_of pages.new ≡ with_block_half (memory_of pages.old) addr half }
     ensures pages { AreMemoryPages pages.new }
-    ensures bytes { HasBytes (memory_of pages.new) }
+    ensures bytes { HasOnlyBytes (memory_of pages.new) }
 {
     if addr % 64 > 62 {
         return false;
@@ -151,7 +151,7 @@ pub(crate) fn read_area_first_word(pages: &[Page], addr: u32, near: &mut usize) 
     requires pages { AreMemoryPages pages.now }
     requires aligned { addr % 64 ≡ 0 }
     ensures word { result ≡ area_first_word (memory_of pages.now) addr }
-    ensures bytes { HasBytes (memory_of pages.now) }
+    ensures bytes { HasOnlyBytes (memory_of pages.now) }
 {
     let Some(i) = find_page_near(pages, addr / 4096, *near) else {
         return None;
@@ -165,8 +165,8 @@ pub(crate) fn read_area_first_word(pages: &[Page], addr: u32, near: &mut usize) 
 pub(crate) fn read_area(pages: &[Page], addr: u32, near: usize) -> Option<[u32; 16]>
     requires pages { AreMemoryPages pages.now }
     requires aligned { addr % 64 ≡ 0 }
-    ensures words { result ≡ memory_area_of (memory_of pages.now) addr }
-    ensures bytes { HasBytes (memory_of pages.now) }
+    ensures words { result ≡ mapped_area_words (memory_of pages.now) addr }
+    ensures bytes { HasOnlyBytes (memory_of pages.now) }
 {
     let Some(i) = find_page(pages, addr / 4096, near) else {
         return None;
@@ -182,7 +182,7 @@ pub(crate) fn write_area(pages: &mut [Page], addr: u32, words: &[u32; 16], near:
     ensures mapped { result ≡ are_mapped (memory_of pages.old) addr 64 }
     ensures written { memory_of pages.new ≡ memory_with_area (memory_of pages.old) addr words.now }
     ensures pages { AreMemoryPages pages.new }
-    ensures bytes { HasBytes (memory_of pages.new) }
+    ensures bytes { HasOnlyBytes (memory_of pages.new) }
 {
     let Some(i) = find_page(pages, addr / 4096, *near) else {
         return false;
@@ -195,7 +195,7 @@ pub(crate) fn write_area(pages: &mut [Page], addr: u32, words: &[u32; 16], near:
 /// `Mem::of`. Room for all pages is reserved first, so that each is written where it stays.
 pub(crate) fn new_pages(alloc: Global, ranges: &[Range]) -> Result<Vec<Page>, NoMemory>
     ensures pages { IfOk result (λ v. AreMemoryPages v.items) }
-    ensures bytes { IfOk result (λ v. HasBytes (memory_of v.items)) }
+    ensures bytes { IfOk result (λ v. HasOnlyBytes (memory_of v.items)) }
     ensures zeros { IfOk result (λ v. IsMemoryOfZeros ranges.now (memory_of v.items)) }
 {
     let numbers = page_numbers(alloc, ranges)?;

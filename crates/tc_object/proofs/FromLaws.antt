@@ -11,8 +11,8 @@ use Rattle.tcd_base.specs.FieldReaders.{◌>>=◌, u8_at, u16_at, u32_at, field_
 use Rattle.tcd_base.proofs.FieldReads.{bytes_at_ok, bind_ok}
 use Rattle.tc_object.specs.declared.relocs.Reloc.{Reloc}
 use Rattle.tc_object.specs.Names.{IsNewObjectName, is_name_length, is_object_name}
-use Rattle.tc_object.specs.Objects.{SectionData, SymbolData, ObjectData, InTurn, IsSection, IsSymbol, IsReloc, IsObject, is_section_name, is_symbol_name, is_symbol_section, is_symbol_offset, last_reloc, is_after_last_reloc, section_size_at}
-use Rattle.tc_object.specs.Grammar.{is_reloc_section_ordered, checked_object_field, name_length_at, name_bytes_at, new_object_name_at, section_after, section_with, kind_at, symbol_section_at, symbol_offset_at, symbol_after, symbol_with, symbol_named, reloc_section_at, reloc_offset_at, reloc_symbol_at, reloc_after, magic_at, section_count_at, parts_at, object_at, object_of}
+use Rattle.tc_object.specs.Objects.{SectionData, SymbolData, ObjectData, AllInTurn, IsSection, IsSymbol, IsReloc, IsObject, is_section_name, is_symbol_name, is_valid_symbol_section, is_valid_symbol_offset, last_reloc, is_after_last_reloc, section_size_at}
+use Rattle.tc_object.specs.Grammar.{is_reloc_section_ordered, checked_object_field, name_length_at, name_bytes_at, new_object_name_at, new_section_at, section_with_new_name, kind_at, symbol_section_at, symbol_offset_at, new_symbol_at, symbol_with_new_name, symbol_after_name, reloc_section_at, reloc_offset_at, reloc_symbol_at, next_reloc_at, magic_at, section_count_at, object_contents_at, object_at, object_of}
 use Rattle.tc_object.specs.Spelling.{bytes_of_name, bytes_of_section, bytes_of_symbol, bytes_of_reloc, bytes_of_header, bytes_of_object}
 use Rattle.tcd_base.proofs.PassedLaws.{AreBytes, bytes_from, Passed, passed_bytes, passed_both, ok_pair, passed_test, took_passed, byte_passed, half_passed, word_passed, many_passed}
 
@@ -25,7 +25,7 @@ passed_as : {a b front rest : List ℕ} {p q : Place} → a ≡ b → p ≡ q �
 passed_as {a} {b} {front} {rest} {p} {q} e f h = subst (λ (r : Place). Passed b front rest r) f (subst (λ (l : List ℕ). Passed l front rest p) e h)
 
 -- if items have a property in turn, so does the list with the next item
-pub turn_push : {A : Type 0} (good : List A → A → Type 0) (before xs : List A) (x : A) → InTurn good before xs → good (before ++ xs) x → InTurn good before (xs ++ x ∷ [])
+pub turn_push : {A : Type 0} (good : List A → A → Type 0) (before xs : List A) (x : A) → AllInTurn good before xs → good (before ++ xs) x → AllInTurn good before (xs ++ x ∷ [])
 turn_push good before [] x h g = (subst (λ (l : List _). good l x) (append-nil before) g, tt)
 turn_push good before (y ∷ ys) x h g = (h.0, turn_push good (before ++ y ∷ []) ys x h.1 (subst (λ (l : List _). good l x) (sym (append_assoc before (y ∷ []) ys)) g))
 
@@ -98,9 +98,9 @@ section_bytes : (s : SectionData) → bytes_of_name s.name ++ (bytes_of_word (le
 unfolding bytes_of_section
 section_bytes s = refl
 
-section_passed : (before : List SectionData) (front rest : List ℕ) (s : SectionData) (q : Place) → AreBytes rest → InTurn IsSection [] before → section_after before (place_between front rest) ≡ Ok (s, q)
-    → Passed (bytes_of_section s) front rest q × InTurn IsSection [] (before ++ s ∷ [])
-unfolding section_after section_with
+section_passed : (before : List SectionData) (front rest : List ℕ) (s : SectionData) (q : Place) → AreBytes rest → AllInTurn IsSection [] before → new_section_at before (place_between front rest) ≡ Ok (s, q)
+    → Passed (bytes_of_section s) front rest q × AllInTurn IsSection [] (before ++ s ∷ [])
+unfolding new_section_at section_with_new_name
 section_passed before front rest s q bytes good e =
     let name = bind_ok (new_object_name_at (is_section_name before) (place_between front rest)) _ _ e in
     let h1 = name_passed (is_section_name before) front rest name.0.0 name.0.1 bytes name.1 in
@@ -128,9 +128,9 @@ symbol_bytes : (s : SymbolData) → bytes_of_name s.name ++ (s.kind ∷ bytes_of
 unfolding bytes_of_symbol
 symbol_bytes s = refl
 
-symbol_passed : (sections : List SectionData) (before : List SymbolData) (front rest : List ℕ) (s : SymbolData) (q : Place) → AreBytes rest → InTurn (IsSymbol sections) [] before → symbol_after sections before (place_between front rest) ≡ Ok (s, q)
-    → Passed (bytes_of_symbol s) front rest q × InTurn (IsSymbol sections) [] (before ++ s ∷ [])
-unfolding symbol_after symbol_with symbol_named symbol_section_at symbol_offset_at
+symbol_passed : (sections : List SectionData) (before : List SymbolData) (front rest : List ℕ) (s : SymbolData) (q : Place) → AreBytes rest → AllInTurn (IsSymbol sections) [] before → new_symbol_at sections before (place_between front rest) ≡ Ok (s, q)
+    → Passed (bytes_of_symbol s) front rest q × AllInTurn (IsSymbol sections) [] (before ++ s ∷ [])
+unfolding new_symbol_at symbol_with_new_name symbol_after_name symbol_section_at symbol_offset_at
 symbol_passed sections before front rest s q bytes good e =
     let name = bind_ok (new_object_name_at (is_symbol_name before) (place_between front rest)) _ _ e in
     let h1 = name_passed (is_symbol_name before) front rest name.0.0 name.0.1 bytes name.1 in
@@ -139,10 +139,10 @@ symbol_passed sections before front rest s q bytes good e =
     let h2 = kind_passed 0 2 _ h1.0.after kind.0.0 kind.0.1 b1 (next (kind_at 0 2) _ h1.0 kind.1) in
     let b2 = passed_bytes h2.0 b1 in
     let section = bind_ok (symbol_section_at sections kind.0.0 kind.0.1) _ _ kind.2 in
-    let h3 = tested_half 4 (is_symbol_section sections kind.0.0) _ h2.0.after section.0.0 section.0.1 b2 (next (symbol_section_at sections kind.0.0) _ h2.0 section.1) in
+    let h3 = tested_half 4 (is_valid_symbol_section sections kind.0.0) _ h2.0.after section.0.0 section.0.1 b2 (next (symbol_section_at sections kind.0.0) _ h2.0 section.1) in
     let b3 = passed_bytes h3.0 b2 in
     let offset = bind_ok (symbol_offset_at sections kind.0.0 section.0.0 section.0.1) _ _ section.2 in
-    let h4 = tested_word 4 (is_symbol_offset sections kind.0.0 section.0.0) _ h3.0.after offset.0.0 offset.0.1 b3 (next (symbol_offset_at sections kind.0.0 section.0.0) _ h3.0 offset.1) in
+    let h4 = tested_word 4 (is_valid_symbol_offset sections kind.0.0 section.0.0) _ h3.0.after offset.0.0 offset.0.1 b3 (next (symbol_offset_at sections kind.0.0 section.0.0) _ h3.0 offset.1) in
     let made : SymbolData = record { name = name.0.0; kind = kind.0.0; section = section.0.0; offset = offset.0.0 } in
     let f = ok_pair made s offset.0.1 q offset.2 in (
       passed_as (symbol_bytes made ∙ ap bytes_of_symbol f.0) f.1 (passed_both h1.0 (passed_both h2.0 (passed_both h3.0 h4.0))),
@@ -179,9 +179,9 @@ reloc_offset_passed sections before section start front rest x q bytes e =
       leb-true _ _ (subst (λ (v : ℕ × Place). leb (v.0 + 4) (section_size_at sections section) ≡ true) t2.1 t2.0),
     )
 
-reloc_passed : (sections : List SectionData) (symbols : ℕ) (before : List Reloc) (front rest : List ℕ) (r : Reloc) (q : Place) → AreBytes rest → InTurn (IsReloc sections symbols) [] before → reloc_after sections symbols before (place_between front rest) ≡ Ok (r, q)
-    → Passed (bytes_of_reloc r) front rest q × InTurn (IsReloc sections symbols) [] (before ++ r ∷ [])
-unfolding reloc_after reloc_symbol_at
+reloc_passed : (sections : List SectionData) (symbols : ℕ) (before : List Reloc) (front rest : List ℕ) (r : Reloc) (q : Place) → AreBytes rest → AllInTurn (IsReloc sections symbols) [] before → next_reloc_at sections symbols before (place_between front rest) ≡ Ok (r, q)
+    → Passed (bytes_of_reloc r) front rest q × AllInTurn (IsReloc sections symbols) [] (before ++ r ∷ [])
+unfolding next_reloc_at reloc_symbol_at
 reloc_passed sections symbols before front rest r q bytes good e =
     let section = bind_ok (reloc_section_at sections before (place_between front rest)) _ _ e in
     let h1 = reloc_section_passed sections before front rest section.0.0 section.0.1 bytes section.1 in
@@ -219,22 +219,22 @@ record ArePartsOf (o : ObjectData) (n m k : ℕ) (front rest : List ℕ) (q : Pl
   pub sections_n : n ≡ length o.sections
   pub symbols_n : m ≡ length o.symbols
   pub relocs_n : k ≡ length o.relocs
-  pub sections : InTurn IsSection [] o.sections
-  pub symbols : InTurn (IsSymbol o.sections) [] o.symbols
-  pub relocs : InTurn (IsReloc o.sections m) [] o.relocs
+  pub sections : AllInTurn IsSection [] o.sections
+  pub symbols : AllInTurn (IsSymbol o.sections) [] o.symbols
+  pub relocs : AllInTurn (IsReloc o.sections m) [] o.relocs
   pub passed : Passed (flat_map bytes_of_section o.sections ++ (flat_map bytes_of_symbol o.symbols ++ flat_map bytes_of_reloc o.relocs)) front rest q
 
-parts_passed : (n m k : ℕ) (front rest : List ℕ) (o : ObjectData) (q : Place) → AreBytes rest → parts_at n m k (place_between front rest) ≡ Ok (o, q) → ArePartsOf o n m k front rest q
-unfolding parts_at
+parts_passed : (n m k : ℕ) (front rest : List ℕ) (o : ObjectData) (q : Place) → AreBytes rest → object_contents_at n m k (place_between front rest) ≡ Ok (o, q) → ArePartsOf o n m k front rest q
+unfolding object_contents_at
 parts_passed n m k front rest o q bytes e =
-    let sections = bind_ok (many_fields_at section_after n [] (place_between front rest)) _ _ e in
-    let h1 = all_passed section_after bytes_of_section (InTurn IsSection []) section_passed n sections.0.0 front rest sections.0.1 bytes tt sections.1 in
+    let sections = bind_ok (many_fields_at new_section_at n [] (place_between front rest)) _ _ e in
+    let h1 = all_passed new_section_at bytes_of_section (AllInTurn IsSection []) section_passed n sections.0.0 front rest sections.0.1 bytes tt sections.1 in
     let b1 = passed_bytes h1.0 bytes in
-    let symbols = bind_ok (many_fields_at (symbol_after sections.0.0) m [] sections.0.1) _ _ sections.2 in
-    let h2 = all_passed (symbol_after sections.0.0) bytes_of_symbol (InTurn (IsSymbol sections.0.0) []) (symbol_passed sections.0.0) m symbols.0.0 _ h1.0.after symbols.0.1 b1 tt (next (many_fields_at (symbol_after sections.0.0) m []) _ h1.0 symbols.1) in
+    let symbols = bind_ok (many_fields_at (new_symbol_at sections.0.0) m [] sections.0.1) _ _ sections.2 in
+    let h2 = all_passed (new_symbol_at sections.0.0) bytes_of_symbol (AllInTurn (IsSymbol sections.0.0) []) (symbol_passed sections.0.0) m symbols.0.0 _ h1.0.after symbols.0.1 b1 tt (next (many_fields_at (new_symbol_at sections.0.0) m []) _ h1.0 symbols.1) in
     let b2 = passed_bytes h2.0 b1 in
-    let relocs = bind_ok (many_fields_at (reloc_after sections.0.0 m) k [] symbols.0.1) _ _ symbols.2 in
-    let h3 = all_passed (reloc_after sections.0.0 m) bytes_of_reloc (InTurn (IsReloc sections.0.0 m) []) (reloc_passed sections.0.0 m) k relocs.0.0 _ h2.0.after relocs.0.1 b2 tt (next (many_fields_at (reloc_after sections.0.0 m) k []) _ h2.0 relocs.1) in
+    let relocs = bind_ok (many_fields_at (next_reloc_at sections.0.0 m) k [] symbols.0.1) _ _ symbols.2 in
+    let h3 = all_passed (next_reloc_at sections.0.0 m) bytes_of_reloc (AllInTurn (IsReloc sections.0.0 m) []) (reloc_passed sections.0.0 m) k relocs.0.0 _ h2.0.after relocs.0.1 b2 tt (next (many_fields_at (next_reloc_at sections.0.0 m) k []) _ h2.0 relocs.1) in
     let made : ObjectData = record { sections = sections.0.0; symbols = symbols.0.0; relocs = relocs.0.0 } in
     let f = ok_pair made o relocs.0.1 q relocs.2 in
     subst (λ (r : Place). ArePartsOf o n m k front rest r) f.1 (subst (λ (x : ObjectData). ArePartsOf x n m k front rest relocs.0.1) f.0 (record {
@@ -267,7 +267,7 @@ object_passed front rest o q bytes e =
     let b3 = passed_bytes h3.0 b2 in
     let k = bind_ok (u16_at m.0.1) _ _ m.2 in
     let h4 = half_passed _ h3.0.after k.0.0 k.0.1 b3 (next u16_at _ h3.0 k.1) in
-    let h5 = parts_passed n.0.0 m.0.0 k.0.0 _ h4.0.after o q (passed_bytes h4.0 b3) (next (parts_at n.0.0 m.0.0 k.0.0) _ h4.0 k.2) in
+    let h5 = parts_passed n.0.0 m.0.0 k.0.0 _ h4.0.after o q (passed_bytes h4.0 b3) (next (object_contents_at n.0.0 m.0.0 k.0.0) _ h4.0 k.2) in
     let few : n.0.0 ≤ 64 = leb-true _ _ h2.2 in (
       passed_as (header_bytes o _ _ _ _ _ refl (eqb-true _ _ h1.2) h5.sections_n h5.symbols_n h5.relocs_n) refl (passed_both h1.0 (passed_both h2.0 (passed_both h3.0 (passed_both h4.0 h5.passed)))),
       record {
@@ -276,7 +276,7 @@ object_passed front rest o q bytes e =
         few_relocs = subst (λ i. i < 2 ^ 16) h5.relocs_n h4.1;
         sections = h5.sections;
         symbols = h5.symbols;
-        relocs = subst (λ i. InTurn (IsReloc o.sections i) [] o.relocs) h5.symbols_n h5.relocs;
+        relocs = subst (λ i. AllInTurn (IsReloc o.sections i) [] o.relocs) h5.symbols_n h5.relocs;
       },
     )
 

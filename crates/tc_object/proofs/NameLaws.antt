@@ -8,11 +8,11 @@ use Rattle.std.proofs.lemmas.Bool.{and_parts, cases_lt}
 use Rattle.std.proofs.lemmas.List.{get_or_past}
 use Rattle.std.proofs.lemmas.Bool.Decides.{nat_tests}
 use Rattle.std.proofs.lemmas.List.Sums.{AllPass-from_list_all}
-use Rattle.tcd_base.specs.NameBytes.{is_name_byte, is_name_first}
+use Rattle.tcd_base.specs.NameBytes.{is_name_byte, is_name_start}
 use Rattle.tc_object.specs.Names.{is_object_name}
 
 further_ascii : (c : ℕ) → is_name_byte c ≡ true → c < 128
-unfolding is_name_byte is_name_first
+unfolding is_name_byte is_name_start
 further_ascii c h = grind (arith, nat_tests)
 
 pub name_utf8 : (bs : List ℕ) → is_object_name bs ≡ true → IsUtf8 bs

@@ -8,8 +8,8 @@ use Rattle.tcd_base.specs.Bytes.{half_in_bytes, word_in_bytes}
 use Rattle.tcd_base.specs.Place.{Place}
 use Rattle.tcd_base.specs.FieldReaders.{◌>>=◌, u8_at, u16_at, u32_at}
 use Rattle.tc_object.specs.declared.relocs.Reloc.{Reloc}
-use Rattle.tc_object.specs.Objects.{SectionData, SymbolData, is_symbol_section, is_symbol_offset, last_reloc, is_after_last_reloc, section_size_at}
-use Rattle.tc_object.specs.Grammar.{is_reloc_section_ordered, checked_object_field, kind_at, symbol_section_at, symbol_offset_at, symbol_named, reloc_section_at, reloc_offset_at, reloc_symbol_at, reloc_after}
+use Rattle.tc_object.specs.Objects.{SectionData, SymbolData, is_valid_symbol_section, is_valid_symbol_offset, last_reloc, is_after_last_reloc, section_size_at}
+use Rattle.tc_object.specs.Grammar.{is_reloc_section_ordered, checked_object_field, kind_at, symbol_section_at, symbol_offset_at, symbol_after_name, reloc_section_at, reloc_offset_at, reloc_symbol_at, next_reloc_at}
 use Rattle.tc_object.specs.Faults.{object_field_fault, reloc_fault, symbol_fault}
 use Rattle.tcd_base.proofs.FieldReads.{chosen}
 use Rattle.tc_object.proofs.BackLaws.{then_ok}
@@ -91,9 +91,9 @@ symbol_then symbols p n x f next y h k = rw h (one_test (nat_lt x symbols) 4 p (
 
 -- a relocation whose bytes are there
 pub whole_reloc : (sections : List SectionData) (symbols : ℕ) (before : List Reloc) (p : Place) → p.place + 13 ≤ length p.bytes
-    → reloc_after sections symbols before p
+    → next_reloc_at sections symbols before p
     ≡ told (reloc_fault sections symbols before (reloc_in (take 13 (drop p.place p.bytes))) p.place) (reloc_in (take 13 (drop p.place p.bytes)), further p (p.place + 13))
-unfolding reloc_after reloc_fault
+unfolding next_reloc_at reloc_fault
 whole_reloc sections symbols before p h =
     let r : Reloc = reloc_in (take 13 (drop p.place p.bytes)) in
     let e0 = half_here p (p.place + 2) r.section (omega arith) refl (half_in p.bytes p.place 13 0 p.place (omega arith) (omega arith)) in
@@ -112,20 +112,20 @@ abbrev pub symbol_in : List ℕ → List ℕ → SymbolData
 symbol_in name bytes = record { name = name; kind = get_or bytes 0 0; section = half_in_bytes bytes 1; offset = word_in_bytes bytes 3 }
 
 place_then : {B : Type 0} (sections : List SectionData) (kind : ℕ) (p : Place) (n x : ℕ) (f : ℕ × Place → Result B FormErr) (next : Option FormErr) (y : B) → u16_at p ≡ Ok (x, further p n) → f (x, further p n) ≡ told next y
-    → (symbol_section_at sections kind p >>= f) ≡ told (object_field_fault (is_symbol_section sections kind x) 4 p.place next) y
+    → (symbol_section_at sections kind p >>= f) ≡ told (object_field_fault (is_valid_symbol_section sections kind x) 4 p.place next) y
 unfolding symbol_section_at
-place_then sections kind p n x f next y h k = rw h (one_test (is_symbol_section sections kind x) 4 p (x, further p n) f next y k)
+place_then sections kind p n x f next y h k = rw h (one_test (is_valid_symbol_section sections kind x) 4 p (x, further p n) f next y k)
 
 end_then : {B : Type 0} (sections : List SectionData) (kind section : ℕ) (p : Place) (n x : ℕ) (f : ℕ × Place → Result B FormErr) (next : Option FormErr) (y : B) → u32_at p ≡ Ok (x, further p n) → f (x, further p n) ≡ told next y
-    → (symbol_offset_at sections kind section p >>= f) ≡ told (object_field_fault (is_symbol_offset sections kind section x) 4 p.place next) y
+    → (symbol_offset_at sections kind section p >>= f) ≡ told (object_field_fault (is_valid_symbol_offset sections kind section x) 4 p.place next) y
 unfolding symbol_offset_at
-end_then sections kind section p n x f next y h k = rw h (one_test (is_symbol_offset sections kind section x) 4 p (x, further p n) f next y k)
+end_then sections kind section p n x f next y h k = rw h (one_test (is_valid_symbol_offset sections kind section x) 4 p (x, further p n) f next y k)
 
 -- a symbol whose bytes after the name are all there
 pub whole_symbol : (sections : List SectionData) (name : List ℕ) (p : Place) → p.place + 7 ≤ length p.bytes
-    → symbol_named sections name p
+    → symbol_after_name sections name p
     ≡ told (symbol_fault sections (symbol_in name (take 7 (drop p.place p.bytes))) p.place) (symbol_in name (take 7 (drop p.place p.bytes)), further p (p.place + 7))
-unfolding symbol_named symbol_fault
+unfolding symbol_after_name symbol_fault
 whole_symbol sections name p h =
     let s : SymbolData = symbol_in name (take 7 (drop p.place p.bytes)) in
     let e0 = byte_here p (p.place + 1) s.kind (omega arith) refl (byte_in p.bytes p.place 7 0 p.place (omega arith) (omega arith)) in

@@ -2,7 +2,7 @@
 use Rattle.std.specs.Prelude.{◌+◌, ◌&&◌, nat_lt, nat_le, if◌then◌else◌, ℕ, Bool, List, length, Option, Some, None, ◌≡◌, Result, Err}
 use Rattle.tcd_base.specs.declared.errors.FormErr.{FormErr}
 use Rattle.tc_object.specs.declared.relocs.Reloc.{Reloc}
-use Rattle.tc_object.specs.Objects.{SectionData, SymbolData, is_symbol_section, is_symbol_offset, last_reloc, is_after_last_reloc, section_size_at}
+use Rattle.tc_object.specs.Objects.{SectionData, SymbolData, is_valid_symbol_section, is_valid_symbol_offset, last_reloc, is_after_last_reloc, section_size_at}
 use Rattle.tc_object.specs.Grammar.{is_reloc_section_ordered}
 use Rattle.tc_object.specs.declared.errors.ObjErr.{ObjErr}
 use Rattle.tc_object.specs.declared.errors.ObjErr.TheVariants.{Bad, NoMemory}
@@ -27,8 +27,8 @@ reloc_fault sections symbols before r start =
 unfoldable pub symbol_fault : List SectionData → SymbolData → ℕ → Option FormErr
 symbol_fault sections s start =
     object_field_fault (nat_le 0 s.kind && nat_le s.kind 2) 4 start
-    (object_field_fault (is_symbol_section sections s.kind s.section) 4 (start + 1)
-    (object_field_fault (is_symbol_offset sections s.kind s.section s.offset) 4 (start + 3) None))
+    (object_field_fault (is_valid_symbol_section sections s.kind s.section) 4 (start + 1)
+    (object_field_fault (is_valid_symbol_offset sections s.kind s.section s.offset) 4 (start + 3) None))
 
 -- the error is the first fault of the reading; out of memory says nothing of the file
 abbrev pub IsFaultOf : {A : Type 0} → Result A FormErr → ObjErr → Type 0

@@ -6,7 +6,7 @@ use Rattle.tcd_base.specs.Place.{Place}
 use Rattle.tcd_base.specs.FieldReaders.{◌>>=◌, u8_at, u16_at, u32_at, field_bytes_at, many_fields_at, field_fault_at}
 use Rattle.tc_object.specs.declared.relocs.Reloc.{Reloc}
 use Rattle.tc_object.specs.Names.{is_name_length, is_object_name}
-use Rattle.tc_object.specs.Objects.{SectionData, SymbolData, ObjectData, is_section_name, is_symbol_name, section_size_at, is_symbol_section, is_symbol_offset, last_reloc, is_after_last_reloc}
+use Rattle.tc_object.specs.Objects.{SectionData, SymbolData, ObjectData, is_section_name, is_symbol_name, section_size_at, is_valid_symbol_section, is_valid_symbol_offset, last_reloc, is_after_last_reloc}
 
 -- ---- fields
 -- the value if the test holds, else the fault of this kind at this place
@@ -30,13 +30,13 @@ new_object_name_at is_used p = name_length_at p >>= λ n. name_bytes_at n.0 n.1 
 -- ---- sections
 -- a section read at this place of an object file, with a name that isn't used yet: name, length,
 -- and bytes
-unfoldable pub section_with : (List ℕ → Bool) → Place → Result (SectionData × Place) FormErr
-section_with is_used p =
+unfoldable pub section_with_new_name : (List ℕ → Bool) → Place → Result (SectionData × Place) FormErr
+section_with_new_name is_used p =
     new_object_name_at is_used p >>= λ name. u32_at name.1 >>= λ len. field_bytes_at len.0 len.1 >>= λ bytes. Ok (record { name = name.0; bytes = bytes.0 }, bytes.1)
 
 -- a section read at this place of an object file, with a name that none of these sections has
-unfoldable pub section_after : List SectionData → Place → Result (SectionData × Place) FormErr
-section_after before p = section_with (is_section_name before) p
+unfoldable pub new_section_at : List SectionData → Place → Result (SectionData × Place) FormErr
+new_section_at before p = section_with_new_name (is_section_name before) p
 
 -- ---- symbols
 -- the kind of a symbol or of a relocation, from low to high, read at this place of an object file
@@ -45,26 +45,26 @@ kind_at low high p = u8_at p >>= λ k. checked_object_field 4 (nat_le low k.0 &&
 
 -- a symbol's section: 0 if it is undefined, else the number of a section of the object
 unfoldable pub symbol_section_at : List SectionData → ℕ → Place → Result (ℕ × Place) FormErr
-symbol_section_at sections kind p = u16_at p >>= λ s. checked_object_field 4 (is_symbol_section sections kind s.0) p s
+symbol_section_at sections kind p = u16_at p >>= λ s. checked_object_field 4 (is_valid_symbol_section sections kind s.0) p s
 
 -- a symbol's offset: 0 if it is undefined, else within its section or at its end
 unfoldable pub symbol_offset_at : List SectionData → ℕ → ℕ → Place → Result (ℕ × Place) FormErr
-symbol_offset_at sections kind section p = u32_at p >>= λ o. checked_object_field 4 (is_symbol_offset sections kind section o.0) p o
+symbol_offset_at sections kind section p = u32_at p >>= λ o. checked_object_field 4 (is_valid_symbol_offset sections kind section o.0) p o
 
 -- a symbol of this name: its kind, section and offset
-unfoldable pub symbol_named : List SectionData → List ℕ → Place → Result (SymbolData × Place) FormErr
-symbol_named sections name p =
+unfoldable pub symbol_after_name : List SectionData → List ℕ → Place → Result (SymbolData × Place) FormErr
+symbol_after_name sections name p =
     kind_at 0 2 p >>= λ kind. symbol_section_at sections kind.0 kind.1 >>= λ section.
     symbol_offset_at sections kind.0 section.0 section.1 >>= λ offset.
     Ok (record { name = name; kind = kind.0; section = section.0; offset = offset.0 }, offset.1)
 
 -- a symbol with a name that isn't used yet
-unfoldable pub symbol_with : List SectionData → (List ℕ → Bool) → Place → Result (SymbolData × Place) FormErr
-symbol_with sections is_used p = new_object_name_at is_used p >>= λ name. symbol_named sections name.0 name.1
+unfoldable pub symbol_with_new_name : List SectionData → (List ℕ → Bool) → Place → Result (SymbolData × Place) FormErr
+symbol_with_new_name sections is_used p = new_object_name_at is_used p >>= λ name. symbol_after_name sections name.0 name.1
 
 -- a symbol after these, with a name that none of them has
-unfoldable pub symbol_after : List SectionData → List SymbolData → Place → Result (SymbolData × Place) FormErr
-symbol_after sections before p = symbol_with sections (is_symbol_name before) p
+unfoldable pub new_symbol_at : List SectionData → List SymbolData → Place → Result (SymbolData × Place) FormErr
+new_symbol_at sections before p = symbol_with_new_name sections (is_symbol_name before) p
 
 -- in the grammar of relocations: the number of the section that is read isn't below that of the
 -- last relocation, if there is one
@@ -88,8 +88,8 @@ unfoldable pub reloc_symbol_at : ℕ → Place → Result (ℕ × Place) FormErr
 reloc_symbol_at symbols p = u16_at p >>= λ s. checked_object_field 4 (nat_lt s.0 symbols) p s
 
 -- a relocation after these: section, offset, kind, symbol and addend
-unfoldable pub reloc_after : List SectionData → ℕ → List Reloc → Place → Result (Reloc × Place) FormErr
-reloc_after sections symbols before p =
+unfoldable pub next_reloc_at : List SectionData → ℕ → List Reloc → Place → Result (Reloc × Place) FormErr
+next_reloc_at sections symbols before p =
     reloc_section_at sections before p >>= λ section. reloc_offset_at sections before section.0 p section.1 >>= λ offset. kind_at 1 7 offset.1 >>= λ kind.
     reloc_symbol_at symbols kind.1 >>= λ symbol. u32_at symbol.1 >>= λ addend.
     Ok (record { section = section.0; offset = offset.0; kind = kind.0; symbol = symbol.0; addend = addend.0 }, addend.1)
@@ -104,15 +104,15 @@ unfoldable pub section_count_at : Place → Result (ℕ × Place) FormErr
 section_count_at p = u16_at p >>= λ n. checked_object_field 5 (nat_le n.0 64) p n
 
 -- n sections, m symbols and k relocations, read one after another from this place of an object file
-unfoldable pub parts_at : ℕ → ℕ → ℕ → Place → Result (ObjectData × Place) FormErr
-parts_at n m k p =
-    many_fields_at section_after n [] p >>= λ sections. many_fields_at (symbol_after sections.0) m [] sections.1 >>= λ symbols. many_fields_at (reloc_after sections.0 m) k [] symbols.1 >>= λ relocs.
+unfoldable pub object_contents_at : ℕ → ℕ → ℕ → Place → Result (ObjectData × Place) FormErr
+object_contents_at n m k p =
+    many_fields_at new_section_at n [] p >>= λ sections. many_fields_at (new_symbol_at sections.0) m [] sections.1 >>= λ symbols. many_fields_at (next_reloc_at sections.0 m) k [] symbols.1 >>= λ relocs.
     Ok (record { sections = sections.0; symbols = symbols.0; relocs = relocs.0 }, relocs.1)
 
 -- an object: the magic bytes, the numbers of sections, symbols and relocations, and all of them
 unfoldable pub object_at : Place → Result (ObjectData × Place) FormErr
 object_at p =
-    magic_at p >>= λ magic. section_count_at magic.1 >>= λ n. u16_at n.1 >>= λ m. u16_at m.1 >>= λ k. parts_at n.0 m.0 k.0 k.1
+    magic_at p >>= λ magic. section_count_at magic.1 >>= λ n. u16_at n.1 >>= λ m. u16_at m.1 >>= λ k. object_contents_at n.0 m.0 k.0 k.1
 
 -- the object that the bytes spell, or their first fault
 unfoldable pub object_of : List ℕ → Result ObjectData FormErr

@@ -2,11 +2,11 @@
 use Rattle.std.specs.Prelude.{◌≡◌, ◌≤◌, ◌==◌, ◌&&◌, not, nat_le, ℕ, Bool, true, false, List, length, slice_index, Option}
 use Rattle.std.specs.List.{list_all}
 use Rattle.std.specs.Bool.{then_some}
-use Rattle.tcd_base.specs.NameBytes.{is_name_byte, is_name_first}
+use Rattle.tcd_base.specs.NameBytes.{is_name_byte, is_name_start}
 
 -- the bytes may stand in a name, and the first is no digit
 abbrev pub is_object_name : List ℕ → Bool
-is_object_name bs = not (length bs == 0) && (is_name_first (slice_index bs 0) && list_all is_name_byte bs)
+is_object_name bs = not (length bs == 0) && (is_name_start (slice_index bs 0) && list_all is_name_byte bs)
 
 -- this is a number of bytes that the name of an object's section or symbol may have: 1 to 64
 abbrev pub is_name_length : ℕ → Bool

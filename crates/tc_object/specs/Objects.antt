@@ -45,9 +45,9 @@ is_symbol_name ss name = list_any (λ s. bytes_eq name s.name) ss
 
 -- each item has the property, given the items before it: how an object's sections, symbols and
 -- relocations are valid
-abbrev pub InTurn : {A : Type 0} → (List A → A → Type 0) → List A → List A → Type 0
-InTurn good before [] = Unit {0}
-InTurn good before (x ∷ xs) = good before x × InTurn good (before ++ x ∷ []) xs
+abbrev pub AllInTurn : {A : Type 0} → (List A → A → Type 0) → List A → List A → Type 0
+AllInTurn good before [] = Unit {0}
+AllInTurn good before (x ∷ xs) = good before x × AllInTurn good (before ++ x ∷ []) xs
 
 -- ---- sections
 -- a section whose name no earlier section has, and whose length fits 32 bits
@@ -67,21 +67,21 @@ section_size_at ss n = section_size (slice_get ss n)
 -- ---- symbols
 -- in a valid object: the section of an undefined symbol is 0, that of a defined symbol is one of
 -- the object's
-abbrev pub is_symbol_section : List SectionData → ℕ → ℕ → Bool
-is_symbol_section ss kind section = if kind == undefined_symbol then section == 0 else nat_lt section (length ss)
+abbrev pub is_valid_symbol_section : List SectionData → ℕ → ℕ → Bool
+is_valid_symbol_section ss kind section = if kind == undefined_symbol then section == 0 else nat_lt section (length ss)
 
 -- in a valid object: the offset of an undefined symbol is 0, that of a defined symbol is at most
 -- its section's length
-abbrev pub is_symbol_offset : List SectionData → ℕ → ℕ → ℕ → Bool
-is_symbol_offset ss kind section offset = if kind == undefined_symbol then offset == 0 else nat_le offset (section_size_at ss section)
+abbrev pub is_valid_symbol_offset : List SectionData → ℕ → ℕ → ℕ → Bool
+is_valid_symbol_offset ss kind section offset = if kind == undefined_symbol then offset == 0 else nat_le offset (section_size_at ss section)
 
 -- a symbol of a known kind, with a name that no earlier symbol has; a defined one has a section and
 -- an offset in it
 pub record IsSymbol (sections : List SectionData) (before : List SymbolData) (s : SymbolData) : Type 0 where
   pub name : IsNewObjectName (is_symbol_name before) s.name
   pub kind : s.kind ≤ global_symbol
-  pub section : is_symbol_section sections s.kind s.section ≡ true
-  pub offset : is_symbol_offset sections s.kind s.section s.offset ≡ true
+  pub section : is_valid_symbol_section sections s.kind s.section ≡ true
+  pub offset : is_valid_symbol_offset sections s.kind s.section s.offset ≡ true
   pub half : s.section < 2 ^ 16
   pub word : s.offset < 2 ^ 32
 
@@ -115,6 +115,6 @@ pub record IsObject (o : ObjectData) : Type 0 where
   pub few_sections : length o.sections ≤ 64
   pub few_symbols : length o.symbols < 2 ^ 16
   pub few_relocs : length o.relocs < 2 ^ 16
-  pub sections : InTurn IsSection [] o.sections
-  pub symbols : InTurn (IsSymbol o.sections) [] o.symbols
-  pub relocs : InTurn (IsReloc o.sections (length o.symbols)) [] o.relocs
+  pub sections : AllInTurn IsSection [] o.sections
+  pub symbols : AllInTurn (IsSymbol o.sections) [] o.symbols
+  pub relocs : AllInTurn (IsReloc o.sections (length o.symbols)) [] o.relocs

@@ -4,7 +4,7 @@ ghost use Rattle.tcd_base.specs.Bytes.{half_in_bytes, word_in_bytes};
 ghost use Rattle.tcd_base.specs.FieldReaders.{ReadsField, many_fields_at};
 ghost use Rattle.tc_object.specs.Faults.{IsFaultOf, reloc_fault};
 ghost use Rattle.tc_object.specs.Objects.{section_size_at, last_reloc, is_after_last_reloc};
-ghost use Rattle.tc_object.specs.Grammar.{is_reloc_section_ordered, reloc_section_at, reloc_offset_at, reloc_symbol_at, reloc_after};
+ghost use Rattle.tc_object.specs.Grammar.{is_reloc_section_ordered, reloc_section_at, reloc_offset_at, reloc_symbol_at, next_reloc_at};
 
 use crate::fields::{is_kind_between, read_kind};
 use crate::section_reader::section_size_at;
@@ -32,10 +32,10 @@ pub(crate) fn read_relocs(
     count: u16,
 ) -> Result<Vec<Reloc>, ObjErr>
     ensures ok { IfOk result
-        (λ rs. many_fields_at (reloc_after sections.now symbols) count [] c.old
+        (λ rs. many_fields_at (next_reloc_at sections.now symbols) count [] c.old
         ≡ Ok (rs.items, c.new)) }
     ensures err { IfErr result
-        (IsFaultOf (many_fields_at (reloc_after sections.now symbols) count [] c.old)) }
+        (IsFaultOf (many_fields_at (next_reloc_at sections.now symbols) count [] c.old)) }
 {
     let mut relocs = Vec::with_capacity(alloc, count as usize)?;
     for _i in 0..count {
@@ -52,7 +52,7 @@ fn read_reloc(
     symbols: u16,
     before: &[Reloc],
 ) -> Result<Reloc, FormErr>
-    ensures { ReadsField result c.old c.new (reloc_after sections.now symbols before.now) }
+    ensures { ReadsField result c.old c.new (next_reloc_at sections.now symbols before.now) }
 {
     let start = c.place();
     let Some(bytes) = c.take(RELOC_BYTES) else {
@@ -66,14 +66,14 @@ fn read_reloc(
 /// Reads the relocation after these field by field. `read_reloc` calls it if the file ends within
 /// the relocation, so that the fault is at the first field that is cut off.
 #[inline(never)]
-#[tactic(auto, unfolding(crate::specs::Grammar::reloc_after))]
+#[tactic(auto, unfolding(crate::specs::Grammar::next_reloc_at))]
 fn read_reloc_fields(
     c: &mut FileCursor<'_>,
     sections: &[SectionRef<'_>],
     symbols: u16,
     before: &[Reloc],
 ) -> Result<Reloc, FormErr>
-    ensures { ReadsField result c.old c.new (reloc_after sections.now symbols before.now) }
+    ensures { ReadsField result c.old c.new (next_reloc_at sections.now symbols before.now) }
 {
     let start = c.place();
     let section = read_reloc_section(c, sections, before)?;

@@ -3,7 +3,7 @@ ghost use Rattle.std.specs.Prelude.{◌≡◌, [], Ok, Err, IfOk, IfErr, MatchRe
 ghost use Rattle.tc_object.specs.Faults.{IsFaultOf};
 ghost use Rattle.tcd_base.specs.FieldReaders.{ReadsField, many_fields_at};
 ghost use Rattle.tc_object.specs.Objects.{is_section_name, section_size_at};
-ghost use Rattle.tc_object.specs.Grammar.{new_object_name_at, section_after, section_count_at};
+ghost use Rattle.tc_object.specs.Grammar.{new_object_name_at, new_section_at, section_count_at};
 
 use crate::fields::MOST_SECTIONS;
 use crate::names::{read_name_bytes, read_name_length};
@@ -20,9 +20,9 @@ pub(crate) fn read_sections<'a>(
     c: &mut FileCursor<'a>,
     count: u16,
 ) -> Result<Vec<SectionRef<'a>>, ObjErr>
-    ensures ok { IfOk result (λ ss. many_fields_at section_after count [] c.old
+    ensures ok { IfOk result (λ ss. many_fields_at new_section_at count [] c.old
         ≡ Ok (ss.items, c.new)) }
-    ensures err { IfErr result (IsFaultOf (many_fields_at section_after count [] c.old)) }
+    ensures err { IfErr result (IsFaultOf (many_fields_at new_section_at count [] c.old)) }
 {
     let mut sections = Vec::with_capacity(alloc, count as usize)?;
     for _i in 0..count {
@@ -57,12 +57,12 @@ pub(crate) fn section_size_at(sections: &[SectionRef<'_>], number: u16) -> usize
 }
 
 /// Reads the next section of an object file, with a name that none of these sections has.
-#[tactic(auto, unfolding(crate::specs::Grammar::section_after, crate::specs::Grammar::section_with))]
+#[tactic(auto, unfolding(crate::specs::Grammar::new_section_at, crate::specs::Grammar::section_with_new_name))]
 fn read_section<'a>(
     c: &mut FileCursor<'a>,
     before: &[SectionRef<'_>],
 ) -> Result<SectionRef<'a>, FormErr>
-    ensures { ReadsField result c.old c.new (section_after before.now) }
+    ensures { ReadsField result c.old c.new (new_section_at before.now) }
 {
     let name = read_section_name(c, before)?;
     let size = read_u32(c)?;

@@ -4,8 +4,8 @@ ghost use Rattle.tcd_base.specs.Bytes.{half_in_bytes, word_in_bytes};
 ghost use Rattle.std.specs.Str.{bytes_eq};
 ghost use Rattle.tcd_base.specs.FieldReaders.{ReadsField, many_fields_at};
 ghost use Rattle.tc_object.specs.Faults.{IsFaultOf, symbol_fault};
-ghost use Rattle.tc_object.specs.Objects.{is_symbol_section, is_symbol_offset};
-ghost use Rattle.tc_object.specs.Grammar.{symbol_section_at, symbol_offset_at, symbol_named, symbol_with, symbol_after};
+ghost use Rattle.tc_object.specs.Objects.{is_valid_symbol_section, is_valid_symbol_offset};
+ghost use Rattle.tc_object.specs.Grammar.{symbol_section_at, symbol_offset_at, symbol_after_name, symbol_with_new_name, new_symbol_at};
 ghost use Rattle.tc_object.specs.Used.{is_used_name};
 
 use crate::fields::{is_kind_between, read_kind};
@@ -29,9 +29,9 @@ pub(crate) fn read_symbols<'a>(
     count: u16,
 ) -> Result<Vec<SymbolRef<'a>>, ObjErr>
     ensures ok { IfOk result
-        (λ ss. many_fields_at (symbol_after sections.now) count [] c.old ≡ Ok (ss.items, c.new)) }
+        (λ ss. many_fields_at (new_symbol_at sections.now) count [] c.old ≡ Ok (ss.items, c.new)) }
     ensures err { IfErr result
-        (IsFaultOf (many_fields_at (symbol_after sections.now) count [] c.old)) }
+        (IsFaultOf (many_fields_at (new_symbol_at sections.now) count [] c.old)) }
 {
     let mut names = no_used_names(alloc, count)?;
     let mut symbols = Vec::with_capacity(alloc, count as usize)?;
@@ -43,16 +43,16 @@ pub(crate) fn read_symbols<'a>(
 }
 
 /// Reads a symbol whose name isn't used yet.
-#[tactic(auto, unfolding(crate::specs::Grammar::symbol_with))]
+#[tactic(auto, unfolding(crate::specs::Grammar::symbol_with_new_name))]
 fn read_symbol<'a>(
     c: &mut FileCursor<'a>,
     sections: &[SectionRef<'_>],
     names: &mut HashMap<&'a str, ()>,
 ) -> Result<SymbolRef<'a>, ObjErr>
     ensures ok { IfOk result
-        (λ s. symbol_with sections.now (is_used_name names.old) c.old ≡ Ok (s, c.new)) }
+        (λ s. symbol_with_new_name sections.now (is_used_name names.old) c.old ≡ Ok (s, c.new)) }
     ensures err { IfErr result
-        (IsFaultOf (symbol_with sections.now (is_used_name names.old) c.old)) }
+        (IsFaultOf (symbol_with_new_name sections.now (is_used_name names.old) c.old)) }
     ensures names { IfOk result (λ s. (q : List ℕ) → is_used_name names.new q
         ≡ (bytes_eq s.name q || is_used_name names.old q)) }
 {
@@ -68,7 +68,7 @@ fn read_symbol_after_name<'a>(
     sections: &[SectionRef<'_>],
     name: &'a str,
 ) -> Result<SymbolRef<'a>, FormErr>
-    ensures read { ReadsField result c.old c.new (symbol_named sections.now name.now) }
+    ensures read { ReadsField result c.old c.new (symbol_after_name sections.now name.now) }
     ensures name { IfOk result (λ s. s.name ≡ name.now) }
 {
     let start = c.place();
@@ -83,13 +83,13 @@ fn read_symbol_after_name<'a>(
 /// Reads the symbol of this name field by field. If the file ends within the symbol, the fault is
 /// at the first field that is cut off.
 #[inline(never)]
-#[tactic(auto, unfolding(crate::specs::Grammar::symbol_named))]
+#[tactic(auto, unfolding(crate::specs::Grammar::symbol_after_name))]
 fn read_symbol_fields<'a>(
     c: &mut FileCursor<'_>,
     sections: &[SectionRef<'_>],
     name: &'a str,
 ) -> Result<SymbolRef<'a>, FormErr>
-    ensures read { ReadsField result c.old c.new (symbol_named sections.now name.now) }
+    ensures read { ReadsField result c.old c.new (symbol_after_name sections.now name.now) }
     ensures name { IfOk result (λ s. s.name ≡ name.now) }
 {
     let kind = read_kind(c, UNDEFINED_SYMBOL, GLOBAL_SYMBOL)?;
@@ -181,7 +181,7 @@ fn read_symbol_offset(
 
 // Whether a symbol of this kind may have this section number.
 fn is_valid_symbol_section(sections: &[SectionRef<'_>], kind: u8, section: u16) -> bool
-    ensures { result ≡ is_symbol_section sections.now kind section }
+    ensures { result ≡ is_valid_symbol_section sections.now kind section }
 {
     match kind {
         UNDEFINED_SYMBOL => section == 0,
@@ -191,7 +191,7 @@ fn is_valid_symbol_section(sections: &[SectionRef<'_>], kind: u8, section: u16) 
 
 // Whether a symbol of this kind may have this offset in the section.
 fn is_valid_symbol_offset(sections: &[SectionRef<'_>], kind: u8, section: u16, offset: u32) -> bool
-    ensures { result ≡ is_symbol_offset sections.now kind section offset }
+    ensures { result ≡ is_valid_symbol_offset sections.now kind section offset }
 {
     match kind {
         UNDEFINED_SYMBOL => offset == 0,

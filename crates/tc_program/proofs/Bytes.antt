@@ -5,11 +5,11 @@ use Rattle.std.proofs.lemmas.Bool.Decides.{Decides-eqb}
 use Rattle.tc_object.specs.Objects.{SectionData, ObjectData}
 use Rattle.tc_stmt.specs.Lines.{lines_in, items_in}
 use Rattle.tc_asm.specs.Symbols.{SymbolData}
-use Rattle.tc_asm.specs.Drafts.{UseData, PartData, empty_draft}
-use Rattle.tc_asm.specs.DraftedSources.{symbols_of, draft_in}
+use Rattle.tc_asm.specs.Drafts.{UseData, DraftSectionData, empty_draft}
+use Rattle.tc_asm.specs.DraftedSources.{symbols_of_lines, draft_in}
 use Rattle.tc_asm.specs.Rules.{items_rule}
 use Rattle.tc_asm.specs.Objects.{section_of, object_of_draft}
-use Rattle.tc_asm.specs.Statements.{StatementData, section_bytes, offset_of, statements_in}
+use Rattle.tc_asm.specs.Statements.{StatementData, section_bytes, statement_offset, statements_in}
 use Rattle.tc_asm.proofs.LaidLaws.{stands}
 use Rattle.tc_link.specs.Placing.{PlacedData}
 use Rattle.tc_link.specs.GlobalSymbols.{GlobalData}
@@ -34,10 +34,10 @@ drop_get (suc m) (x ∷ xs) k zero b e h = absurd (omega arith)
 drop_get (suc m) (x ∷ xs) k (suc n) b e h = drop_get m xs k n b (omega arith) h
 
 -- ---- a source
-module _ (source : List ℕ) (good : GoodItems (symbols_of (lines_in source)) empty_draft (items_in (lines_in source))) (rules : 15 ≤ items_rule (symbols_of (lines_in source)) empty_draft (items_in (lines_in source))) where
+module _ (source : List ℕ) (good : GoodItems (symbols_of_lines (lines_in source)) empty_draft (items_in (lines_in source))) (rules : 15 ≤ items_rule (symbols_of_lines (lines_in source)) empty_draft (items_in (lines_in source))) where
   module _ (g : List GlobalData) (p : PlacedData) (is : p.object ≡ object_of_draft (draft_in source)) where
     -- the bytes of a section with its relocations written
-    pub final : (s : ℕ) (q : PartData) → slice_get (draft_in source).parts s ≡ Some q →
+    pub final : (s : ℕ) (q : DraftSectionData) → slice_get (draft_in source).parts s ≡ Some q →
         slice_get (relocated_sections g p) s ≡ Some (record { name = q.name; bytes = section_bytes s (filled_from g p (draft_in source).symbols s 0 (statements_in source)) })
     unfolding relocated_sections
     final s q e =
@@ -57,14 +57,14 @@ module _ (source : List ℕ) (good : GoodItems (symbols_of (lines_in source)) em
 
     -- a statement's bytes are at its offset
     pub statement_there : (j : ℕ) (t : StatementData) → slice_get (statements_in source) j ≡ Some t → (k b : ℕ) →
-        slice_get (filled_bytes g p (draft_in source).symbols t.section (0 + offset_of (statements_in source) j t.section) t.reference t.bytes) k ≡ Some b →
-        slice_get (section_bytes t.section (filled_from g p (draft_in source).symbols t.section 0 (statements_in source))) (offset_of (statements_in source) j t.section + k) ≡ Some b
+        slice_get (filled_bytes g p (draft_in source).symbols t.section (0 + statement_offset (statements_in source) j t.section) t.reference t.bytes) k ≡ Some b →
+        slice_get (section_bytes t.section (filled_from g p (draft_in source).symbols t.section 0 (statements_in source))) (statement_offset (statements_in source) j t.section + k) ≡ Some b
     statement_there j t e k b h =
         let ts : List StatementData = statements_in source in
         let ss : List SymbolData = (draft_in source).symbols in
         let at = filled_at g p ss t.section 0 j ts t (have source good rules) e ((Decides-eqb t.section t.section).1 refl) in
-        let here = stands (filled_from g p ss t.section 0 ts) j (record t { bytes = filled_bytes g p ss t.section (0 + offset_of ts j t.section) t.reference t.bytes }) at in
+        let here = stands (filled_from g p ss t.section 0 ts) j (record t { bytes = filled_bytes g p ss t.section (0 + statement_offset ts j t.section) t.reference t.bytes }) at in
         let place = filled_offset g p ss t.section 0 j ts (have source good rules) in
-        let far : offset_of ts j t.section + k ≡ offset_of (filled_from g p ss t.section 0 ts) j t.section + k = ap (λ n. n + k) (sym place) in
-        drop_get (offset_of (filled_from g p ss t.section 0 ts) j t.section) (section_bytes t.section (filled_from g p ss t.section 0 ts)) k (offset_of ts j t.section + k) b far
+        let far : statement_offset ts j t.section + k ≡ statement_offset (filled_from g p ss t.section 0 ts) j t.section + k = ap (λ n. n + k) (sym place) in
+        drop_get (statement_offset (filled_from g p ss t.section 0 ts) j t.section) (section_bytes t.section (filled_from g p ss t.section 0 ts)) k (statement_offset ts j t.section + k) b far
         (take_get _ _ k b (ap (λ (bs : List ℕ). slice_get bs k) here ∙ h))

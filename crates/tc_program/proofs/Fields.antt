@@ -7,11 +7,11 @@ use Rattle.tc_stmt.specs.Items.{ReferenceData}
 use Rattle.tc_object.specs.declared.relocs.Reloc.{Reloc}
 use Rattle.tc_object.specs.Objects.{SectionData}
 use Rattle.tc_asm.specs.Symbols.{SymbolData}
-use Rattle.tc_asm.specs.Drafts.{UseData, PartData}
-use Rattle.tc_asm.specs.Objects.{section_of, reloc_of, relocs_from}
-use Rattle.tc_asm.specs.Statements.{StatementData, section_bytes, offset_of, has_unresolved_symbol}
+use Rattle.tc_asm.specs.Drafts.{UseData, DraftSectionData}
+use Rattle.tc_asm.specs.Objects.{section_of, reloc_of, relocs_of_sections}
+use Rattle.tc_asm.specs.Statements.{StatementData, section_bytes, statement_offset, has_unresolved_symbol}
 use Rattle.tc_reloc.specs.Fields.{reloc_field_number, with_reloc_field}
-use Rattle.tc_link.specs.Relocated.{reloc_field_at, field_place, reloc_value, section_with_reloc, sections_with_reloc}
+use Rattle.tc_link.specs.Relocated.{reloc_field_at, reloc_field_address, reloc_value, section_with_reloc, sections_with_reloc}
 use Rattle.tc_link.specs.Placing.{PlacedData}
 use Rattle.tc_link.specs.GlobalSymbols.{GlobalData}
 use Rattle.tc_stmt.proofs.ListItems.{seam_get, seam_set, take_behind, drop_behind}
@@ -37,29 +37,29 @@ module _ (g : List GlobalData) (p : PlacedData) (symbols : List SymbolData) wher
       ∙ relocs_here before after (stepped n sec u) n us rest e
 
   -- the sections of parts, numbered from this number on, with their uses written
-  abbrev pub finished : ℕ → List PartData → List SectionData
+  abbrev pub finished : ℕ → List DraftSectionData → List SectionData
   finished n [] = []
   finished n (q ∷ qs) = fold (stepped n) (section_of q) q.uses ∷ finished (n + 1) qs
 
-  relocs_all : (before : List SectionData) (n : ℕ) (parts : List PartData) → n ≡ length before → fold (sections_with_reloc g p) (before ++ map section_of parts) (relocs_from symbols n parts) ≡ before ++ finished n parts
+  relocs_all : (before : List SectionData) (n : ℕ) (parts : List DraftSectionData) → n ≡ length before → fold (sections_with_reloc g p) (before ++ map section_of parts) (relocs_of_sections symbols n parts) ≡ before ++ finished n parts
   relocs_all before n [] e = refl
   relocs_all before n (q ∷ qs) e =
       let sec : SectionData = fold (stepped n) (section_of q) q.uses in
       let long : n + 1 ≡ length (before ++ sec ∷ []) = omega (arith, length-append before (sec ∷ [])) in
-      relocs_here before (map section_of qs) (section_of q) n q.uses (relocs_from symbols (n + 1) qs) e
-      ∙ ap (λ (ss : List SectionData). fold (sections_with_reloc g p) ss (relocs_from symbols (n + 1) qs)) (sym (append_assoc before (sec ∷ []) (map section_of qs)))
+      relocs_here before (map section_of qs) (section_of q) n q.uses (relocs_of_sections symbols (n + 1) qs) e
+      ∙ ap (λ (ss : List SectionData). fold (sections_with_reloc g p) ss (relocs_of_sections symbols (n + 1) qs)) (sym (append_assoc before (sec ∷ []) (map section_of qs)))
       ∙ relocs_all (before ++ sec ∷ []) (n + 1) qs long
       ∙ append_assoc before (sec ∷ []) (finished (n + 1) qs)
 
-  pub relocs_written : (parts : List PartData) → fold (sections_with_reloc g p) (map section_of parts) (relocs_from symbols 0 parts) ≡ finished 0 parts
+  pub relocs_written : (parts : List DraftSectionData) → fold (sections_with_reloc g p) (map section_of parts) (relocs_of_sections symbols 0 parts) ≡ finished 0 parts
   relocs_written parts = relocs_all [] 0 parts refl
 
-  pub finished_at : (n i : ℕ) (parts : List PartData) (q : PartData) → slice_get parts i ≡ Some q → slice_get (finished n parts) i ≡ Some (fold (stepped (n + i)) (section_of q) q.uses)
+  pub finished_at : (n i : ℕ) (parts : List DraftSectionData) (q : DraftSectionData) → slice_get parts i ≡ Some q → slice_get (finished n parts) i ≡ Some (fold (stepped (n + i)) (section_of q) q.uses)
   finished_at n i [] q e = cc
   finished_at n zero (x ∷ xs) q e =
       let same : x ≡ q = cc in
       let none : n ≡ n + 0 = omega arith in
-      ap (λ (y : PartData). Some (fold (stepped n) (section_of y) y.uses)) same ∙ ap (λ k. Some (fold (stepped k) (section_of q) q.uses)) none
+      ap (λ (y : DraftSectionData). Some (fold (stepped n) (section_of y) y.uses)) same ∙ ap (λ k. Some (fold (stepped k) (section_of q) q.uses)) none
   finished_at n (suc i) (x ∷ xs) q e =
       let moved : n + 1 + i ≡ n + suc i = omega arith in
       finished_at (n + 1) i xs q e ∙ ap (λ k. Some (fold (stepped k) (section_of q) q.uses)) moved
@@ -70,7 +70,7 @@ module _ (g : List GlobalData) (p : PlacedData) (symbols : List SymbolData) wher
   filled_bytes s n None bytes = bytes
   filled_bytes s n (Some r) bytes =
       if has_unresolved_symbol (Some r)
-      then with_reloc_field r.kind bytes (reloc_field_number r.kind (field_place p (reloc_of symbols s (record { offset = n; reference = r }))) (reloc_value g p (reloc_of symbols s (record { offset = n; reference = r }))))
+      then with_reloc_field r.kind bytes (reloc_field_number r.kind (reloc_field_address p (reloc_of symbols s (record { offset = n; reference = r }))) (reloc_value g p (reloc_of symbols s (record { offset = n; reference = r }))))
       else bytes
 
   -- the statements of this section from this offset on, with their fields filled
@@ -92,7 +92,7 @@ module _ (g : List GlobalData) (p : PlacedData) (symbols : List SymbolData) wher
       = ap (take 4) (drop_behind before (bytes ++ rest) (length before) 0 none)
       ∙ ap (λ k. take k (bytes ++ rest)) (sym four) ∙ take_behind bytes rest (length bytes) 0 flat ∙ append-nil bytes in
       let back : drop (length before + 4) (before ++ (bytes ++ rest)) ≡ rest = drop_behind before (bytes ++ rest) (length before + 4) (length bytes) long ∙ drop_behind bytes rest (length bytes) 0 flat in
-      let content : ℕ = reloc_field_number r.kind (field_place p (reloc_of symbols s u)) (reloc_value g p (reloc_of symbols s u)) in
+      let content : ℕ = reloc_field_number r.kind (reloc_field_address p (reloc_of symbols s u)) (reloc_value g p (reloc_of symbols s u)) in
       ap (λ (bs : List ℕ). record { name = name; bytes = take (length before) (before ++ (bytes ++ rest)) ++ (with_reloc_field r.kind bs content ++ drop (length before + 4) (before ++ (bytes ++ rest))) }) here
       ∙ ap (λ (bs : List ℕ). record { name = name; bytes = bs ++ (with_reloc_field r.kind bytes content ++ drop (length before + 4) (before ++ (bytes ++ rest))) }) front
       ∙ ap (λ (bs : List ℕ). record { name = name; bytes = before ++ (with_reloc_field r.kind bytes content ++ bs) }) back
@@ -103,7 +103,7 @@ module _ (g : List GlobalData) (p : PlacedData) (symbols : List SymbolData) wher
   filled_length s n (Some r) bytes four = by (has_unresolved_symbol (Some r)) refl
     where
       by : (b : Bool) → has_unresolved_symbol (Some r) ≡ b
-          → length (cond b (with_reloc_field r.kind bytes (reloc_field_number r.kind (field_place p (reloc_of symbols s (record { offset = n; reference = r }))) (reloc_value g p (reloc_of symbols s (record { offset = n; reference = r }))))) bytes) ≡ length bytes
+          → length (cond b (with_reloc_field r.kind bytes (reloc_field_number r.kind (reloc_field_address p (reloc_of symbols s (record { offset = n; reference = r }))) (reloc_value g p (reloc_of symbols s (record { offset = n; reference = r }))))) bytes) ≡ length bytes
       by true e = let l = four e in omega arith
       by false e = refl
 
@@ -128,11 +128,11 @@ module _ (g : List GlobalData) (p : PlacedData) (symbols : List SymbolData) wher
       by_reference (Some r) bytes four rec = by_open (has_unresolved_symbol (Some r)) refl
         where
           more : List ℕ
-          more = with_reloc_field r.kind bytes (reloc_field_number r.kind (field_place p (reloc_of symbols s (record { offset = length before; reference = r }))) (reloc_value g p (reloc_of symbols s (record { offset = length before; reference = r }))))
+          more = with_reloc_field r.kind bytes (reloc_field_number r.kind (reloc_field_address p (reloc_of symbols s (record { offset = length before; reference = r }))) (reloc_value g p (reloc_of symbols s (record { offset = length before; reference = r }))))
 
           by_open : (b : Bool) → has_unresolved_symbol (Some r) ≡ b
               → fold (stepped s) (record { name = name; bytes = before ++ (bytes ++ section_bytes s ts) }) (cond b (record { offset = length before; reference = r } ∷ []) [] ++ uses_from s (length before + length bytes) ts)
-              ≡ record { name = name; bytes = before ++ (cond b (with_reloc_field r.kind bytes (reloc_field_number r.kind (field_place p (reloc_of symbols s (record { offset = length before; reference = r }))) (reloc_value g p (reloc_of symbols s (record { offset = length before; reference = r }))))) bytes ++ section_bytes s (filled_from s (length before + length bytes) ts)) }
+              ≡ record { name = name; bytes = before ++ (cond b (with_reloc_field r.kind bytes (reloc_field_number r.kind (reloc_field_address p (reloc_of symbols s (record { offset = length before; reference = r }))) (reloc_value g p (reloc_of symbols s (record { offset = length before; reference = r }))))) bytes ++ section_bytes s (filled_from s (length before + length bytes) ts)) }
           by_open false e =
               ap (λ (bs : List ℕ). fold (stepped s) (whole name bs) (uses_from s (length before + length bytes) ts)) (sym (append_assoc before bytes (section_bytes s ts)))
               ∙ ap (λ n. fold (stepped s) (whole name ((before ++ bytes) ++ section_bytes s ts)) (uses_from s n ts)) (sym (length-append before bytes))
@@ -162,7 +162,7 @@ module _ (g : List GlobalData) (p : PlacedData) (symbols : List SymbolData) wher
 
   -- a statement with its field filled is at its own place, after the same bytes
   pub filled_at : (s n j : ℕ) (ts : List StatementData) (t : StatementData) → HaveFields ts → slice_get ts j ≡ Some t → (t.section == s) ≡ true →
-      slice_get (filled_from s n ts) j ≡ Some (record t { bytes = filled_bytes s (n + offset_of ts j s) t.reference t.bytes })
+      slice_get (filled_from s n ts) j ≡ Some (record t { bytes = filled_bytes s (n + statement_offset ts j s) t.reference t.bytes })
   filled_at s n j [] t h e here = cc
   filled_at s n zero (x ∷ xs) t h e here =
       let same : x ≡ t = cc in
@@ -172,7 +172,7 @@ module _ (g : List GlobalData) (p : PlacedData) (symbols : List SymbolData) wher
       ∙ ap (λ k. Some (record t { bytes = filled_bytes s k t.reference t.bytes })) none
   filled_at s n (suc j) (x ∷ xs) t h e here = by (x.section == s) refl (λ m. filled_at s m j xs t h.1 e here)
     where
-      by : (b : Bool) → (x.section == s) ≡ b → ((m : ℕ) → slice_get (filled_from s m xs) j ≡ Some (record t { bytes = filled_bytes s (m + offset_of xs j s) t.reference t.bytes }))
+      by : (b : Bool) → (x.section == s) ≡ b → ((m : ℕ) → slice_get (filled_from s m xs) j ≡ Some (record t { bytes = filled_bytes s (m + statement_offset xs j s) t.reference t.bytes }))
           → slice_get (cond b (record x { bytes = filled_bytes s n x.reference x.bytes } ∷ filled_from s (n + length x.bytes) xs) (x ∷ filled_from s n xs)) (suc j)
           ≡ Some (record t { bytes = filled_bytes s (n + length (cond b x.bytes [] ++ section_bytes s (take j xs))) t.reference t.bytes })
       by true f rec =
@@ -180,18 +180,18 @@ module _ (g : List GlobalData) (p : PlacedData) (symbols : List SymbolData) wher
           rec (n + length x.bytes) ∙ ap (λ k. Some (record t { bytes = filled_bytes s k t.reference t.bytes })) far
       by false f rec = rec n
 
-  pub filled_offset : (s n j : ℕ) (ts : List StatementData) → HaveFields ts → offset_of (filled_from s n ts) j s ≡ offset_of ts j s
+  pub filled_offset : (s n j : ℕ) (ts : List StatementData) → HaveFields ts → statement_offset (filled_from s n ts) j s ≡ statement_offset ts j s
   filled_offset s n zero [] h = refl
   filled_offset s n zero (x ∷ xs) h = by (x.section == s)
     where
-      by : (b : Bool) → offset_of (cond b (record x { bytes = filled_bytes s n x.reference x.bytes } ∷ filled_from s (n + length x.bytes) xs) (x ∷ filled_from s n xs)) zero s ≡ 0
+      by : (b : Bool) → statement_offset (cond b (record x { bytes = filled_bytes s n x.reference x.bytes } ∷ filled_from s (n + length x.bytes) xs) (x ∷ filled_from s n xs)) zero s ≡ 0
       by true = refl
       by false = refl
   filled_offset s n (suc j) [] h = refl
   filled_offset s n (suc j) (x ∷ xs) h = by (x.section == s) refl (λ m. filled_offset s m j xs h.1)
     where
-      by : (b : Bool) → (x.section == s) ≡ b → ((m : ℕ) → offset_of (filled_from s m xs) j s ≡ offset_of xs j s)
-          → offset_of (cond b (record x { bytes = filled_bytes s n x.reference x.bytes } ∷ filled_from s (n + length x.bytes) xs) (x ∷ filled_from s n xs)) (suc j) s
+      by : (b : Bool) → (x.section == s) ≡ b → ((m : ℕ) → statement_offset (filled_from s m xs) j s ≡ statement_offset xs j s)
+          → statement_offset (cond b (record x { bytes = filled_bytes s n x.reference x.bytes } ∷ filled_from s (n + length x.bytes) xs) (x ∷ filled_from s n xs)) (suc j) s
           ≡ length (cond b x.bytes [] ++ section_bytes s (take j xs))
       by true f rec =
           let mine : List ℕ = filled_bytes s n x.reference x.bytes in

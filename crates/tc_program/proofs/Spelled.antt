@@ -12,7 +12,7 @@ use Rattle.tc_stmt.specs.Lines.{lines_in, items_in}
 use Rattle.tc_asm.specs.Symbols.{SymbolData}
 use Rattle.tc_asm.specs.Drafts.{DraftData, empty_draft, assembled_row_code, row_fields_with_target, code_bytes, draft_after_item}
 use Rattle.tc_isa.specs.Relocations.{is_relocation_kind}
-use Rattle.tc_asm.specs.DraftedSources.{symbols_of}
+use Rattle.tc_asm.specs.DraftedSources.{symbols_of_lines}
 use Rattle.tc_asm.specs.DraftInvariants.{EachInDraft}
 use Rattle.tc_asm.specs.Statements.{StatementData, statement_of_item, statement_with_room, statements_from}
 use Rattle.tc_program.specs.PlacementLaws.{SourceFieldFillsRow, SourceFieldsLaw}
@@ -67,4 +67,4 @@ items_wait labels (i ∷ is) d h j x e = by (in_front_or_rest (statement_with_ro
     by (inr r) rec = rec r.at r.is
 
 pub fields_law : SourceFieldsLaw
-fields_law source index t r at is waits = (items_wait (symbols_of (lines_in source)) (items_in (lines_in source)) empty_draft (source_are source) index t at).so r is waits
+fields_law source index t r at is waits = (items_wait (symbols_of_lines (lines_in source)) (items_in (lines_in source)) empty_draft (source_are source) index t at).so r is waits

@@ -13,11 +13,11 @@ use Rattle.tc_asm.specs.declared.symbols.Place.{Place}
 use Rattle.tc_asm.specs.declared.symbols.Entry.{Entry}
 use Rattle.tc_asm.specs.Symbols.{SymbolData, place_in}
 use Rattle.tc_asm.specs.DraftInvariants.{IsDraft}
-use Rattle.tc_asm.specs.Objects.{symbol_at, symbol_of, object_of_draft}
+use Rattle.tc_asm.specs.Objects.{object_symbol, symbol_of, object_of_draft}
 use Rattle.tc_link.specs.Layouts.{PlaceData}
-use Rattle.tc_link.specs.Refusals.{Refusal, missing, first_refusal_from, is_used_by_relocs, missing_symbol_refusal, missing_symbol_refusal_in, no_place_refusal_in}
-use Rattle.tc_link.specs.GlobalSymbols.{has_global_name, globals_named, symbols_to_link, GlobalData, is_global, global_data, globals_of, global_address}
-use Rattle.tc_link.specs.Placing.{placed_after, bases_after, address_in_section}
+use Rattle.tc_link.specs.Refusals.{Refusal, missing, first_refusal_from, is_used_by_relocs, missing_symbol_refusal, first_missing_symbol_refusal, first_no_place_refusal}
+use Rattle.tc_link.specs.GlobalSymbols.{has_global_name, count_globals_named, symbols_to_link, GlobalData, is_global, global_data, globals_of, first_global_address}
+use Rattle.tc_link.specs.Placing.{placed_after, section_bases_after, address_in_section}
 use Rattle.tc_link.specs.Relocated.{symbol_address}
 use Rattle.tc_asm.specs.DraftedSources.{draft_in, symbols_in}
 use Rattle.tc_program.specs.Addresses.{NameHasAddress, own, other}
@@ -43,14 +43,14 @@ none_in name b (s ∷ ss) e = sum_by-cons (λ x. cond (has_global_name name x) 1
         by_name true h = cc
         by_name false h = let z = rec h in omega arith
 
-none_all : (name : List ℕ) (places : List PlaceData) (before : List SectionData) (objects : List ObjectData) → find (is_named name) (globals_of (placed_after places before objects)) ≡ None → globals_named objects name ≡ 0
-unfolding globals_of placed_after globals_named
+none_all : (name : List ℕ) (places : List PlaceData) (before : List SectionData) (objects : List ObjectData) → find (is_named name) (globals_of (placed_after places before objects)) ≡ None → count_globals_named objects name ≡ 0
+unfolding globals_of placed_after count_globals_named
 none_all name places before [] e = refl
 none_all name places before (o ∷ os) e =
-    let first : List GlobalData = map (global_data (bases_after places before o.sections)) (filter is_global o.symbols) in
+    let first : List GlobalData = map (global_data (section_bases_after places before o.sections)) (filter is_global o.symbols) in
     let rest : List GlobalData = globals_of (placed_after places (before ++ o.sections) os) in
     let parts = none_parts (find (is_named name) first) (find (is_named name) rest) (sym (find-append (is_named name) first rest) ∙ e) in
-    let here = none_in name (bases_after places before o.sections) o.symbols parts.0 in
+    let here = none_in name (section_bases_after places before o.sections) o.symbols parts.0 in
     let more = none_all name places (before ++ o.sections) os parts.1 in
     sum_by-append (λ x. cond (has_global_name name x) 1 0) o.symbols (symbols_to_link os) ∙ omega arith
 
@@ -60,27 +60,27 @@ unused true true false r e h k = refl
 unused true false c r e h k = cc
 unused false b c r e h k = cc
 
-global_there : (places : List PlaceData) (objects : List ObjectData) (i : ℕ) (o : ObjectData) (k : ℕ) (x : object.SymbolData) → missing_symbol_refusal_in objects ≡ None → slice_get objects i ≡ Some o → slice_get o.symbols k ≡ Some x → x.kind ≡ 0 →
-    is_used_by_relocs o.relocs k ≡ true → (a : ℕ) × (global_address (globals_of (placed_after places [] objects)) x.name ≡ Some a)
-unfolding missing_symbol_refusal_in
+global_there : (places : List PlaceData) (objects : List ObjectData) (i : ℕ) (o : ObjectData) (k : ℕ) (x : object.SymbolData) → first_missing_symbol_refusal objects ≡ None → slice_get objects i ≡ Some o → slice_get o.symbols k ≡ Some x → x.kind ≡ 0 →
+    is_used_by_relocs o.relocs k ≡ true → (a : ℕ) × (first_global_address (globals_of (placed_after places [] objects)) x.name ≡ Some a)
+unfolding first_missing_symbol_refusal
 global_there places objects i o k x e at there kind uses =
     let here : first_refusal_from (missing_symbol_refusal objects o.relocs) 0 o.symbols ≡ None = none_at (λ n (q : ObjectData). first_refusal_from (missing_symbol_refusal objects q.relocs) 0 q.symbols) 0 objects i o e at in
     let same : k ≡ 0 + k = omega arith in
     let mine : missing_symbol_refusal objects o.relocs k x ≡ None = ap (λ n. missing_symbol_refusal objects o.relocs n x) same ∙ none_at (missing_symbol_refusal objects o.relocs) 0 o.symbols k x here there in
-    let some : (globals_named objects x.name == 0) ≡ false = unused (x.kind == 0) (is_used_by_relocs o.relocs k) (globals_named objects x.name == 0) (missing x.name) mine ((Decides-eqb x.kind 0).1 kind) uses in
+    let some : (count_globals_named objects x.name == 0) ≡ false = unused (x.kind == 0) (is_used_by_relocs o.relocs k) (count_globals_named objects x.name == 0) (missing x.name) mine ((Decides-eqb x.kind 0).1 kind) uses in
     by (find (is_named x.name) (globals_of (placed_after places [] objects))) refl some
   where
     never : (n : ℕ) → n ≡ 0 → (n == 0) ≡ false → ⊥
     never n z f = let t = (Decides-eqb n 0).1 z in cc
 
-    by : (g : Option GlobalData) → find (is_named x.name) (globals_of (placed_after places [] objects)) ≡ g → (globals_named objects x.name == 0) ≡ false
-        → (a : ℕ) × (global_address (globals_of (placed_after places [] objects)) x.name ≡ Some a)
-    by None f some = absurd (never (globals_named objects x.name) (none_all x.name places [] objects f) some)
+    by : (g : Option GlobalData) → find (is_named x.name) (globals_of (placed_after places [] objects)) ≡ g → (count_globals_named objects x.name == 0) ≡ false
+        → (a : ℕ) × (first_global_address (globals_of (placed_after places [] objects)) x.name ≡ Some a)
+    by None f some = absurd (never (count_globals_named objects x.name) (none_all x.name places [] objects f) some)
     by (Some y) f some = (y.address, ap (option_map (λ (z : GlobalData). z.address)) f)
 
 -- ---- the address of a symbol of a source
-module _ (layout_places : List PlaceData) (sources : List (List ℕ)) (objects : List ObjectData) (are : AreObjects sources objects) (placeable : no_place_refusal_in layout_places objects ≡ None)
-    (good : (i : ℕ) (source : List ℕ) → slice_get sources i ≡ Some source → IsDraft (draft_in source)) (known : missing_symbol_refusal_in objects ≡ None) where
+module _ (layout_places : List PlaceData) (sources : List (List ℕ)) (objects : List ObjectData) (are : AreObjects sources objects) (placeable : first_no_place_refusal layout_places objects ≡ None)
+    (good : (i : ℕ) (source : List ℕ) → slice_get sources i ≡ Some source → IsDraft (draft_in source)) (known : first_missing_symbol_refusal objects ≡ None) where
   abbrev globals : List GlobalData
   globals = globals_of (placed_after layout_places [] objects)
 
@@ -91,21 +91,21 @@ module _ (layout_places : List PlaceData) (sources : List (List ℕ)) (objects :
       NameHasAddress layout_places sources i s.name (symbol_address globals (own_bases i source) (symbol_of s))
   means_at i source k s at there uses = by s.entry.place refl
     where
-      by_global : (g : Bool) (p : Place) → address_in_section (own_bases i source) p.section p.offset ≡ symbol_address globals (own_bases i source) (symbol_at s.name g (Some p))
+      by_global : (g : Bool) (p : Place) → address_in_section (own_bases i source) p.section p.offset ≡ symbol_address globals (own_bases i source) (object_symbol s.name g (Some p))
       by_global true p = refl
       by_global false p = refl
 
-      by : (o : Option Place) → s.entry.place ≡ o → NameHasAddress layout_places sources i s.name (symbol_address globals (own_bases i source) (symbol_at s.name s.entry.is_global o))
+      by : (o : Option Place) → s.entry.place ≡ o → NameHasAddress layout_places sources i s.name (symbol_address globals (own_bases i source) (object_symbol s.name s.entry.is_global o))
       by (Some p) e =
           let M : ℕ → Type 0 = λ n. NameHasAddress layout_places sources i s.name n in
           subst M (by_global s.entry.is_global p) (own (address_in_section (own_bases i source) p.section p.offset) (label_at layout_places sources objects are placeable good i source k s p at there e))
       by None e =
           let symbol = map_get symbol_of (draft_in source).symbols k s there in
           let x : object.SymbolData = symbol_of s in
-          let kind : x.kind ≡ 0 = ap (λ (o : Option Place). (symbol_at s.name s.entry.is_global o).kind) e in
-          let name : x.name ≡ s.name = ap (λ (o : Option Place). (symbol_at s.name s.entry.is_global o).name) e in
+          let kind : x.kind ≡ 0 = ap (λ (o : Option Place). (object_symbol s.name s.entry.is_global o).kind) e in
+          let name : x.name ≡ s.name = ap (λ (o : Option Place). (object_symbol s.name s.entry.is_global o).name) e in
           let g = global_there layout_places objects i (object_of_draft (draft_in source)) k x known (object_at sources objects i source are at) symbol kind uses in
-          let there_is : global_address globals s.name ≡ Some g.0 = ap (global_address globals) (sym name) ∙ g.1 in
+          let there_is : first_global_address globals s.name ≡ Some g.0 = ap (first_global_address globals) (sym name) ∙ g.1 in
           let M : ℕ → Type 0 = λ n. NameHasAddress layout_places sources i s.name n in
           let nowhere : place_in (symbols_in source) s.name ≡ None = ap (λ (y : Entry). y.place) (entry_at (draft_in source).symbols k s (good i source at).symbols_named there) ∙ e in
           subst M (sym (ap (λ (o : Option ℕ). option_map_or (λ a. a) o 0) there_is))

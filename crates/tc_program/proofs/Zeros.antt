@@ -5,24 +5,24 @@ use Rattle.std.proofs.lemmas.Bool.{ltb-false, ltb-true}
 use Rattle.std.proofs.lemmas.Bool.Decides.{Decides-eqb}
 use Rattle.std.proofs.lemmas.List.{length-append}
 use Rattle.std.proofs.lemmas.Slice.Eq.{bytes_eq-Decides}
-use Rattle.elf_image.specs.Images.{SegmentData, ImageData, segments_byte, image_byte}
+use Rattle.elf_image.specs.Images.{SegmentData, ImageData, byte_in_segments, image_byte}
 use Rattle.tc_object.specs.Objects.{SectionData, ObjectData}
 use Rattle.tc_stmt.specs.Lines.{lines_in}
-use Rattle.tc_asm.specs.DraftedSources.{symbols_of, draft_in}
+use Rattle.tc_asm.specs.DraftedSources.{symbols_of_lines, draft_in}
 use Rattle.tc_asm.specs.Objects.{section_of}
-use Rattle.tc_asm.specs.Statements.{StatementData, section_bytes, offset_of, statements_in, sections_in}
+use Rattle.tc_asm.specs.Statements.{StatementData, section_bytes, statement_offset, statements_in, sections_in}
 use Rattle.tc_asm.proofs.LaidLaws.{drafted-bytes}
 use Rattle.tc_link.specs.Layouts.{PlaceData, LayoutData, IsLayout, place_of}
-use Rattle.tc_link.specs.Placing.{placed_of}
+use Rattle.tc_link.specs.Placing.{placed_in_layout}
 use Rattle.tc_link.specs.GlobalSymbols.{globals_of}
-use Rattle.tc_link.specs.PlaceSizes.{round_up_place_size, taken_place_size}
+use Rattle.tc_link.specs.PlaceSizes.{next_multiple_of_4, used_place_size}
 use Rattle.tc_link.specs.Segments.{segment_of, segments_of}
-use Rattle.tc_link.specs.Relocated.{relocated_contents}
+use Rattle.tc_link.specs.Relocated.{all_relocated_sections}
 use Rattle.tc_link.specs.Shapes.{section_shape}
 use Rattle.tc_link.proofs.RelocLaws.{contents_shapes}
 use Rattle.tc_program.specs.Addresses.{program_sections, SectionHasAddress}
 use Rattle.tc_program.specs.Placed.{IsInPlacedStatement}
-use Rattle.tc_program.specs.PlacementLaws.{AreProgramObjects}
+use Rattle.tc_program.specs.PlacementLaws.{AreAssembledFrom}
 use Rattle.tc_stmt.proofs.ListItems.{FlatAt, flat_at, map_at, filter_at}
 use Rattle.tc_asm.proofs.SourceParts.{sections_are, part_bytes}
 use Rattle.tc_program.proofs.Sections.{all_sections}
@@ -35,15 +35,15 @@ record Covering (s : ℕ) (ts : List StatementData) (m : ℕ) : Type 0 where
   statement : StatementData
   is : slice_get ts index ≡ Some statement
   section : statement.section ≡ s
-  low : offset_of ts index s ≤ m
-  high : m < offset_of ts index s + length statement.bytes
+  low : statement_offset ts index s ≤ m
+  high : m < statement_offset ts index s + length statement.bytes
 
 -- after a statement of this section, or of another
 later : (s : ℕ) (x : StatementData) (xs : List StatementData) (m n : ℕ) (b : Bool) → (x.section == s) ≡ b → n ≡ length {A = ℕ} (cond b x.bytes []) + m → Covering s xs m → Covering s (x ∷ xs) n
 later s x xs m n b e far c =
     let low = c.low in
     let high = c.high in
-    let size : offset_of (x ∷ xs) (suc c.index) s ≡ length {A = ℕ} (cond b x.bytes []) + offset_of xs c.index s
+    let size : statement_offset (x ∷ xs) (suc c.index) s ≡ length {A = ℕ} (cond b x.bytes []) + statement_offset xs c.index s
     = ap (λ t. length (cond t x.bytes [] ++ section_bytes s (take c.index xs))) e ∙ length-append (cond b x.bytes []) (section_bytes s (take c.index xs)) in
     record { index = suc c.index; statement = c.statement; is = c.is; section = c.section; low = omega arith; high = omega arith }
 
@@ -70,12 +70,12 @@ section_is source s x e =
     let p = map_at section_of (draft_in source).parts s x (ap (λ (l : List SectionData). slice_get l s) (sym (sections_are source)) ∙ e) in
     ap (λ (y : SectionData). y.bytes) (sym p.is)
     ∙ sym (part_bytes (draft_in source).parts s p.item p.is_item)
-    ∙ drafted-bytes (symbols_of (lines_in source)) (lines_in source) s
+    ∙ drafted-bytes (symbols_of_lines (lines_in source)) (lines_in source) s
 
 -- ---- the bytes of places
 module _ (sources : List (List ℕ)) (layout : LayoutData) (good : IsLayout layout) where
   -- an address in a section with a place is in a statement
-  in_statement : (place : PlaceData) (i q : ℕ) → slice_get layout.places i ≡ Some place → place.at ≤ q → InSection place.section (program_sections sources) (λ before. round_up_place_size (taken_place_size place.section before)) (q - place.at) → IsInPlacedStatement layout.places sources q
+  in_statement : (place : PlaceData) (i q : ℕ) → slice_get layout.places i ≡ Some place → place.at ≤ q → InSection place.section (program_sections sources) (λ before. next_multiple_of_4 (used_place_size place.section before)) (q - place.at) → IsInPlacedStatement layout.places sources q
   in_statement place i q is_place above h = by (flat_at sections_in sources h.at h.section h.is_section)
     where
       name : place.section ≡ h.section.name
@@ -84,14 +84,14 @@ module _ (sources : List (List ℕ)) (layout : LayoutData) (good : IsLayout layo
       by : FlatAt (List ℕ) SectionData sections_in sources h.at h.section → IsInPlacedStatement layout.places sources q
       by f =
           let behind : List SectionData = program_sections (take f.outer sources) ++ take f.inner (sections_in f.item) in
-          let start : ℕ = place.at + round_up_place_size (taken_place_size h.section.name (program_sections (take f.outer sources) ++ take f.inner (sections_in f.item))) in
-          let same : round_up_place_size (taken_place_size place.section (take h.at (program_sections sources))) ≡ round_up_place_size (taken_place_size h.section.name (program_sections (take f.outer sources) ++ take f.inner (sections_in f.item)))
-          = ap (λ (l : List SectionData). round_up_place_size (taken_place_size place.section l)) f.front ∙ ap (λ (n : List ℕ). round_up_place_size (taken_place_size n (program_sections (take f.outer sources) ++ take f.inner (sections_in f.item)))) name in
+          let start : ℕ = place.at + next_multiple_of_4 (used_place_size h.section.name (program_sections (take f.outer sources) ++ take f.inner (sections_in f.item))) in
+          let same : next_multiple_of_4 (used_place_size place.section (take h.at (program_sections sources))) ≡ next_multiple_of_4 (used_place_size h.section.name (program_sections (take f.outer sources) ++ take f.inner (sections_in f.item)))
+          = ap (λ (l : List SectionData). next_multiple_of_4 (used_place_size place.section l)) f.front ∙ ap (λ (n : List ℕ). next_multiple_of_4 (used_place_size n (program_sections (take f.outer sources) ++ take f.inner (sections_in f.item)))) name in
           inside f start refl same (covering f.inner (statements_in f.item) (q - start) (within f start refl same))
         where
           within : (f : FlatAt (List ℕ) SectionData sections_in sources h.at h.section) (start : ℕ)
-              → start ≡ place.at + round_up_place_size (taken_place_size h.section.name (program_sections (take f.outer sources) ++ take f.inner (sections_in f.item)))
-              → round_up_place_size (taken_place_size place.section (take h.at (program_sections sources))) ≡ round_up_place_size (taken_place_size h.section.name (program_sections (take f.outer sources) ++ take f.inner (sections_in f.item)))
+              → start ≡ place.at + next_multiple_of_4 (used_place_size h.section.name (program_sections (take f.outer sources) ++ take f.inner (sections_in f.item)))
+              → next_multiple_of_4 (used_place_size place.section (take h.at (program_sections sources))) ≡ next_multiple_of_4 (used_place_size h.section.name (program_sections (take f.outer sources) ++ take f.inner (sections_in f.item)))
               → q - start < length (section_bytes f.inner (statements_in f.item))
           within f start is same =
               let low = h.low in
@@ -100,8 +100,8 @@ module _ (sources : List (List ℕ)) (layout : LayoutData) (good : IsLayout layo
               omega arith
 
           inside : (f : FlatAt (List ℕ) SectionData sections_in sources h.at h.section) (start : ℕ)
-              → start ≡ place.at + round_up_place_size (taken_place_size h.section.name (program_sections (take f.outer sources) ++ take f.inner (sections_in f.item)))
-              → round_up_place_size (taken_place_size place.section (take h.at (program_sections sources))) ≡ round_up_place_size (taken_place_size h.section.name (program_sections (take f.outer sources) ++ take f.inner (sections_in f.item)))
+              → start ≡ place.at + next_multiple_of_4 (used_place_size h.section.name (program_sections (take f.outer sources) ++ take f.inner (sections_in f.item)))
+              → next_multiple_of_4 (used_place_size place.section (take h.at (program_sections sources))) ≡ next_multiple_of_4 (used_place_size h.section.name (program_sections (take f.outer sources) ++ take f.inner (sections_in f.item)))
               → Covering f.inner (statements_in f.item) (q - start) → IsInPlacedStatement layout.places sources q
           inside f start is same c =
               let first = h.low in
@@ -114,7 +114,7 @@ module _ (sources : List (List ℕ)) (layout : LayoutData) (good : IsLayout layo
                 is_place = ap (place_of layout.places) (sym name) ∙ place_alone layout.places i place good.places is_place;
                 is = is;
               } in
-              let size : offset_of (statements_in f.item) c.index c.statement.section ≡ offset_of (statements_in f.item) c.index f.inner = ap (offset_of (statements_in f.item) c.index) c.section in
+              let size : statement_offset (statements_in f.item) c.index c.statement.section ≡ statement_offset (statements_in f.item) c.index f.inner = ap (statement_offset (statements_in f.item) c.index) c.section in
               let low = c.low in
               let high = c.high in
               record {
@@ -130,20 +130,20 @@ module _ (sources : List (List ℕ)) (layout : LayoutData) (good : IsLayout layo
                 high = omega arith;
               }
 
-  module _ (objects : List ObjectData) (image : ImageData) (are : AreProgramObjects sources objects) (parts : Parts objects layout image) where
+  module _ (objects : List ObjectData) (image : ImageData) (are : AreAssembledFrom sources objects) (parts : Parts objects layout image) where
     abbrev contents : List SectionData
-    contents = relocated_contents (placed_of layout objects)
+    contents = all_relocated_sections (placed_in_layout layout objects)
 
     shapes : map section_shape contents ≡ map section_shape (program_sections sources)
-    unfolding relocated_contents
+    unfolding all_relocated_sections
     shapes =
-        contents_shapes (globals_of (placed_of layout objects)) layout.places [] objects (objects_good sources objects are)
+        contents_shapes (globals_of (placed_in_layout layout objects)) layout.places [] objects (objects_good sources objects are)
         ∙ ap (map section_shape) (sym (all_sections sources objects (are_objects sources objects are)))
 
     pub zero_else : (q b : ℕ) → image_byte image q ≡ Some b → IsInPlacedStatement layout.places sources q ⊎ (b ≡ 0)
     unfolding segments_of
     zero_else q b e =
-        let i = byte_from (segments_of layout.places contents) q b (ap (λ (ss : List SegmentData). segments_byte ss q) (sym parts.segments) ∙ e) in
+        let i = byte_from (segments_of layout.places contents) q b (ap (λ (ss : List SegmentData). byte_in_segments ss q) (sym parts.segments) ∙ e) in
         let f = filter_at (λ (x : SegmentData). nat_lt 0 (length x.bytes)) (map (segment_of contents) layout.places) i.at i.segment i.is_segment in
         let m = map_at (segment_of contents) layout.places f.at i.segment f.is_item in
         let same : m.item.at ≡ i.segment.at = ap (λ (s : SegmentData). s.at) m.is in
@@ -152,6 +152,6 @@ module _ (sources : List (List ℕ)) (layout : LayoutData) (good : IsLayout layo
         by m.item f.at m.is_item above
         (joined_byte m.item.section contents (q - m.item.at) b (ap (λ (s : SegmentData). slice_get s.bytes (q - s.at)) m.is ∙ i.byte))
       where
-        by : (place : PlaceData) (k : ℕ) → slice_get layout.places k ≡ Some place → place.at ≤ q → (b ≡ 0) ⊎ InSection place.section contents (λ before. round_up_place_size (taken_place_size place.section before)) (q - place.at) → IsInPlacedStatement layout.places sources q ⊎ (b ≡ 0)
+        by : (place : PlaceData) (k : ℕ) → slice_get layout.places k ≡ Some place → place.at ≤ q → (b ≡ 0) ⊎ InSection place.section contents (λ before. next_multiple_of_4 (used_place_size place.section before)) (q - place.at) → IsInPlacedStatement layout.places sources q ⊎ (b ≡ 0)
         by place k is above (inl z) = inr z
         by place k is above (inr h) = inl (in_statement place k q is above (in_shaped place.section contents (program_sections sources) (q - place.at) shapes h))

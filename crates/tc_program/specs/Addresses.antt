@@ -4,11 +4,11 @@ use Rattle.std.specs.Prelude.{◌≡◌, ◌+◌, ◌%◌, ◌^◌, ℕ, true, L
 use Rattle.std.specs.List.{flat_map}
 use Rattle.tc_object.specs.Objects.{SectionData}
 use Rattle.tc_asm.specs.declared.symbols.Place.{Place}
-use Rattle.tc_asm.specs.Symbols.{entry_of, place_in}
+use Rattle.tc_asm.specs.Symbols.{entry_or_undefined, place_in}
 use Rattle.tc_asm.specs.Statements.{sections_in}
 use Rattle.tc_asm.specs.DraftedSources.{symbols_in}
 use Rattle.tc_link.specs.Layouts.{PlaceData, place_of}
-use Rattle.tc_link.specs.PlaceSizes.{round_up_place_size, taken_place_size}
+use Rattle.tc_link.specs.PlaceSizes.{next_multiple_of_4, used_place_size}
 
 -- the sections of all sources, in the order in which they get addresses after linking
 abbrev pub program_sections : List (List ℕ) → List SectionData
@@ -23,7 +23,7 @@ pub record SectionHasAddress (places : List PlaceData) (sources : List (List ℕ
   pub is_section : slice_get (sections_in source) section ≡ Some data_of
   pub place : PlaceData
   pub is_place : place_of places data_of.name ≡ Some place
-  pub is : base ≡ place.at + round_up_place_size (taken_place_size data_of.name (program_sections (take number sources) ++ take section (sections_in source)))
+  pub is : base ≡ place.at + next_multiple_of_4 (used_place_size data_of.name (program_sections (take number sources) ++ take section (sections_in source)))
 
 -- a label of a source has this address after linking: that of its section plus its offset there
 pub record LabelHasAddress (places : List PlaceData) (sources : List (List ℕ)) (number : ℕ) (name : List ℕ) (address : ℕ) : Type 0 where
@@ -39,7 +39,7 @@ pub record LabelHasAddress (places : List PlaceData) (sources : List (List ℕ))
 pub record GlobalHasAddress (places : List PlaceData) (sources : List (List ℕ)) (name : List ℕ) (address : ℕ) : Type 0 where
   pub number : ℕ
   pub stands : LabelHasAddress places sources number name address
-  pub is_global : (entry_of (symbols_in stands.source) name).is_global ≡ true
+  pub is_global : (entry_or_undefined (symbols_in stands.source) name).is_global ≡ true
 
 -- the address of a name in a source after linking: that of the source's own label, or else that of
 -- a global label of some source

@@ -1,15 +1,15 @@
 -- The addresses of the statements of sources in an image that was linked from them.
 use Rattle.std.specs.Prelude.{◌≡◌, ◌≤◌, ◌<◌, ◌+◌, ◌%◌, ◌^◌, ◌⊎◌, nat_lt, ℕ, true, false, List, length, map, filter, slice_get, Some, None}
-use Rattle.elf_image.specs.Images.{SegmentData, ImageData, image_byte, HoldsFrom}
+use Rattle.elf_image.specs.Images.{SegmentData, ImageData, image_byte, HoldsBytesFrom}
 use Rattle.tc_isa.specs.Relocations.{is_relocation_kind}
 use Rattle.tc_reloc.specs.Refusals.{reloc_value_refusal}
 use Rattle.tc_reloc.specs.Fields.{reloc_field_number, with_reloc_field}
 use Rattle.tc_stmt.specs.Items.{ReferenceData}
 use Rattle.tc_object.specs.Objects.{SectionData}
 use Rattle.tc_asm.specs.Objects.{assembled_addend}
-use Rattle.tc_asm.specs.Statements.{StatementData, offset_of, statements_in, has_unresolved_symbol}
+use Rattle.tc_asm.specs.Statements.{StatementData, statement_offset, statements_in, has_unresolved_symbol}
 use Rattle.tc_link.specs.Layouts.{PlaceData, LayoutData}
-use Rattle.tc_link.specs.PlaceSizes.{taken_place_size}
+use Rattle.tc_link.specs.PlaceSizes.{used_place_size}
 use Rattle.tc_program.specs.Addresses.{program_sections, SectionHasAddress, GlobalHasAddress, NameHasAddress}
 
 -- ---- bytes
@@ -33,8 +33,8 @@ pub record StatementIsPlaced (places : List PlaceData) (sources : List (List ℕ
   pub base : ℕ
   pub begins : SectionHasAddress places sources number t.section base
   pub bytes : List ℕ
-  pub are : ArePlacedStatementBytes places sources number t (base + offset_of ts index t.section) bytes
-  pub there : HoldsFrom image (base + offset_of ts index t.section) bytes
+  pub are : ArePlacedStatementBytes places sources number t (base + statement_offset ts index t.section) bytes
+  pub there : HoldsBytesFrom image (base + statement_offset ts index t.section) bytes
 
 -- an address in the linked image is within the bytes of a source statement
 pub record IsInPlacedStatement (places : List PlaceData) (sources : List (List ℕ)) (q : ℕ) : Type 0 where
@@ -46,23 +46,23 @@ pub record IsInPlacedStatement (places : List PlaceData) (sources : List (List �
   pub is_statement : slice_get (statements_in source) index ≡ Some statement
   pub base : ℕ
   pub begins : SectionHasAddress places sources number statement.section base
-  pub low : base + offset_of (statements_in source) index statement.section ≤ q
-  pub high : q < base + offset_of (statements_in source) index statement.section + length statement.bytes
+  pub low : base + statement_offset (statements_in source) index statement.section ≤ q
+  pub high : q < base + statement_offset (statements_in source) index statement.section + length statement.bytes
 
 -- ---- images
 -- the address of a segment in an image linked from sources, and the number of its bytes
-pub record PlacedSpanData : Type 0 where
+pub record SegmentRangeData : Type 0 where
   pub at : ℕ
   pub size : ℕ
 
 -- the address of a segment of a placed image, and the number of its bytes
-abbrev pub placed_segment_span : SegmentData → PlacedSpanData
-placed_segment_span s = record { at = s.at; size = length s.bytes }
+abbrev pub segment_range : SegmentData → SegmentRangeData
+segment_range s = record { at = s.at; size = length s.bytes }
 
 -- where an image that was linked from sources has a segment: the address of the layout's place, and
 -- the number of bytes that the sections of its name use
-abbrev pub place_span : List SectionData → PlaceData → PlacedSpanData
-place_span sections p = record { at = p.at; size = taken_place_size p.section sections }
+abbrev pub place_range : List SectionData → PlaceData → SegmentRangeData
+place_range sections p = record { at = p.at; size = used_place_size p.section sections }
 
 -- The image holds the sources, laid out by the layout:
 -- - Each place with bytes is one segment at its address, in the layout's order.
@@ -70,7 +70,7 @@ place_span sections p = record { at = p.at; size = taken_place_size p.section se
 -- - All other bytes are 0.
 -- - The entry is the address of the layout's entry symbol.
 pub record Placed (sources : List (List ℕ)) (layout : LayoutData) (image : ImageData) : Type 0 where
-  pub segments : map placed_segment_span image.segments ≡ filter (λ s. nat_lt 0 s.size) (map (place_span (program_sections sources)) layout.places)
+  pub segments : map segment_range image.segments ≡ filter (λ s. nat_lt 0 s.size) (map (place_range (program_sections sources)) layout.places)
   pub statements : (number index : ℕ) (source : List ℕ) (t : StatementData) → slice_get sources number ≡ Some source → slice_get (statements_in source) index ≡ Some t → 0 < length t.bytes
       → StatementIsPlaced layout.places sources image number index (statements_in source) t
   pub zero : (q b : ℕ) → image_byte image q ≡ Some b → IsInPlacedStatement layout.places sources q ⊎ (b ≡ 0)

@@ -2,7 +2,7 @@
 use Rattle.std.specs.Prelude.{◌≡◌, ◌<◌, ◌+◌, ◌⊎◌, nat_lt, ℕ, true, List, ◌∷◌, length, map, filter, slice_get, Some, Ok, ◌%◌, ◌^◌, []}
 use Rattle.elf_image.specs.Images.{ImageData}
 use Rattle.tc_isa.specs.declared.fields.Fields.{Fields}
-use Rattle.tc_isa.specs.Rows.{RowData, listed}
+use Rattle.tc_isa.specs.Rows.{RowData, table_rows}
 use Rattle.tc_isa.specs.ValidRowFields.{FieldsFitRow}
 use Rattle.tc_isa.specs.Spelling.{spelling}
 use Rattle.tc_isa.specs.Relocations.{is_relocation_kind}
@@ -10,47 +10,47 @@ use Rattle.tc_reloc.specs.Fields.{reloc_field_bound, with_reloc_field}
 use Rattle.tc_stmt.specs.Items.{ReferenceData}
 use Rattle.tc_object.specs.Objects.{ObjectData}
 use Rattle.tc_stmt.specs.Lines.{lines_in}
-use Rattle.tc_asm.specs.DraftedSources.{symbols_of, draft_in, symbols_in}
-use Rattle.tc_asm.specs.Rules.{KeepsRules}
+use Rattle.tc_asm.specs.DraftedSources.{symbols_of_lines, draft_in, symbols_in}
+use Rattle.tc_asm.specs.Rules.{LinesKeepRules}
 use Rattle.tc_asm.specs.Objects.{object_of_draft}
-use Rattle.tc_asm.specs.Statements.{StatementData, offset_of, statements_in}
+use Rattle.tc_asm.specs.Statements.{StatementData, statement_offset, statements_in}
 use Rattle.tc_link.specs.Layouts.{LayoutData, IsLayout, PlaceData}
 use Rattle.tc_link.specs.Linked.{image_of_objects}
 use Rattle.tc_program.specs.Addresses.{program_sections, SectionHasAddress, GlobalHasAddress, NameHasAddress}
-use Rattle.tc_program.specs.Placed.{placed_segment_span, place_span, Placed, placed_symbol_value}
+use Rattle.tc_program.specs.Placed.{segment_range, place_range, Placed, placed_symbol_value}
 use Rattle.tc_asm.specs.InstructionLaws.{InstructionSpellsRow}
 use Rattle.tc_asm.specs.ShortJumpLaws.{short_jump_displacement}
 
 -- what the laws of placement ask of objects: there is one for each source, in order, the source
 -- breaks no rule, and the object is assembled from it
-abbrev pub AreProgramObjects : List (List ℕ) → List ObjectData → Type 0
-AreProgramObjects [] [] = Unit {0}
-AreProgramObjects [] (o ∷ os) = ⊥
-AreProgramObjects (x ∷ xs) [] = ⊥
-AreProgramObjects (x ∷ xs) (o ∷ os) = (KeepsRules (lines_in x) (length (lines_in x)) × (o ≡ object_of_draft (draft_in x))) × AreProgramObjects xs os
+abbrev pub AreAssembledFrom : List (List ℕ) → List ObjectData → Type 0
+AreAssembledFrom [] [] = Unit {0}
+AreAssembledFrom [] (o ∷ os) = ⊥
+AreAssembledFrom (x ∷ xs) [] = ⊥
+AreAssembledFrom (x ∷ xs) (o ∷ os) = (LinesKeepRules (lines_in x) (length (lines_in x)) × (o ≡ object_of_draft (draft_in x))) × AreAssembledFrom xs os
 
 -- law of linking: in an image linked from assembled sources, each place of the layout with bytes is
 -- one segment
 abbrev pub PlacedSegmentsLaw : Type 0
-PlacedSegmentsLaw = (sources : List (List ℕ)) (objects : List ObjectData) (layout : LayoutData) (image : ImageData) → AreProgramObjects sources objects → image_of_objects objects layout ≡ Ok image
-    → map placed_segment_span image.segments ≡ filter (λ s. nat_lt 0 s.size) (map (place_span (program_sections sources)) layout.places)
+PlacedSegmentsLaw = (sources : List (List ℕ)) (objects : List ObjectData) (layout : LayoutData) (image : ImageData) → AreAssembledFrom sources objects → image_of_objects objects layout ≡ Ok image
+    → map segment_range image.segments ≡ filter (λ s. nat_lt 0 s.size) (map (place_range (program_sections sources)) layout.places)
 
 -- law of linking: in an image linked from assembled sources, the entry is the address of the
 -- layout's entry symbol
 abbrev pub PlacedEntryLaw : Type 0
-PlacedEntryLaw = (sources : List (List ℕ)) (objects : List ObjectData) (layout : LayoutData) (image : ImageData) → AreProgramObjects sources objects → image_of_objects objects layout ≡ Ok image
+PlacedEntryLaw = (sources : List (List ℕ)) (objects : List ObjectData) (layout : LayoutData) (image : ImageData) → AreAssembledFrom sources objects → image_of_objects objects layout ≡ Ok image
     → GlobalHasAddress layout.places sources layout.entry image.entry
 
 -- law of linking: an image linked from assembled sources by a layout has each statement's bytes at
 -- its address
 abbrev pub PlacedLaw : Type 0
-PlacedLaw = (sources : List (List ℕ)) (objects : List ObjectData) (layout : LayoutData) (image : ImageData) → IsLayout layout → AreProgramObjects sources objects → image_of_objects objects layout ≡ Ok image
+PlacedLaw = (sources : List (List ℕ)) (objects : List ObjectData) (layout : LayoutData) (image : ImageData) → IsLayout layout → AreAssembledFrom sources objects → image_of_objects objects layout ≡ Ok image
     → Placed sources layout image
 
 -- law of placing a source: the symbols that its jumps of 16 bits are resolved by are those of all
 -- its lines
 abbrev pub SourceSymbolsLaw : Type 0
-SourceSymbolsLaw = (source : List ℕ) → symbols_of (lines_in source) ≡ symbols_in source
+SourceSymbolsLaw = (source : List ℕ) → symbols_of_lines (lines_in source) ≡ symbols_in source
 
 -- ---- filled fields
 -- the law of placing a source, at one statement: the bytes spell an instruction of a listed row,
@@ -58,7 +58,7 @@ SourceSymbolsLaw = (source : List ℕ) → symbols_of (lines_in source) ≡ symb
 pub record SourceFieldFillsRow (kind : ℕ) (bytes : List ℕ) : Type 0 where
   pub place : ℕ
   pub row : RowData
-  pub is_row : slice_get listed place ≡ Some row
+  pub is_row : slice_get table_rows place ≡ Some row
   pub fields : Fields
   pub fits : FieldsFitRow row fields
   pub spelled : bytes ≡ spelling row fields
@@ -84,6 +84,6 @@ pub record PlacedJumpReaches (places : List PlaceData) (sources : List (List ℕ
 -- its name in the source
 abbrev pub PlacedJumpsLaw : Type 0
 PlacedJumpsLaw = (sources : List (List ℕ)) (objects : List ObjectData) (layout : LayoutData) (number index : ℕ) (source : List ℕ) (t : StatementData) (r : ReferenceData) (base : ℕ)
-    → AreProgramObjects sources objects → slice_get sources number ≡ Some source → slice_get (statements_in source) index ≡ Some t → t.reference ≡ Some r → r.kind ≡ 0
+    → AreAssembledFrom sources objects → slice_get sources number ≡ Some source → slice_get (statements_in source) index ≡ Some t → t.reference ≡ Some r → r.kind ≡ 0
     → SectionHasAddress layout.places sources number t.section base
-    → PlacedJumpReaches layout.places sources number r (base + offset_of (statements_in source) index t.section) t.bytes
+    → PlacedJumpReaches layout.places sources number r (base + statement_offset (statements_in source) index t.section) t.bytes

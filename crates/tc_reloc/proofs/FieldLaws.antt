@@ -3,7 +3,7 @@ use Rattle.std.proofs.Common.{◌≡◌, ◌+◌, ◌^◌, ◌<◌, ◌≤◌, �
 use Rattle.std.proofs.lemmas.Bool.Decides.{nat_tests}
 use Rattle.tc_reloc.specs.Refusals.{reloc_value_refusal}
 use Rattle.tc_reloc.specs.Fields.{reloc_field_number, reloc_field_bound, reloc_field_bits, bits_outside_reloc_field}
-use Rattle.tc_reloc.specs.ReachedAddresses.{held_reloc_number, address_reached_by_reloc}
+use Rattle.tc_reloc.specs.ReachedAddresses.{number_in_reloc_field, address_reached_by_reloc}
 use Rattle.tc_reloc.proofs.EachKind.{EachKind, at_kind}
 
 module _ (w k : ℕ) (word : w < 2 ^ 32) where
@@ -27,10 +27,10 @@ module _ (w k : ℕ) (word : w < 2 ^ 32) where
   written_below kind some most = at_kind Fits fits_each kind some most
 
   abbrev Held : ℕ → Type 0
-  Held kind = k < reloc_field_bound kind → held_reloc_number kind (bits_outside_reloc_field kind w + reloc_field_bits kind k) ≡ k
+  Held kind = k < reloc_field_bound kind → number_in_reloc_field kind (bits_outside_reloc_field kind w + reloc_field_bits kind k) ≡ k
 
   held_each : EachKind Held
-  unfolding reloc_field_bound reloc_field_bits bits_outside_reloc_field held_reloc_number
+  unfolding reloc_field_bound reloc_field_bits bits_outside_reloc_field number_in_reloc_field
   held_each = record {
     rel24 = λ h. omega arith;
     abs24 = λ h. omega arith;
@@ -42,7 +42,7 @@ module _ (w k : ℕ) (word : w < 2 ^ 32) where
   }
 
   -- the field holds the number that was written
-  pub held_of-written : (kind : ℕ) → 1 ≤ kind → kind ≤ 7 → k < reloc_field_bound kind → held_reloc_number kind (bits_outside_reloc_field kind w + reloc_field_bits kind k) ≡ k
+  pub held_of-written : (kind : ℕ) → 1 ≤ kind → kind ≤ 7 → k < reloc_field_bound kind → number_in_reloc_field kind (bits_outside_reloc_field kind w + reloc_field_bits kind k) ≡ k
   held_of-written kind some most = at_kind Held held_each kind some most
 
   abbrev Stays : ℕ → Type 0

@@ -8,9 +8,9 @@ use Rattle.tcd_base.specs.Bytes.{word_in_bytes, bytes_of_word, four_bytes}
 use Rattle.tc_isa.specs.declared.fields.Fields.{Fields}
 use Rattle.tc_isa.specs.declared.table.Form.{Form}
 use Rattle.tc_isa.specs.declared.table.Form.TheVariants.{Rlc, Bol, Brr, Brc, B}
-use Rattle.tc_isa.specs.Rows.{RowData, listed, is_long}
-use Rattle.tc_isa.specs.Forms.{bounds, second_bound}
-use Rattle.tc_isa.specs.Spelling.{word_by_form, spelling_of, spelling, word_of}
+use Rattle.tc_isa.specs.Rows.{RowData, table_rows, is_32_bit_row}
+use Rattle.tc_isa.specs.Forms.{field_bounds, second_code_bound}
+use Rattle.tc_isa.specs.Spelling.{word_by_form, four_or_two_bytes, spelling, row_word}
 use Rattle.tc_isa.specs.InBounds.{AreFieldsBelow}
 use Rattle.tc_isa.specs.declared.fields.Uses.{Uses}
 use Rattle.tc_isa.specs.ValidRowFields.{uses_of, are_unused_fields_zero, FieldsFitRow, IsRow}
@@ -25,9 +25,9 @@ unfolding bits_outside_reloc_field reloc_field_bits word_by_form
 jump_word kind op1 op2 n f less (inl e) = let P : ℕ → Type 0 = λ k. bits_outside_reloc_field k (word_by_form B op1 op2 f) + reloc_field_bits k n ≡ word_by_form B op1 op2 (record f { k = n }) in subst P (sym e) (omega arith)
 jump_word kind op1 op2 n f less (inr e) = let P : ℕ → Type 0 = λ k. bits_outside_reloc_field k (word_by_form B op1 op2 f) + reloc_field_bits k n ≡ word_by_form B op1 op2 (record f { k = n }) in subst P (sym e) (omega arith)
 
-filled_word : (form : Form) (kind op1 op2 n : ℕ) (f : Fields) → can_relocation_fill form kind ≡ true → op1 < 2 ^ 8 → op2 < second_bound form → AreFieldsBelow f (bounds form) →
+filled_word : (form : Form) (kind op1 op2 n : ℕ) (f : Fields) → can_relocation_fill form kind ≡ true → op1 < 2 ^ 8 → op2 < second_code_bound form → AreFieldsBelow f (field_bounds form) →
     bits_outside_reloc_field kind (word_by_form form op1 op2 f) + reloc_field_bits kind n ≡ word_by_form form op1 op2 (record f { k = n })
-unfolding bits_outside_reloc_field reloc_field_bits word_by_form bounds second_bound can_relocation_fill
+unfolding bits_outside_reloc_field reloc_field_bits word_by_form field_bounds second_code_bound can_relocation_fill
 filled_word B kind op1 op2 n f e less small below = by (or_cases (kind == 1) (kind == 2) e)
   where
     by : (kind == 1 ≡ true) ⊎ (kind == 2 ≡ true) → bits_outside_reloc_field kind (word_by_form B op1 op2 f) + reloc_field_bits kind n ≡ word_by_form B op1 op2 (record f { k = n })
@@ -70,8 +70,8 @@ word_bytes w small =
     ap (λ n. w % 256 ∷ w / 2 ^ 8 % 256 ∷ w / 2 ^ 16 % 256 ∷ n ∷ []) last
 
 -- a word with a number that the field holds is a word
-room_below : (form : Form) (kind op1 op2 n : ℕ) (f : Fields) → can_relocation_fill form kind ≡ true → op1 < 2 ^ 8 → op2 < second_bound form → AreFieldsBelow f (bounds form) → n < reloc_field_bound kind → word_by_form form op1 op2 (record f { k = n }) < 2 ^ 32
-unfolding word_by_form bounds second_bound can_relocation_fill reloc_field_bound
+room_below : (form : Form) (kind op1 op2 n : ℕ) (f : Fields) → can_relocation_fill form kind ≡ true → op1 < 2 ^ 8 → op2 < second_code_bound form → AreFieldsBelow f (field_bounds form) → n < reloc_field_bound kind → word_by_form form op1 op2 (record f { k = n }) < 2 ^ 32
+unfolding word_by_form field_bounds second_code_bound can_relocation_fill reloc_field_bound
 room_below B kind op1 op2 n f e less small below room = by (or_cases (kind == 1) (kind == 2) e)
   where
     P : ℕ → Type 0
@@ -112,14 +112,14 @@ filled_bytes kind w v n same small =
     ∙ ap bytes_of_word same
     ∙ word_bytes v small
 
-pub filled_row : (row : RowData) (f : Fields) (kind n : ℕ) → IsRow row → FieldsFitRow row f → is_long row ≡ true → can_relocation_fill row.form kind ≡ true → n < reloc_field_bound kind → with_reloc_field kind (spelling row f) n ≡ spelling row (record f { k = n })
+pub filled_row : (row : RowData) (f : Fields) (kind n : ℕ) → IsRow row → FieldsFitRow row f → is_32_bit_row row ≡ true → can_relocation_fill row.form kind ≡ true → n < reloc_field_bound kind → with_reloc_field kind (spelling row f) n ≡ spelling row (record f { k = n })
 filled_row row f kind n is fit long suited room =
     let first = is.first in
     let less : row.op1 < 2 ^ 8 = omega arith in
-    ap (λ b. with_reloc_field kind (spelling_of b (word_of row f)) n) long
-    ∙ filled_bytes kind (word_of row f) (word_of row (record f { k = n })) n (filled_word row.form kind row.op1 row.op2 n f suited less is.second fit.below)
+    ap (λ b. with_reloc_field kind (four_or_two_bytes b (row_word row f)) n) long
+    ∙ filled_bytes kind (row_word row f) (row_word row (record f { k = n })) n (filled_word row.form kind row.op1 row.op2 n f suited less is.second fit.below)
     (room_below row.form kind row.op1 row.op2 n f suited less is.second fit.below room)
-    ∙ ap (λ b. spelling_of b (word_of row (record f { k = n }))) (sym long)
+    ∙ ap (λ b. four_or_two_bytes b (row_word row (record f { k = n }))) (sym long)
 
 -- every row of these forms has a constant
 abbrev takes_field : Form → Bool
@@ -128,7 +128,7 @@ takes_field form = can_relocation_fill form 1 || can_relocation_fill form 3 || c
 abbrev has_constant : RowData → Bool
 has_constant r = not (takes_field r.form) || (uses_of r).k
 
-all_have : list_all has_constant listed ≡ true
+all_have : list_all has_constant table_rows ≡ true
 unfolding can_relocation_fill
 all_have = refl
 
@@ -146,35 +146,35 @@ passes_at p [] k x all e = cc
 passes_at {A} p (y ∷ ys) zero x all e = let same : y ≡ x = cc in ap p (sym same) ∙ (and_parts (p y) (list_all p ys) all).0
 passes_at p (y ∷ ys) (suc k) x all e = passes_at p ys k x (and_parts (p y) (list_all p ys) all).1 e
 
-constant_used : (place : ℕ) (row : RowData) (kind : ℕ) → slice_get listed place ≡ Some row → can_relocation_fill row.form kind ≡ true → (uses_of row).k ≡ true
-constant_used place row kind at e = by (takes_field row.form) (uses_of row).k (field_taken row.form kind e) (passes_at has_constant listed place row all_have at)
+constant_used : (place : ℕ) (row : RowData) (kind : ℕ) → slice_get table_rows place ≡ Some row → can_relocation_fill row.form kind ≡ true → (uses_of row).k ≡ true
+constant_used place row kind at e = by (takes_field row.form) (uses_of row).k (field_taken row.form kind e) (passes_at has_constant table_rows place row all_have at)
   where
     by : (a b : Bool) → a ≡ true → (not a || b) ≡ true → b ≡ true
     by true b h g = g
     by false b h g = cc
 
 -- and as wide a field as the relocation fills
-constant_fits : (form : Form) (kind n : ℕ) → can_relocation_fill form kind ≡ true → n < reloc_field_bound kind → n < (bounds form).k
-unfolding can_relocation_fill reloc_field_bound bounds
+constant_fits : (form : Form) (kind n : ℕ) → can_relocation_fill form kind ≡ true → n < reloc_field_bound kind → n < (field_bounds form).k
+unfolding can_relocation_fill reloc_field_bound field_bounds
 constant_fits B kind n e room = by (or_cases (kind == 1) (kind == 2) e)
   where
     P : ℕ → Type 0
-    P i = n < reloc_field_bound i → n < (bounds B).k
+    P i = n < reloc_field_bound i → n < (field_bounds B).k
 
-    by : (kind == 1 ≡ true) ⊎ (kind == 2 ≡ true) → n < (bounds B).k
+    by : (kind == 1 ≡ true) ⊎ (kind == 2 ≡ true) → n < (field_bounds B).k
     by (inl h) = subst P (sym ((Decides-eqb kind 1).0 h)) (λ r. r) room
     by (inr h) = subst P (sym ((Decides-eqb kind 2).0 h)) (λ r. r) room
-constant_fits Brr kind n e room = let P : ℕ → Type 0 = λ i. n < reloc_field_bound i → n < (bounds Brr).k in subst P (sym ((Decides-eqb kind 3).0 e)) (λ r. omega arith) room
-constant_fits Brc kind n e room = let P : ℕ → Type 0 = λ i. n < reloc_field_bound i → n < (bounds Brc).k in subst P (sym ((Decides-eqb kind 3).0 e)) (λ r. omega arith) room
+constant_fits Brr kind n e room = let P : ℕ → Type 0 = λ i. n < reloc_field_bound i → n < (field_bounds Brr).k in subst P (sym ((Decides-eqb kind 3).0 e)) (λ r. omega arith) room
+constant_fits Brc kind n e room = let P : ℕ → Type 0 = λ i. n < reloc_field_bound i → n < (field_bounds Brc).k in subst P (sym ((Decides-eqb kind 3).0 e)) (λ r. omega arith) room
 constant_fits Rlc kind n e room = by (or_cases (kind == 4) (kind == 5) e)
   where
     P : ℕ → Type 0
-    P i = n < reloc_field_bound i → n < (bounds Rlc).k
+    P i = n < reloc_field_bound i → n < (field_bounds Rlc).k
 
-    by : (kind == 4 ≡ true) ⊎ (kind == 5 ≡ true) → n < (bounds Rlc).k
+    by : (kind == 4 ≡ true) ⊎ (kind == 5 ≡ true) → n < (field_bounds Rlc).k
     by (inl h) = subst P (sym ((Decides-eqb kind 4).0 h)) (λ r. omega arith) room
     by (inr h) = subst P (sym ((Decides-eqb kind 5).0 h)) (λ r. omega arith) room
-constant_fits Bol kind n e room = let P : ℕ → Type 0 = λ i. n < reloc_field_bound i → n < (bounds Bol).k in subst P (sym ((Decides-eqb kind 6).0 e)) (λ r. omega arith) room
+constant_fits Bol kind n e room = let P : ℕ → Type 0 = λ i. n < reloc_field_bound i → n < (field_bounds Bol).k in subst P (sym ((Decides-eqb kind 6).0 e)) (λ r. omega arith) room
 constant_fits _ kind n e room = cc
 
 -- a constant that the row has may be any number
@@ -185,7 +185,7 @@ zero_with u f n h z = by u.k (f.k == 0) (n == 0) (u.c || f.c == 0) (u.s1 || f.s1
     by true a b p q r s h z = z
     by false a b p q r s h z = cc
 
-pub filled_fits : (place : ℕ) (row : RowData) (f : Fields) (kind n : ℕ) → slice_get listed place ≡ Some row → FieldsFitRow row f → can_relocation_fill row.form kind ≡ true → n < reloc_field_bound kind → FieldsFitRow row (record f { k = n })
+pub filled_fits : (place : ℕ) (row : RowData) (f : Fields) (kind n : ℕ) → slice_get table_rows place ≡ Some row → FieldsFitRow row f → can_relocation_fill row.form kind ≡ true → n < reloc_field_bound kind → FieldsFitRow row (record f { k = n })
 filled_fits place row f kind n at fit suited room = record {
   below = record { c = fit.below.c; s1 = fit.below.s1; s2 = fit.below.s2; n = fit.below.n; k = constant_fits row.form kind n suited room };
   zero = zero_with (uses_of row) f n (constant_used place row kind at suited) fit.zero;

@@ -1,7 +1,7 @@
 -- Relocations and the instructions whose constants they fill.
 use Rattle.std.specs.Prelude.{◌≡◌, ◌<◌, ℕ, true, slice_get, Some}
 use Rattle.tc_isa.specs.declared.fields.Fields.{Fields}
-use Rattle.tc_isa.specs.Rows.{RowData, listed, is_long}
+use Rattle.tc_isa.specs.Rows.{RowData, table_rows, is_32_bit_row}
 use Rattle.tc_isa.specs.ValidRowFields.{FieldsFitRow}
 use Rattle.tc_isa.specs.Spelling.{spelling}
 use Rattle.tc_isa.specs.Relocations.{can_relocation_fill}
@@ -14,9 +14,9 @@ with_filled_constant f n = record f { k = n }
 -- if the field of a relocation can hold a number, writing it there changes the constant of the
 -- instruction and nothing else
 abbrev pub FilledConstantLaw : Type 0
-FilledConstantLaw = (place : ℕ) (row : RowData) (f : Fields) (kind n : ℕ) → slice_get listed place ≡ Some row → FieldsFitRow row f → is_long row ≡ true → can_relocation_fill row.form kind ≡ true → n < reloc_field_bound kind
+FilledConstantLaw = (place : ℕ) (row : RowData) (f : Fields) (kind n : ℕ) → slice_get table_rows place ≡ Some row → FieldsFitRow row f → is_32_bit_row row ≡ true → can_relocation_fill row.form kind ≡ true → n < reloc_field_bound kind
     → with_reloc_field kind (spelling row f) n ≡ spelling row (with_filled_constant f n)
 
 -- if the field of a relocation can hold a number, the instruction with that constant is valid
 abbrev pub FilledRowFitsLaw : Type 0
-FilledRowFitsLaw = (place : ℕ) (row : RowData) (f : Fields) (kind n : ℕ) → slice_get listed place ≡ Some row → FieldsFitRow row f → can_relocation_fill row.form kind ≡ true → n < reloc_field_bound kind → FieldsFitRow row (with_filled_constant f n)
+FilledRowFitsLaw = (place : ℕ) (row : RowData) (f : Fields) (kind n : ℕ) → slice_get table_rows place ≡ Some row → FieldsFitRow row f → can_relocation_fill row.form kind ≡ true → n < reloc_field_bound kind → FieldsFitRow row (with_filled_constant f n)

@@ -5,8 +5,8 @@ use Rattle.tcd_base.specs.BitFields.{sext_of}
 use Rattle.tc_reloc.specs.Fields.{reloc_field_number}
 
 -- the number that a written field of a word holds, with which its instruction reaches an address
-unfoldable pub held_reloc_number : ℕ → ℕ → ℕ
-held_reloc_number kind w =
+unfoldable pub number_in_reloc_field : ℕ → ℕ → ℕ
+number_in_reloc_field kind w =
     if kind == rel24 || kind == abs24 then w / 2 ^ 16 + w / 2 ^ 8 % 2 ^ 8 * 2 ^ 16
     else if kind == rel15 then w / 2 ^ 16 % 2 ^ 15
     else if kind == hi16 || kind == lo16 then w / 2 ^ 12 % 2 ^ 16

@@ -2,7 +2,7 @@
 ghost use Rattle.std.specs.Prelude.{◌≡◌, ◌≤◌, ◌+◌, OnOk, IfOk};
 ghost use Rattle.tcd_base.specs.Bytes.{word_in_bytes};
 ghost use Rattle.tc_reloc.specs.Fields.{reloc_field_number, bits_outside_reloc_field, reloc_field_bits};
-ghost use Rattle.tc_reloc.specs.ReachedAddresses.{held_reloc_number, address_reached_by_reloc};
+ghost use Rattle.tc_reloc.specs.ReachedAddresses.{number_in_reloc_field, address_reached_by_reloc};
 ghost use Rattle.tc_reloc.specs.Applied.{filled_reloc_field};
 
 use crate::fields::{bits_outside_reloc_field, reloc_field_bits, reloc_field_number};
@@ -20,7 +20,7 @@ pub fn apply(kind: u8, field: [u8; 4], place: u32, value: u32) -> Result<[u8; 4]
     ensures applied { result ≡ filled_reloc_field kind field place value }
 
     // The field holds the number that reaches the value, and all bits outside it keep their values.
-    ensures held { IfOk result (λ new. held_reloc_number kind (word_in_bytes new 0)
+    ensures held { IfOk result (λ new. number_in_reloc_field kind (word_in_bytes new 0)
         ≡ reloc_field_number kind place value) }
     ensures reached { OnOk result
         (address_reached_by_reloc kind place value (reloc_field_number kind place value) ≡ value) }

@@ -3,7 +3,7 @@ use Rattle.std.proofs.Common.{◌≡◌, ◌≢◌, ℕ, zero, suc, ◌+◌, ◌
 use Rattle.std.specs.Bool.{OnTrue}
 use Rattle.std.specs.Option.{option_map}
 use Rattle.std.proofs.lemmas.Bool.{cond_both, cond-true, cond-false, eqb-false}
-use Rattle.csa_chain.specs.MemoryBytes.{Memory, with_words, with_bytes, loaded_number, extend_loaded_bytes}
+use Rattle.csa_chain.specs.MemoryBytes.{Memory, with_words, with_bytes, loaded_number, load_result}
 use Rattle.csa_chain.specs.Chain.{link_in, link_address, is_area, area_word, chain}
 use Rattle.csa_chain.specs.ChainLaws.{MissesAreas}
 use Rattle.csa_chain.specs.ContextWords.{pcxi_word_of}
@@ -24,9 +24,9 @@ use Rattle.tc_machine.specs.declared.events.End.TheVariants.{Running, Dead}
 use Rattle.tc_machine.specs.declared.state.Machine.{Machine}
 use Rattle.tc_machine.specs.Machine.{reg, with_reg, dead_machine, if_running, if_end_running, psw_with_status}
 use Rattle.tc_machine.specs.Instructions.{with_pc_advanced, does, misaligned_access_trap, with_base_incremented, access_address, is_trapping_access}
-use Rattle.tc_machine.specs.Stepping.{is_interrupt_taken, after_found_instruction, machine_after_event, step, used_area_count}
-use Rattle.tc_machine.specs.Handlers.{interrupt}
-use Rattle.tc_machine.specs.SavesAndRestores.{context_of, with_context_saved, save, has_kind, with_context_restored, restore}
+use Rattle.tc_machine.specs.Stepping.{is_interrupt_taken, after_fetch_result, machine_after_event, step, used_area_count}
+use Rattle.tc_machine.specs.Handlers.{after_interrupt}
+use Rattle.tc_machine.specs.SavesAndRestores.{context_of, with_context_saved, save, is_last_context_of_kind, with_context_restored, restore}
 use Rattle.tc_machine.specs.Fetching.{fetched_instruction, mapped_bytes, fetched_shape}
 use Rattle.tc_machine.specs.InstructionKinds.{is_area_keeping_shape}
 use Rattle.tc_machine.proofs.Kept.{Same, same_does}
@@ -242,16 +242,16 @@ unfolding restore
 restore_running m upper run =
     let l = link_in m.pcxi in
     let there = cond (is_area m.mem l) (with_context_restored m upper) (dead_machine NoArea m) in
-    elim (l == 0) as (λ t. l == 0 ≡ t → (cond t (dead_machine Csu m) (cond (has_kind m upper) there (dead_machine Ctyp m))).end ≡ Running → DoesRestore m upper) [
+    elim (l == 0) as (λ t. l == 0 ≡ t → (cond t (dead_machine Csu m) (cond (is_last_context_of_kind m upper) there (dead_machine Ctyp m))).end ≡ Running → DoesRestore m upper) [
       | true ↦ λ e h. dead_running Csu h
       | false ↦ λ e.
-          elim (has_kind m upper) as (λ t. has_kind m upper ≡ t → (cond t there (dead_machine Ctyp m)).end ≡ Running → DoesRestore m upper) [
+          elim (is_last_context_of_kind m upper) as (λ t. is_last_context_of_kind m upper ≡ t → (cond t there (dead_machine Ctyp m)).end ≡ Running → DoesRestore m upper) [
             | true ↦ λ kind.
                 elim (is_area m.mem l) as (λ t. is_area m.mem l ≡ t → (cond t (with_context_restored m upper) (dead_machine NoArea m)).end ≡ Running → DoesRestore m upper) [
                   | true ↦ λ here h. record {
                     some = eqb-false _ _ e;
                     is =
-                        ap (λ t. cond t (dead_machine Csu m) (cond (has_kind m upper) there (dead_machine Ctyp m))) e
+                        ap (λ t. cond t (dead_machine Csu m) (cond (is_last_context_of_kind m upper) there (dead_machine Ctyp m))) e
                         ∙ ap (λ t. cond t there (dead_machine Ctyp m)) kind
                         ∙ ap (λ t. cond t (with_context_restored m upper) (dead_machine NoArea m)) here;
                   }
@@ -273,7 +273,7 @@ restores_then m upper next keeps run =
       pcxi = ap (λ (n : Machine). n.pcxi) both.1 ∙ same.pcxi ∙ ap (λ (n : Machine). n.pcxi) s.is;
     }
 
-pub interrupt_saves : (m : Machine) (irq : ℕ) → (interrupt m irq).end ≡ Running → SavesContext m (interrupt m irq)
+pub interrupt_saves : (m : Machine) (irq : ℕ) → (after_interrupt m irq).end ≡ Running → SavesContext m (after_interrupt m irq)
 interrupt_saves m irq run = saves_then m true _ (λ s. record { mem = refl; pcxi = refl }) run
 
 misaligned_saves : (m : Machine) → (misaligned_access_trap m).end ≡ Running → SavesContext m (misaligned_access_trap m)
@@ -304,7 +304,7 @@ module _ (m : Machine) (e : Event) where
   unfolding does
   load_same dst base offset size signed after n t =
       let b = same_base base offset after in
-      let loaded = extend_loaded_bytes signed size (loaded_number m.mem e.input (access_address m base offset after) size) in
+      let loaded = load_result signed size (loaded_number m.mem e.input (access_address m base offset after) size) in
       let r = same_reg (with_base_incremented m base offset after) dst loaded in
       let is : does m e (Load dst base offset size signed after) n ≡ with_pc_advanced n (with_reg (with_base_incremented m base offset after) dst loaded) = cond-false _ _ _ t in
       subst (Same m) (sym is) (record { mem = r.mem ∙ b.mem; pcxi = r.pcxi ∙ b.pcxi })
@@ -417,7 +417,7 @@ went m e here run =
 pub told_interrupt : (effect : Effect) (u : AreasUsed) (m : Machine) (e : Event) → m.end ≡ Running → is_interrupt_taken m e ≡ true → ((after : Machine) → SavesContext m after → AreaEffectHolds effect u after) → (step m e).end ≡ Running → AreaEffectHolds effect u (step m e)
 told_interrupt effect u m e here taken tells run =
     let w = went m e here run in
-    let is : machine_after_event m e ≡ interrupt m e.irq = cond-true _ _ _ taken in
+    let is : machine_after_event m e ≡ after_interrupt m e.irq = cond-true _ _ _ taken in
     told_same effect u (machine_after_event m e) (step m e) w.same (tells (machine_after_event m e) (subst (SavesContext m) (sym is) (interrupt_saves m e.irq (subst (λ (k : Machine). k.end ≡ Running) is w.running))))
 
 -- the instruction at pc
@@ -428,10 +428,10 @@ told_found effect u m e shape n here free at tells run =
     let found = fetched_shape (decoded_of (mapped_bytes 4 m.mem m.pc)) in
     elim (m.pc % 2 == 0) as (λ t. m.pc % 2 == 0 ≡ t → AreaEffectHolds effect u (step m e)) [
       | true ↦ λ even.
-          let is : machine_after_event m e ≡ does m e shape n = cond-false _ _ _ free ∙ ap (λ t. after_found_instruction m e (cond t found (Err NoCode))) even ∙ ap (after_found_instruction m e) (sym at) in
+          let is : machine_after_event m e ≡ does m e shape n = cond-false _ _ _ free ∙ ap (λ t. after_fetch_result m e (cond t found (Err NoCode))) even ∙ ap (after_fetch_result m e) (sym at) in
           told_same effect u (machine_after_event m e) (step m e) w.same (subst (AreaEffectHolds effect u) (sym is) (tells (subst (λ (k : Machine). k.end ≡ Running) is w.running)))
       | false ↦ λ odd.
-          let is : machine_after_event m e ≡ dead_machine NoCode m = cond-false _ _ _ free ∙ ap (λ t. after_found_instruction m e (cond t found (Err NoCode))) odd in
+          let is : machine_after_event m e ≡ dead_machine NoCode m = cond-false _ _ _ free ∙ ap (λ t. after_fetch_result m e (cond t found (Err NoCode))) odd in
           dead_running NoCode (ap (λ (k : Machine). k.end) (sym is) ∙ w.running)
     ] refl
 

@@ -20,7 +20,7 @@ use Rattle.tc_script.specs.declared.statements.Statement.TheVariants.{Step, Irq,
 use Rattle.tc_script.specs.Numbers.{script_number}
 use Rattle.tc_script.specs.Statements.{statement_if, statement_of_one_number, statement_of_three_numbers, script_statement_of, statement_of_one_word, HasOrderedBounds}
 use Rattle.tc_script.specs.ScriptsFitPlans.{AreAnswerBoundsInside, FitsPlan}
-use Rattle.tc_script.specs.ScriptText.{empty_script_draft, with_turns, may_set_bounds, with_bounds, script_draft_after_statement, script_draft_after_parsed_line, script_draft_after_line, then_read_script, script_draft_after_lines}
+use Rattle.tc_script.specs.ScriptText.{initial_script_draft, with_turns, may_set_bounds, with_bounds, script_draft_after_statement, script_draft_after_parsed_line, script_draft_after_line, draft_and_then, script_draft_after_lines}
 use Rattle.tc_script.specs.Ports.{initial_answer_bounds}
 
 -- ---- bounds in order
@@ -115,7 +115,7 @@ said_fits : (plan : PlanData) (line : ℕ) (o : Option Statement) (d : Draft) �
 said_fits plan line None d ordered h = tt
 said_fits plan line (Some said) d ordered h = stated_fits plan line said d ordered h
 
-then_fits : (plan : PlanData) (r : Result Draft ScriptErr) (next : Draft → Result Draft ScriptErr) → FitsIf plan r → ((d : Draft) → Fits plan d → FitsIf plan (next d)) → FitsIf plan (then_read_script r next)
+then_fits : (plan : PlanData) (r : Result Draft ScriptErr) (next : Draft → Result Draft ScriptErr) → FitsIf plan r → ((d : Draft) → Fits plan d → FitsIf plan (next d)) → FitsIf plan (draft_and_then r next)
 then_fits plan (Ok d) next h more = more d h
 then_fits plan (Err e) next h more = tt
 
@@ -134,9 +134,9 @@ own_inside (d ∷ ds) all =
     let lies = leb-true d.lo d.hi more.1 in
     ((omega arith, omega arith, lies), own_inside ds both.1)
 
-begun_fits : (plan : PlanData) → IsPlan plan → Fits plan (empty_script_draft plan)
+begun_fits : (plan : PlanData) → IsPlan plan → Fits plan (initial_script_draft plan)
 begun_fits plan ok = record { sources = All-nil (λ turn. (turn.irq ≡ 0) ⊎ Contains plan.irqs turn.irq); devices = length-map plan.devices initial_answer_bounds; bounds = own_inside plan.devices ok.ranges.devices }
 
 -- the script that is read fits the plan
-pub script_fits : (plan : PlanData) (lines : List (List ℕ)) (d : Draft) → IsPlan plan → script_draft_after_lines plan 1 lines (empty_script_draft plan) ≡ Ok d → FitsPlan plan d.script
-script_fits plan lines d ok is = subst (FitsIf plan) is (lines_fit plan 1 lines (empty_script_draft plan) (begun_fits plan ok))
+pub script_fits : (plan : PlanData) (lines : List (List ℕ)) (d : Draft) → IsPlan plan → script_draft_after_lines plan 1 lines (initial_script_draft plan) ≡ Ok d → FitsPlan plan d.script
+script_fits plan lines d ok is = subst (FitsIf plan) is (lines_fit plan 1 lines (initial_script_draft plan) (begun_fits plan ok))

@@ -5,7 +5,7 @@ use Rattle.std.specs.Option.{option_eq}
 use Rattle.std.proofs.lemmas.Bool.{eqb-true, false≢true}
 use Rattle.std.proofs.lemmas.List.{get_or_default}
 use Rattle.std.proofs.lemmas.Grind.{get_or-set_at}
-use Rattle.csa_chain.specs.MemoryBytes.{Memory, HasBytes}
+use Rattle.csa_chain.specs.MemoryBytes.{Memory, HasOnlyBytes}
 use Rattle.tcd_base.specs.Bytes.{bytes_of_word}
 use Rattle.tc_isa.specs.declared.shapes.Shape.{Shape}
 use Rattle.tc_mem.specs.Blocks.{mapped_block_word}
@@ -30,7 +30,7 @@ pub put_stands : (words : List KnownWord) (place : ℕ) (k : KnownWord) (bytes :
 put_stands words place k bytes within does behind = subst (λ (it : KnownWord). IsDecodedShapeOf it.found bytes) (sym (get_or-set_at words place place k behind refl within)) does
 
 -- the word at an address is known at a place, so the place has what the bytes there do
-pub known_there : (words : List KnownWord) (place : ℕ) (d : KnownWord) (m : Memory) (x w : ℕ) → All IsKnownWord words → place < length words → (get_or words place d).word ≡ Some w → HasBytes m → x < 2 ^ 32 →
+pub known_there : (words : List KnownWord) (place : ℕ) (d : KnownWord) (m : Memory) (x w : ℕ) → All IsKnownWord words → place < length words → (get_or words place d).word ≡ Some w → HasOnlyBytes m → x < 2 ^ 32 →
     Some w ≡ mapped_block_word m x → HasDecodedShapeAt words place (mapped_bytes 4 m x)
 known_there words place d m x w known within is bytes small there behind =
     let k = get_or words place d in

@@ -13,8 +13,8 @@ use Rattle.tc_script.specs.Statements.{script_statement_of}
 use Rattle.tc_script.specs.Ports.{initial_answer_bounds}
 
 -- before the first line: no turns, each peripheral's first bounds, and no misaligned access traps
-abbrev pub empty_script_draft : PlanData → Draft
-empty_script_draft plan = record { script = record { turns = []; bounds = map initial_answer_bounds plan.devices }; aln = false }
+abbrev pub initial_script_draft : PlanData → Draft
+initial_script_draft plan = record { script = record { turns = []; bounds = map initial_answer_bounds plan.devices }; aln = false }
 
 -- n more turns with this interrupt, on the line with this number
 abbrev pub with_turns : ℕ → ℕ → ℕ → Draft → Result Draft ScriptErr
@@ -51,14 +51,14 @@ abbrev pub script_draft_after_line : PlanData → ℕ → List ℕ → Draft →
 script_draft_after_line plan number line d = script_draft_after_parsed_line plan number (script_statement_of (line_words line)) d
 
 -- what is read next of a script, if no line was refused
-abbrev pub then_read_script : Result Draft ScriptErr → (Draft → Result Draft ScriptErr) → Result Draft ScriptErr
-then_read_script (Ok d) next = next d
-then_read_script (Err e) next = Err e
+abbrev pub draft_and_then : Result Draft ScriptErr → (Draft → Result Draft ScriptErr) → Result Draft ScriptErr
+draft_and_then (Ok d) next = next d
+draft_and_then (Err e) next = Err e
 
 -- the draft after lines, the first with this number
 unfoldable pub script_draft_after_lines : PlanData → ℕ → List (List ℕ) → Draft → Result Draft ScriptErr
 script_draft_after_lines plan number [] d = Ok d
-script_draft_after_lines plan number (line ∷ lines) d = then_read_script (script_draft_after_line plan number line d) (λ d. script_draft_after_lines plan (number + 1) lines d)
+script_draft_after_lines plan number (line ∷ lines) d = draft_and_then (script_draft_after_line plan number line d) (λ d. script_draft_after_lines plan (number + 1) lines d)
 
 -- the script that the lines give, or their refusal
 abbrev pub script_of_draft : Result Draft ScriptErr → Result ScriptData ScriptErr
@@ -67,22 +67,22 @@ script_of_draft (Err e) = Err e
 
 -- the script that the bytes of a file give, or the refusal of the first bad line
 abbrev pub script_of : PlanData → List ℕ → Result ScriptData ScriptErr
-script_of plan bytes = script_of_draft (script_draft_after_lines plan 1 (text_lines bytes) (empty_script_draft plan))
+script_of plan bytes = script_of_draft (script_draft_after_lines plan 1 (text_lines bytes) (initial_script_draft plan))
 
 -- a refusal; out of memory is always possible
-abbrev pub RefusesScript : {A : Type 0} → ScriptErr → Result A ScriptErr → Type 0
-RefusesScript (BadLine n) answer = answer ≡ Err (BadLine n)
-RefusesScript (NoSource n) answer = answer ≡ Err (NoSource n)
-RefusesScript (OutOfRange n) answer = answer ≡ Err (OutOfRange n)
-RefusesScript (TooMany n) answer = answer ≡ Err (TooMany n)
-RefusesScript NoMemory answer = Unit {0}
+abbrev pub IsAllowedScriptErr : {A : Type 0} → ScriptErr → Result A ScriptErr → Type 0
+IsAllowedScriptErr (BadLine n) answer = answer ≡ Err (BadLine n)
+IsAllowedScriptErr (NoSource n) answer = answer ≡ Err (NoSource n)
+IsAllowedScriptErr (OutOfRange n) answer = answer ≡ Err (OutOfRange n)
+IsAllowedScriptErr (TooMany n) answer = answer ≡ Err (TooMany n)
+IsAllowedScriptErr NoMemory answer = Unit {0}
 
 -- the draft of a script that is changed in place, or a refusal of the script
 abbrev pub GivesScriptDraft : Result Unit ScriptErr → Draft → Result Draft ScriptErr → Type 0
 GivesScriptDraft (Ok done) new answer = answer ≡ Ok new
-GivesScriptDraft (Err e) new answer = RefusesScript e answer
+GivesScriptDraft (Err e) new answer = IsAllowedScriptErr e answer
 
 -- a script, or a refusal
 abbrev pub GivesScript : Result ScriptData ScriptErr → Result ScriptData ScriptErr → Type 0
 GivesScript (Ok script) answer = answer ≡ Ok script
-GivesScript (Err e) answer = RefusesScript e answer
+GivesScript (Err e) answer = IsAllowedScriptErr e answer

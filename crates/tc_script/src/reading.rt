@@ -3,7 +3,7 @@ ghost use Rattle.std.specs.Prelude.{◌≡◌, ◌<◌, ◌≤◌, ◌^◌, IsTr
 ghost use Rattle.tcd_plan.specs.PlanData.{IsPlan, is_plan_irq};
 ghost use Rattle.tc_script.specs.ScriptsFitPlans.{FitsPlan};
 ghost use Rattle.tc_script.specs.Statements.{HasOrderedBounds};
-ghost use Rattle.tc_script.specs.ScriptText.{empty_script_draft, with_turns, may_set_bounds, with_bounds, script_draft_after_statement, script_draft_after_line, GivesScriptDraft, script_of, GivesScript};
+ghost use Rattle.tc_script.specs.ScriptText.{initial_script_draft, with_turns, may_set_bounds, with_bounds, script_draft_after_statement, script_draft_after_line, GivesScriptDraft, script_of, GivesScript};
 ghost use Rattle.tc_script.specs.Ports.{initial_answer_bounds};
 
 use crate::statements::{Statement, script_statement_in};
@@ -57,7 +57,7 @@ fn may_set_bounds(devices: &[Device], device: usize, lo: u32, hi: u32) -> bool
 impl Draft {
     /// Returns the draft of a script before its first line is read.
     fn new(alloc: Global, plan: &Plan) -> Draft
-        ensures begun { result ≡ empty_script_draft plan.now }
+        ensures begun { result ≡ initial_script_draft plan.now }
         ensures plan { IsPlan plan.now }
     {
         Draft {

@@ -9,7 +9,7 @@ use Rattle.std.proofs.lemmas.List.Splits.{length-slice_split}
 use Rattle.std.proofs.lemmas.List.Sums.{count_by-le-length}
 use Rattle.tc_lex.specs.declared.kinds.Token.{Token}
 use Rattle.tc_lex.specs.declared.kinds.TokenKind.TheVariants as kind
-use Rattle.tc_lex.specs.Cut.{tokens_of, IsCutFault, AreTokens}
+use Rattle.tc_lex.specs.Cut.{tokens_of, IsTokenFault, AreTokens}
 use Rattle.tc_lex.proofs.LineLaws.{cut_reads, fault_reads}
 use Rattle.tc_lex.specs.Pieces.{PieceData, is_token_kind, token_text}
 use Rattle.tc_lex.specs.Operands.{OperandData, operand, operands, is_comma}
@@ -99,7 +99,7 @@ tokens_within : (line : List ℕ) (low stop : ℕ) (ts : List Token) → AreToke
 tokens_within line low stop [] h = h.within
 tokens_within line low stop (t ∷ ts) h = tokens_within line t.to stop ts h.1
 
-fault_within : (line : List ℕ) (at : ℕ) → IsCutFault line 0 64 at → at ≤ length line
+fault_within : (line : List ℕ) (at : ℕ) → IsTokenFault line 0 64 at → at ≤ length line
 fault_within line at h = tokens_within line 0 at h.before h.tokens
 
 pub uncut_within : (line : List ℕ) (at : ℕ) → tokens_of line ≡ Err at → at ≤ length line

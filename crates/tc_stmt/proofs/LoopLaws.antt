@@ -11,7 +11,7 @@ use Rattle.tc_lex.specs.declared.operand.Operand.{Operand}
 use Rattle.tc_lex.specs.Operands.{operand_of}
 use Rattle.tc_stmt.specs.DataValues.{value_rule, space_rule, space_item}
 use Rattle.tc_stmt.specs.Items.{zeros}
-use Rattle.tc_stmt.specs.Lines.{line_data, is_named_line_operand, only_operand_name, space_line}
+use Rattle.tc_stmt.specs.Lines.{line_data, is_unbracketed_name, only_operand_name, space_line}
 use Rattle.tc_lex.proofs.Parted.{none_from}
 
 -- a further item at the end of a mapped start of a list
@@ -35,7 +35,7 @@ rule_more width os i d first rule next value within e is so_far =
 
 -- ---- a list of one operand
 pub word_of-one : (os : List Operand) (d : Operand) → length os ≡ 1
-    → only_operand_name (map operand_of os) ≡ cond (is_named_line_operand (operand_of (get_or os 0 d))) (Some (operand_of (get_or os 0 d)).value.name) None
+    → only_operand_name (map operand_of os) ≡ cond (is_unbracketed_name (operand_of (get_or os 0 d))) (Some (operand_of (get_or os 0 d)).value.name) None
 unfolding only_operand_name
 word_of-one [] d h = absurd (omega arith)
 word_of-one (o ∷ []) d h = refl
@@ -102,8 +102,8 @@ pub pushed_got : {B C : Type 0} (g : B → C) (pre : List C) (xs : List B) (i : 
 pushed_got g pre xs i b out new x got e is so_far =
     pushed g pre xs i b out new x (got_within xs i b got) e (is ∙ ap g (got_at xs i b got)) so_far
 
-pub word_of-yes : (os : List Operand) (d : Operand) (b : Bool) → length os ≡ 1 → b ≡ is_named_line_operand (operand_of (get_or os 0 d)) → b ≡ true → Some (operand_of (get_or os 0 d)).value.name ≡ only_operand_name (map operand_of os)
+pub word_of-yes : (os : List Operand) (d : Operand) (b : Bool) → length os ≡ 1 → b ≡ is_unbracketed_name (operand_of (get_or os 0 d)) → b ≡ true → Some (operand_of (get_or os 0 d)).value.name ≡ only_operand_name (map operand_of os)
 word_of-yes os d b one e h = sym (word_of-one os d one ∙ ap (λ x. cond x (Some (operand_of (get_or os 0 d)).value.name) None) (sym e ∙ h))
 
-pub word_of-no : (os : List Operand) (d : Operand) (b : Bool) → length os ≡ 1 → b ≡ is_named_line_operand (operand_of (get_or os 0 d)) → b ≡ false → None ≡ only_operand_name (map operand_of os)
+pub word_of-no : (os : List Operand) (d : Operand) (b : Bool) → length os ≡ 1 → b ≡ is_unbracketed_name (operand_of (get_or os 0 d)) → b ≡ false → None ≡ only_operand_name (map operand_of os)
 word_of-no os d b one e h = sym (word_of-one os d one ∙ ap (λ x. cond x (Some (operand_of (get_or os 0 d)).value.name) None) (sym e ∙ h))

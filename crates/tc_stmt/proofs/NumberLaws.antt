@@ -2,7 +2,7 @@
 use Rattle.std.proofs.Common.{◌≡◌, ◌≤◌, ◌+◌, ◌*◌, ◌^◌, ℕ, Bool, true, false, cond, List, [], ◌∷◌, drop, Some, None, refl, ap, sym, ◌∙◌, arith, mul-le-mul_left}
 use Rattle.std.specs.Prelude.{fold, nat_lt, option_and_then}
 use Rattle.std.proofs.lemmas.Bool.{ltb-true, ltb-false}
-use Rattle.tc_lex.specs.Cut.{has_hex_front}
+use Rattle.tc_lex.specs.Cut.{has_hex_prefix}
 use Rattle.tc_lex.specs.Numbers.{token_digit_value, below_2_128, add_digit, token_number, exact_token_number, NumberLaw}
 
 -- a further digit of a number that is too large is too large
@@ -34,7 +34,7 @@ digits_bounded base (c ∷ cs) n some = ap (λ o. fold (add_digit base) o cs) (d
 
 pub number_law : NumberLaw
 unfolding token_number exact_token_number
-number_law text = by (has_hex_front text)
+number_law text = by (has_hex_prefix text)
   where
     by : (b : Bool) → cond b (fold (add_digit 16) (Some 0) (drop 2 text)) (fold (add_digit 10) (Some 0) text)
         ≡ below_2_128 (cond b (fold (λ k c. k * 16 + token_digit_value c) 0 (drop 2 text)) (fold (λ k c. k * 10 + token_digit_value c) 0 text))

@@ -8,14 +8,14 @@ use Rattle.tc_stmt.specs.declared.row_fields.RowFields.{RowFields}
 use Rattle.tc_stmt.specs.declared.tally.Tally.{Tally}
 use Rattle.tc_lex.specs.Operands.{OperandData}
 use Rattle.tc_stmt.specs.RowFields.{row_fields_of}
-use Rattle.tc_stmt.specs.StatementRow.{after_row, statement_outcome, found_row_or_next, tally_rule, GivesRowOutcome}
+use Rattle.tc_stmt.specs.StatementRow.{row_outcome, statement_outcome, found_row_or_next, tally_rule, GivesRowOutcome}
 use Rattle.tc_stmt.proofs.Places.{row_here}
 
 abbrev pub any_row : RowData
 any_row = row [] [] Rlc 0 0
 
 module _ (name : List ℕ) (os : List OperandData) (rows : List Row) (i : ℕ) (t : Tally) where
-  pub outcome-some : i < length rows → statement_outcome name os (drop i (map row_of rows)) i t ≡ found_row_or_next (after_row name os (get_or (map row_of rows) i any_row) t) i (statement_outcome name os (drop (i + 1) (map row_of rows)) (i + 1))
+  pub outcome-some : i < length rows → statement_outcome name os (drop i (map row_of rows)) i t ≡ found_row_or_next (row_outcome name os (get_or (map row_of rows) i any_row) t) i (statement_outcome name os (drop (i + 1) (map row_of rows)) (i + 1))
   unfolding statement_outcome
   outcome-some h = ap (λ (rs : List RowData). statement_outcome name os rs i t) (drop_more (map row_of rows) i any_row (rw (length-map rows row_of) h))
 
@@ -23,14 +23,14 @@ module _ (name : List ℕ) (os : List OperandData) (rows : List Row) (i : ℕ) (
   unfolding statement_outcome
   outcome-end h = ap (λ (rs : List RowData). statement_outcome name os rs i t) (drop_all i (map row_of rows) (rw (length-map rows row_of) h))
 
-  pub outcome-ok : {U : Type 0} (d : Row) (r : Result U Tally) (u : U) (f : RowFields) → r ≡ Ok u → GivesRowOutcome r f (after_row name os (row_of (get_or rows i d)) t) → i < length rows
+  pub outcome-ok : {U : Type 0} (d : Row) (r : Result U Tally) (u : U) (f : RowFields) → r ≡ Ok u → GivesRowOutcome r f (row_outcome name os (row_of (get_or rows i d)) t) → i < length rows
       → statement_outcome name os (drop i (map row_of rows)) i t ≡ Ok (i, row_fields_of f)
   outcome-ok {U} d r u f is steps h =
-      let step : after_row name os (row_of (get_or rows i d)) t ≡ Ok (row_fields_of f) = subst (λ (q : Result U Tally). GivesRowOutcome q f (after_row name os (row_of (get_or rows i d)) t)) is steps in
-      outcome-some h ∙ ap (λ q. found_row_or_next q i (statement_outcome name os (drop (i + 1) (map row_of rows)) (i + 1))) (ap (λ (x : RowData). after_row name os x t) (row_here rows i d any_row h) ∙ step)
+      let step : row_outcome name os (row_of (get_or rows i d)) t ≡ Ok (row_fields_of f) = subst (λ (q : Result U Tally). GivesRowOutcome q f (row_outcome name os (row_of (get_or rows i d)) t)) is steps in
+      outcome-some h ∙ ap (λ q. found_row_or_next q i (statement_outcome name os (drop (i + 1) (map row_of rows)) (i + 1))) (ap (λ (x : RowData). row_outcome name os x t) (row_here rows i d any_row h) ∙ step)
 
-  pub outcome-err : {U : Type 0} (d : Row) (r : Result U Tally) (u : Tally) (f : RowFields) → r ≡ Err u → GivesRowOutcome r f (after_row name os (row_of (get_or rows i d)) t) → i < length rows
+  pub outcome-err : {U : Type 0} (d : Row) (r : Result U Tally) (u : Tally) (f : RowFields) → r ≡ Err u → GivesRowOutcome r f (row_outcome name os (row_of (get_or rows i d)) t) → i < length rows
       → statement_outcome name os (drop i (map row_of rows)) i t ≡ statement_outcome name os (drop (i + 1) (map row_of rows)) (i + 1) u
   outcome-err {U} d r u f is steps h =
-      let step : after_row name os (row_of (get_or rows i d)) t ≡ Err u = subst (λ (q : Result U Tally). GivesRowOutcome q f (after_row name os (row_of (get_or rows i d)) t)) is steps in
-      outcome-some h ∙ ap (λ q. found_row_or_next q i (statement_outcome name os (drop (i + 1) (map row_of rows)) (i + 1))) (ap (λ (x : RowData). after_row name os x t) (row_here rows i d any_row h) ∙ step)
+      let step : row_outcome name os (row_of (get_or rows i d)) t ≡ Err u = subst (λ (q : Result U Tally). GivesRowOutcome q f (row_outcome name os (row_of (get_or rows i d)) t)) is steps in
+      outcome-some h ∙ ap (λ q. found_row_or_next q i (statement_outcome name os (drop (i + 1) (map row_of rows)) (i + 1))) (ap (λ (x : RowData). row_outcome name os x t) (row_here rows i d any_row h) ∙ step)

@@ -10,7 +10,7 @@ use Rattle.tc_isa.specs.declared.table.Row.{Row}
 use Rattle.tc_isa.specs.Rows.{RowData, row_of}
 use Rattle.tc_stmt.specs.declared.tally.Tally.{Tally}
 use Rattle.tc_lex.specs.Operands.{OperandData}
-use Rattle.tc_stmt.specs.StatementRow.{after_row, statement_outcome, found_row_or_next}
+use Rattle.tc_stmt.specs.StatementRow.{row_outcome, statement_outcome, found_row_or_next}
 use Rattle.tc_stmt.specs.RowIndex.{name_key, are_rows_without_key, are_next_rows, are_first_rows}
 
 -- names of other keys differ
@@ -26,8 +26,8 @@ other_name xs ys h = by (bytes_eq xs ys) refl
         cc
 
 -- a row of another name changes nothing
-other_row : (name : List ℕ) (os : List OperandData) (r : RowData) (t : Tally) → not (name_key r.name == name_key name) ≡ true → after_row name os r t ≡ Err t
-unfolding after_row
+other_row : (name : List ℕ) (os : List OperandData) (r : RowData) (t : Tally) → not (name_key r.name == name_key name) ≡ true → row_outcome name os r t ≡ Err t
+unfolding row_outcome
 other_row name os r t h = rw (other_name r.name name h) refl
 
 skip : (name : List ℕ) (os : List OperandData) (n : ℕ) (rs : List RowData) (k : ℕ) (t : Tally) → are_rows_without_key n (name_key name) rs ≡ true → statement_outcome name os rs k t ≡ statement_outcome name os (drop n rs) (k + n) t

@@ -9,10 +9,10 @@ use Rattle.std.proofs.lemmas.Bool.{ltb-true, leb-true, ltb-false, leb-false, and
 use Rattle.std.proofs.lemmas.Bool.Decides.{Decides-eqb}
 use Rattle.tc_isa.specs.declared.fields.Fields.{Fields}
 use Rattle.tc_isa.specs.declared.fields.Uses.{Uses}
-use Rattle.tc_isa.specs.Rows.{RowData, listed, is_long}
-use Rattle.tc_isa.specs.Forms.{bounds, form_index}
+use Rattle.tc_isa.specs.Rows.{RowData, table_rows, is_32_bit_row}
+use Rattle.tc_isa.specs.Forms.{field_bounds, form_index}
 use Rattle.tc_isa.specs.InBounds.{AreFieldsBelow}
-use Rattle.tc_isa.specs.ValidRowFields.{IsRow, uses_of, are_unused_fields_zero, are_registers_apart}
+use Rattle.tc_isa.specs.ValidRowFields.{IsRow, uses_of, are_unused_fields_zero, are_registers_allowed}
 use Rattle.tc_isa.proofs.TableFacts.{row_at}
 use Rattle.tc_lex.specs.declared.operand.Shape.{Shape}
 use Rattle.tc_lex.specs.declared.operand.Shape.TheVariants as shape
@@ -24,15 +24,15 @@ use Rattle.tc_stmt.specs.declared.tally.Tally.{Tally}
 use Rattle.tc_stmt.specs.Names.{is_source_name, symbol_rule}
 use Rattle.tc_lex.specs.Operands.{ValueData, OperandData}
 use Rattle.tc_stmt.specs.Wants.{want_of, wants_of}
-use Rattle.tc_stmt.specs.RowFields.{RowFieldsData, no_fields, with_rule, set_field, field_of, with_value}
+use Rattle.tc_stmt.specs.RowFields.{RowFieldsData, zero_fields, with_rule, set_field, field_of, with_value}
 use Rattle.tc_stmt.specs.Items.{ReferenceData}
-use Rattle.tc_stmt.specs.Filling.{put_register, put_number, reference, with_symbol, half_operand_relocation, fill_constant, fill_memory, fill_target, put_absolute, fill_absolute, fill_register, fill_a10, fill_plain, fill, fill_operands, check_registers_apart, fields_of_row, is_within_field_bound}
+use Rattle.tc_stmt.specs.Filling.{fill_named_register, fill_number, reference, with_symbol, half_operand_relocation, fill_constant, fill_memory, fill_target, fill_address, fill_absolute, fill_register, fill_a10, fill_plain, fill, fill_operands, note_equal_registers, fields_of_row, is_within_field_bound}
 use Rattle.tc_stmt.specs.Displacements.{is_far_displacement, is_odd_displacement, displacement_rule, with_displacement, target_operand_relocation}
-use Rattle.tc_stmt.specs.OperandForms.{shape_index, register_by_name, operand_number_modulo, is_symbol_operand, is_half_operand}
-use Rattle.tc_stmt.specs.StatementRow.{after_row, statement_outcome, found_row_or_next, statement}
+use Rattle.tc_stmt.specs.OperandForms.{shape_index, register_number, operand_number_modulo, is_symbol_operand, is_half_operand}
+use Rattle.tc_stmt.specs.StatementRow.{row_outcome, statement_outcome, found_row_or_next, statement}
 use Rattle.tc_stmt.specs.StatementRow as judging
 use Rattle.tc_isa.specs.Relocations.{is_relocation_kind, can_relocation_fill}
-use Rattle.tc_stmt.specs.StatedRows.{can_take_symbol_directly, TakesSymbol, TakesAnySymbol, FitsStatedRow, IsRowOfStatement, StatementFitsRowLaw}
+use Rattle.tc_stmt.specs.StatedRows.{can_take_symbol_directly, TakesSymbol, TakesAnySymbol, FieldsAndSymbolFitRow, IsRowOfStatement, StatementFitsRowLaw}
 use Rattle.tc_stmt.proofs.Cases.{by_test, one_passes}
 use Rattle.tc_stmt.proofs.ZeroConstants.{zero_judged}
 
@@ -47,30 +47,30 @@ is_used K u = u.k
 
 -- the row has a field for the want, wide enough
 abbrev suits : RowData → Want → Bool
-suits r (Reg bank field) = is_used field (uses_of r) && nat_le 16 (field_of field (bounds r.form))
+suits r (Reg bank field) = is_used field (uses_of r) && nat_le 16 (field_of field (field_bounds r.form))
 suits r A10 = true
 suits r (Number signed field) = is_used field (uses_of r)
-suits r Target = (uses_of r).k && cond (is_long r) (can_relocation_fill r.form (target_operand_relocation r)) (can_take_symbol_directly r.form)
-suits r Absolute = (uses_of r).k && nat_le (cond (form_index r.form == 8) (2 ^ 18) (2 ^ 24)) (bounds r.form).k && (form_index r.form == 8 || (is_long r && can_relocation_fill r.form 2))
-suits r (Memory plus offset) = (uses_of r).s2 && nat_le 16 (bounds r.form).s2 && (not offset || (uses_of r).k)
+suits r Target = (uses_of r).k && cond (is_32_bit_row r) (can_relocation_fill r.form (target_operand_relocation r)) (can_take_symbol_directly r.form)
+suits r Absolute = (uses_of r).k && nat_le (cond (form_index r.form == 8) (2 ^ 18) (2 ^ 24)) (field_bounds r.form).k && (form_index r.form == 8 || (is_32_bit_row r && can_relocation_fill r.form 2))
+suits r (Memory plus offset) = (uses_of r).s2 && nat_le 16 (field_bounds r.form).s2 && (not offset || (uses_of r).k)
 
 -- only rows of four bytes take a half of a symbol
 abbrev halves_long : RowData → Bool
-halves_long r = (half_operand_relocation r shape.High == 0 || (is_long r && can_relocation_fill r.form (half_operand_relocation r shape.High))) && (half_operand_relocation r shape.Low == 0 || (is_long r && can_relocation_fill r.form (half_operand_relocation r shape.Low)))
+halves_long r = (half_operand_relocation r shape.High == 0 || (is_32_bit_row r && can_relocation_fill r.form (half_operand_relocation r shape.High))) && (half_operand_relocation r shape.Low == 0 || (is_32_bit_row r && can_relocation_fill r.form (half_operand_relocation r shape.Low)))
 
 abbrev row_suits : RowData → Bool
 row_suits r = list_all (suits r) (wants_of r) && halves_long r
 
-all_suit : list_all row_suits listed ≡ true
-unfolding wants_of want_of bounds form_index field_of half_operand_relocation shape_index target_operand_relocation can_relocation_fill
+all_suit : list_all row_suits table_rows ≡ true
+unfolding wants_of want_of field_bounds form_index field_of half_operand_relocation shape_index target_operand_relocation can_relocation_fill
 all_suit = refl
 
-row_suit : (k : ℕ) (r : RowData) → slice_get listed k ≡ Some r → (list_all (suits r) (wants_of r) ≡ true) × (halves_long r ≡ true)
-row_suit k r at = and_parts (list_all (suits r) (wants_of r)) (halves_long r) (one_passes row_suits listed k r all_suit at)
+row_suit : (k : ℕ) (r : RowData) → slice_get table_rows k ≡ Some r → (list_all (suits r) (wants_of r) ≡ true) × (halves_long r ≡ true)
+row_suit k r at = and_parts (list_all (suits r) (wants_of r)) (halves_long r) (one_passes row_suits table_rows k r all_suit at)
 
 -- ---- the fields so far
 pub record Sound (r : RowData) (f : RowFieldsData) : Type 0 where
-  pub below : AreFieldsBelow f.fields (bounds r.form)
+  pub below : AreFieldsBelow f.fields (field_bounds r.form)
   pub zero : are_unused_fields_zero (uses_of r) f.fields ≡ true
   pub symbols : TakesAnySymbol r f.reference
 
@@ -129,9 +129,9 @@ below_put S2 b f v h s = record { c = s.c; s1 = s.s1; s2 = byte_below v b.s2 h; 
 below_put N b f v h s = record { c = s.c; s1 = s.s1; s2 = s.s2; n = byte_below v b.n h; k = s.k }
 below_put K b f v h s = record { c = s.c; s1 = s.s1; s2 = s.s2; n = s.n; k = h }
 
-sound_put : (r : RowData) (field : Field) (v : ℕ) (f : RowFieldsData) → is_used field (uses_of r) ≡ true → v < field_of field (bounds r.form) → Sound r f → Sound r (with_value field v f)
+sound_put : (r : RowData) (field : Field) (v : ℕ) (f : RowFieldsData) → is_used field (uses_of r) ≡ true → v < field_of field (field_bounds r.form) → Sound r f → Sound r (with_value field v f)
 sound_put r field v f used less s = record {
-  below = below_put field (bounds r.form) f.fields v less s.below;
+  below = below_put field (field_bounds r.form) f.fields v less s.below;
   zero = zero_put field (uses_of r) f.fields v used s.zero;
   symbols = s.symbols;
 }
@@ -155,22 +155,22 @@ unfolding is_within_field_bound
 fits_plus true bound size e = let h = ltb-true size (bound / 2) e in omega arith
 fits_plus false bound size e = ltb-true size bound e
 
-sound_number : (r : RowData) (signed : Bool) (field : Field) (minus : Bool) (size : ℕ) (f : RowFieldsData) → is_used field (uses_of r) ≡ true → Sound r f → Sound r (put_number r.form signed field minus size f)
-unfolding put_number
+sound_number : (r : RowData) (signed : Bool) (field : Field) (minus : Bool) (size : ℕ) (f : RowFieldsData) → is_used field (uses_of r) ≡ true → Sound r f → Sound r (fill_number r.form signed field minus size f)
+unfolding fill_number
 sound_number r signed field minus size f used s =
-    let bound : ℕ = field_of field (bounds r.form) in
-    by_test (Sound r) (is_within_field_bound signed (field_of field (bounds r.form)) minus size) _ _
-    (λ b. sound_put r field (operand_number_modulo (field_of field (bounds r.form)) minus size) f used
-    (wrapped_below (field_of field (bounds r.form)) minus size (more_than_none field (bounds r.form) f.fields s.below)
-    (λ e. fits_plus signed (field_of field (bounds r.form)) size (ap (λ m. is_within_field_bound signed (field_of field (bounds r.form)) m size) (sym e) ∙ b))) s)
+    let bound : ℕ = field_of field (field_bounds r.form) in
+    by_test (Sound r) (is_within_field_bound signed (field_of field (field_bounds r.form)) minus size) _ _
+    (λ b. sound_put r field (operand_number_modulo (field_of field (field_bounds r.form)) minus size) f used
+    (wrapped_below (field_of field (field_bounds r.form)) minus size (more_than_none field (field_bounds r.form) f.fields s.below)
+    (λ e. fits_plus signed (field_of field (field_bounds r.form)) size (ap (λ m. is_within_field_bound signed (field_of field (field_bounds r.form)) m size) (sym e) ∙ b))) s)
     (λ b. sound_broken r 5 f s)
 
-sound_register : (r : RowData) (bank : Bool) (field : Field) (name : List ℕ) (f : RowFieldsData) → is_used field (uses_of r) ≡ true → nat_le 16 (field_of field (bounds r.form)) ≡ true → Sound r f → Sound r (put_register bank field name f)
-unfolding put_register
+sound_register : (r : RowData) (bank : Bool) (field : Field) (name : List ℕ) (f : RowFieldsData) → is_used field (uses_of r) ≡ true → nat_le 16 (field_of field (field_bounds r.form)) ≡ true → Sound r f → Sound r (fill_named_register bank field name f)
+unfolding fill_named_register
 sound_register r bank field name f used wide s =
-    let bound = leb-true 16 (field_of field (bounds r.form)) wide in
+    let bound = leb-true 16 (field_of field (field_bounds r.form)) wide in
     by_test (Sound r) _ _ _
-    (λ b. sound_put r field (register_by_name name % 16) f used (small (register_by_name name) (field_of field (bounds r.form)) bound) s)
+    (λ b. sound_put r field (register_number name % 16) f used (small (register_number name) (field_of field (field_bounds r.form)) bound) s)
     (λ b. sound_broken r 4 f s)
   where
     small : (n b : ℕ) → 16 ≤ b → n % 16 < b
@@ -186,7 +186,7 @@ symbol_named v e = by (v.wide || nat_le (2 ^ 32) v.size) (is_source_name v.name)
     by false true e = refl
     by false false e = cc
 
-sound_symbol : (r : RowData) (kind : ℕ) (v : ValueData) (f : RowFieldsData) → (is_relocation_kind kind ≡ true → (is_long r ≡ true) × (can_relocation_fill r.form kind ≡ true)) → (kind ≡ 0 → ((uses_of r).k ≡ true) × (can_take_symbol_directly r.form ≡ true)) → Sound r f → Sound r (with_symbol kind v f)
+sound_symbol : (r : RowData) (kind : ℕ) (v : ValueData) (f : RowFieldsData) → (is_relocation_kind kind ≡ true → (is_32_bit_row r ≡ true) × (can_relocation_fill r.form kind ≡ true)) → (kind ≡ 0 → ((uses_of r).k ≡ true) × (can_take_symbol_directly r.form ≡ true)) → Sound r f → Sound r (with_symbol kind v f)
 unfolding with_symbol
 sound_symbol r kind v f long target s =
     by_test (Sound r) (symbol_rule v == 15) _ _
@@ -203,14 +203,14 @@ taken_half : (a b c : Bool) → (a || (b && c)) ≡ true → a ≡ false → (b 
 taken_half true b c e f = cc
 taken_half false b c e f = and_parts b c e
 
-half_long : (r : RowData) (s : Shape) → halves_long r ≡ true → is_half_operand (shape_index s) ≡ true → (half_operand_relocation r s == 0) ≡ false → (is_long r ≡ true) × (can_relocation_fill r.form (half_operand_relocation r s) ≡ true)
+half_long : (r : RowData) (s : Shape) → halves_long r ≡ true → is_half_operand (shape_index s) ≡ true → (half_operand_relocation r s == 0) ≡ false → (is_32_bit_row r ≡ true) × (can_relocation_fill r.form (half_operand_relocation r s) ≡ true)
 unfolding shape_index
 half_long r shape.Absent all half some = cc
 half_long r shape.Number all half some = cc
 half_long r shape.Word all half some = cc
 half_long r shape.Sum all half some = cc
-half_long r shape.High all half some = taken_half (half_operand_relocation r shape.High == 0) (is_long r) (can_relocation_fill r.form (half_operand_relocation r shape.High)) (and_parts _ (half_operand_relocation r shape.Low == 0 || (is_long r && can_relocation_fill r.form (half_operand_relocation r shape.Low))) all).0 some
-half_long r shape.Low all half some = taken_half (half_operand_relocation r shape.Low == 0) (is_long r) (can_relocation_fill r.form (half_operand_relocation r shape.Low)) (and_parts (half_operand_relocation r shape.High == 0 || (is_long r && can_relocation_fill r.form (half_operand_relocation r shape.High))) _ all).1 some
+half_long r shape.High all half some = taken_half (half_operand_relocation r shape.High == 0) (is_32_bit_row r) (can_relocation_fill r.form (half_operand_relocation r shape.High)) (and_parts _ (half_operand_relocation r shape.Low == 0 || (is_32_bit_row r && can_relocation_fill r.form (half_operand_relocation r shape.Low))) all).0 some
+half_long r shape.Low all half some = taken_half (half_operand_relocation r shape.Low == 0) (is_32_bit_row r) (can_relocation_fill r.form (half_operand_relocation r shape.Low)) (and_parts (half_operand_relocation r shape.High == 0 || (is_32_bit_row r && can_relocation_fill r.form (half_operand_relocation r shape.High))) _ all).1 some
 half_long r shape.Bad all half some = cc
 half_long r shape.Huge all half some = cc
 
@@ -229,12 +229,12 @@ sound_value r signed field v f halves used s =
 sound_memory : (r : RowData) (plus offset : Bool) (o : OperandData) (f : RowFieldsData) → halves_long r ≡ true → suits r (Memory plus offset) ≡ true → Sound r f → IfSound r (fill_memory r plus offset o f)
 unfolding fill_memory field_of
 sound_memory r plus offset o f halves suit s =
-    let p = and_parts ((uses_of r).s2 && nat_le 16 (bounds r.form).s2) (not offset || (uses_of r).k) suit in
-    let q = and_parts ((uses_of r).s2) (nat_le 16 (bounds r.form).s2) p.0 in
-    let base : Sound r (put_register true S2 o.base f) = sound_register r true S2 o.base f q.0 q.1 s in
+    let p = and_parts ((uses_of r).s2 && nat_le 16 (field_bounds r.form).s2) (not offset || (uses_of r).k) suit in
+    let q = and_parts ((uses_of r).s2) (nat_le 16 (field_bounds r.form).s2) p.0 in
+    let base : Sound r (fill_named_register true S2 o.base f) = sound_register r true S2 o.base f q.0 q.1 s in
     by_test (IfSound r) _ _ _
     (λ e. by_test (IfSound r) (shape_index o.value.shape == 0) _ _ (λ e. sound_some r _ base)
-    (λ e. by_test (IfSound r) offset _ _ (λ is. sound_value r true K o.value (put_register true S2 o.base f) halves (named offset (uses_of r).k is p.1) base) (λ e. sound_none r)))
+    (λ e. by_test (IfSound r) offset _ _ (λ is. sound_value r true K o.value (fill_named_register true S2 o.base f) halves (named offset (uses_of r).k is p.1) base) (λ e. sound_none r)))
     (λ e. sound_none r)
   where
     named : (a b : Bool) → a ≡ true → (not a || b) ≡ true → b ≡ true
@@ -242,9 +242,9 @@ sound_memory r plus offset o f halves suit s =
     named false b e h = cc
 
 -- ---- targets
-near : (r : RowData) (size : ℕ) → (displacement_rule r false size == 15) ≡ true → 0 < (bounds r.form).k → size / 2 < (bounds r.form).k
+near : (r : RowData) (size : ℕ) → (displacement_rule r false size == 15) ≡ true → 0 < (field_bounds r.form).k → size / 2 < (field_bounds r.form).k
 unfolding displacement_rule
-near r size e some = by_form (form_index r.form == 13) (bounds r.form).k some (by_far (is_far_displacement r.form (bounds r.form).k false size) (is_long r) (is_odd_displacement size) e)
+near r size e some = by_form (form_index r.form == 13) (field_bounds r.form).k some (by_far (is_far_displacement r.form (field_bounds r.form).k false size) (is_32_bit_row r) (is_odd_displacement size) e)
   where
     by_far : (far long odd : Bool) → (min (cond far (cond long 5 11) 15) (cond odd 6 15) == 15) ≡ true → far ≡ false
     by_far true true true e = cc
@@ -260,30 +260,30 @@ near r size e some = by_form (form_index r.form == 13) (bounds r.form).k some (b
 pub sound_displaced : (r : RowData) (minus : Bool) (size : ℕ) (f : RowFieldsData) → (uses_of r).k ≡ true → Sound r f → Sound r (with_displacement r minus size f)
 unfolding with_displacement field_of
 sound_displaced r minus size f used s =
-    let some : 0 < (bounds r.form).k = more_than_none K (bounds r.form) f.fields s.below in
+    let some : 0 < (field_bounds r.form).k = more_than_none K (field_bounds r.form) f.fields s.below in
     by_test (Sound r) (displacement_rule r minus size == 15) _ _
-    (λ b. sound_put r K (operand_number_modulo (bounds r.form).k minus (size / 2)) f used (wrapped_below (bounds r.form).k minus (size / 2) some (λ e. near r size (ap (λ m. displacement_rule r m size == 15) (sym e) ∙ b) some)) s)
+    (λ b. sound_put r K (operand_number_modulo (field_bounds r.form).k minus (size / 2)) f used (wrapped_below (field_bounds r.form).k minus (size / 2) some (λ e. near r size (ap (λ m. displacement_rule r m size == 15) (sym e) ∙ b) some)) s)
     (λ b. sound_broken r (displacement_rule r minus size) f s)
 
-is_target : (r : RowData) → is_relocation_kind (target_operand_relocation r) ≡ true → is_long r ≡ true
+is_target : (r : RowData) → is_relocation_kind (target_operand_relocation r) ≡ true → is_32_bit_row r ≡ true
 unfolding target_operand_relocation
-is_target r e = by_long (is_long r) (cond (form_index r.form == 7) 1 3) e
+is_target r e = by_long (is_32_bit_row r) (cond (form_index r.form == 7) 1 3) e
   where
     by_long : (b : Bool) (n : ℕ) → is_relocation_kind (cond b n 0) ≡ true → b ≡ true
     by_long true n e = refl
     by_long false n e = cc
 
-target_long : (r : RowData) → cond (is_long r) (can_relocation_fill r.form (target_operand_relocation r)) (can_take_symbol_directly r.form) ≡ true → is_relocation_kind (target_operand_relocation r) ≡ true → (is_long r ≡ true) × (can_relocation_fill r.form (target_operand_relocation r) ≡ true)
-target_long r fit e = let long = is_target r e in (long, by (is_long r) (can_relocation_fill r.form (target_operand_relocation r)) (can_take_symbol_directly r.form) long fit)
+target_long : (r : RowData) → cond (is_32_bit_row r) (can_relocation_fill r.form (target_operand_relocation r)) (can_take_symbol_directly r.form) ≡ true → is_relocation_kind (target_operand_relocation r) ≡ true → (is_32_bit_row r ≡ true) × (can_relocation_fill r.form (target_operand_relocation r) ≡ true)
+target_long r fit e = let long = is_target r e in (long, by (is_32_bit_row r) (can_relocation_fill r.form (target_operand_relocation r)) (can_take_symbol_directly r.form) long fit)
   where
     by : (a b c : Bool) → a ≡ true → cond a b c ≡ true → b ≡ true
     by true b c e h = h
     by false b c e h = cc
 
 -- a target that takes no relocation is that of a jump of 16 bits
-target_short : (r : RowData) → cond (is_long r) (can_relocation_fill r.form (target_operand_relocation r)) (can_take_symbol_directly r.form) ≡ true → target_operand_relocation r ≡ 0 → can_take_symbol_directly r.form ≡ true
+target_short : (r : RowData) → cond (is_32_bit_row r) (can_relocation_fill r.form (target_operand_relocation r)) (can_take_symbol_directly r.form) ≡ true → target_operand_relocation r ≡ 0 → can_take_symbol_directly r.form ≡ true
 unfolding target_operand_relocation
-target_short r fit e = by (is_long r) (form_index r.form == 7) (can_relocation_fill r.form (target_operand_relocation r)) e fit
+target_short r fit e = by (is_32_bit_row r) (form_index r.form == 7) (can_relocation_fill r.form (target_operand_relocation r)) e fit
   where
     by : (a b c : Bool) → ◌≡◌ {A = ℕ} (cond a (cond b 1 3) 0) 0 → cond a c (can_take_symbol_directly r.form) ≡ true → can_take_symbol_directly r.form ≡ true
     by true true c z h = absurd (omega arith)
@@ -293,8 +293,8 @@ target_short r fit e = by (is_long r) (form_index r.form == 7) (can_relocation_f
 sound_target : (r : RowData) (v : ValueData) (f : RowFieldsData) → suits r Target ≡ true → Sound r f → IfSound r (fill_target r v f)
 unfolding fill_target
 sound_target r v f suit s =
-    let used = (and_parts (uses_of r).k (cond (is_long r) (can_relocation_fill r.form (target_operand_relocation r)) (can_take_symbol_directly r.form)) suit).0 in
-    let fit = (and_parts (uses_of r).k (cond (is_long r) (can_relocation_fill r.form (target_operand_relocation r)) (can_take_symbol_directly r.form)) suit).1 in
+    let used = (and_parts (uses_of r).k (cond (is_32_bit_row r) (can_relocation_fill r.form (target_operand_relocation r)) (can_take_symbol_directly r.form)) suit).0 in
+    let fit = (and_parts (uses_of r).k (cond (is_32_bit_row r) (can_relocation_fill r.form (target_operand_relocation r)) (can_take_symbol_directly r.form)) suit).1 in
     by_test (IfSound r) (shape_index v.shape == 3 && bytes_eq v.name (codes ".")) _ _ (λ e. sound_some r _ (by_test (Sound r) v.wide _ _ (λ e. sound_broken r 5 f s) (λ e. sound_displaced r v.minus v.size f used s)))
     (λ e. by_test (IfSound r) (is_symbol_operand (shape_index v.shape)) _ _ (λ e. sound_some r _ (sound_symbol r (target_operand_relocation r) v f (target_long r fit) (λ z. (used, target_short r fit z)) s))
     (λ e. by_test (IfSound r) (is_half_operand (shape_index v.shape)) _ _ (λ e. sound_some r _ (sound_broken r _ f s)) (λ e. sound_none r)))
@@ -310,17 +310,17 @@ high_segment size bound h room = omega arith
 jump_segment : (size bound : ℕ) → size < 2 ^ 32 → 2 ^ 24 ≤ bound → size / 2 ^ 28 * 2 ^ 20 + size % 2 ^ 21 / 2 < bound
 jump_segment size bound h room = omega arith
 
-sound_address : (r : RowData) (minus : Bool) (size : ℕ) (f : RowFieldsData) → (uses_of r).k ≡ true → nat_le (cond (form_index r.form == 8) (2 ^ 18) (2 ^ 24)) (bounds r.form).k ≡ true → Sound r f → Sound r (put_absolute r.form minus size f)
-unfolding put_absolute field_of
+sound_address : (r : RowData) (minus : Bool) (size : ℕ) (f : RowFieldsData) → (uses_of r).k ≡ true → nat_le (cond (form_index r.form == 8) (2 ^ 18) (2 ^ 24)) (field_bounds r.form).k ≡ true → Sound r f → Sound r (fill_address r.form minus size f)
+unfolding fill_address field_of
 sound_address r minus size f used room s =
     by_test (Sound r) ((minus && not (size == 0)) || nat_le (2 ^ 32) size) _ _ (λ e. sound_broken r 5 f s)
     (λ e. let small = leb-false (2 ^ 32) size (none_of (minus && not (size == 0)) (nat_le (2 ^ 32) size) e) in
     by_test (Sound r) (form_index r.form == 8) _ _
     (λ form. by_test (Sound r) _ _ _
-    (λ e. sound_put r K (size / 2 ^ 28 * 2 ^ 14 + size % 2 ^ 14) f used (high_segment size (bounds r.form).k small (leb-true (2 ^ 18) (bounds r.form).k (ap (λ b. nat_le (cond b (2 ^ 18) (2 ^ 24)) (bounds r.form).k) (sym form) ∙ room))) s)
+    (λ e. sound_put r K (size / 2 ^ 28 * 2 ^ 14 + size % 2 ^ 14) f used (high_segment size (field_bounds r.form).k small (leb-true (2 ^ 18) (field_bounds r.form).k (ap (λ b. nat_le (cond b (2 ^ 18) (2 ^ 24)) (field_bounds r.form).k) (sym form) ∙ room))) s)
     (λ e. sound_broken r 5 f s))
     (λ form. by_test (Sound r) _ _ _
-    (λ e. sound_put r K (size / 2 ^ 28 * 2 ^ 20 + size % 2 ^ 21 / 2) f used (jump_segment size (bounds r.form).k small (leb-true (2 ^ 24) (bounds r.form).k (ap (λ b. nat_le (cond b (2 ^ 18) (2 ^ 24)) (bounds r.form).k) (sym form) ∙ room))) s)
+    (λ e. sound_put r K (size / 2 ^ 28 * 2 ^ 20 + size % 2 ^ 21 / 2) f used (jump_segment size (field_bounds r.form).k small (leb-true (2 ^ 24) (field_bounds r.form).k (ap (λ b. nat_le (cond b (2 ^ 18) (2 ^ 24)) (field_bounds r.form).k) (sym form) ∙ room))) s)
     (λ e. sound_broken r 5 f s)))
 
 sound_absolute : (r : RowData) (v : ValueData) (f : RowFieldsData) → suits r Absolute ≡ true → Sound r f → IfSound r (fill_absolute r v f)
@@ -332,14 +332,14 @@ sound_absolute r v f suit s =
     (λ e. by_test (IfSound r) (shape_index v.shape == 7) _ _ (λ e. sound_some r _ (sound_broken r 5 f s))
     (λ e. by_test (IfSound r) (is_symbol_operand (shape_index v.shape)) _ _
     (λ e. by_test (IfSound r) (form_index r.form == 8) _ _ (λ e. sound_some r _ (sound_broken r _ f s))
-    (λ form. sound_some r _ (sound_symbol r 2 v f (λ k. taken_half (form_index r.form == 8) (is_long r) (can_relocation_fill r.form 2) p.1 form) (λ z. absurd (omega arith)) s)))
+    (λ form. sound_some r _ (sound_symbol r 2 v f (λ k. taken_half (form_index r.form == 8) (is_32_bit_row r) (can_relocation_fill r.form 2) p.1 form) (λ z. absurd (omega arith)) s)))
     (λ e. by_test (IfSound r) (is_half_operand (shape_index v.shape)) _ _ (λ e. sound_some r _ (sound_broken r _ f s)) (λ e. sound_none r))))
 
 -- ---- operands
 sound_fill : (r : RowData) (w : Want) (o : OperandData) (f : RowFieldsData) → halves_long r ≡ true → suits r w ≡ true → Sound r f → IfSound r (fill r w o f)
 unfolding fill fill_plain fill_register fill_a10
 sound_fill r (Reg bank field) o f halves suit s =
-    let p = and_parts (is_used field (uses_of r)) (nat_le 16 (field_of field (bounds r.form))) suit in
+    let p = and_parts (is_used field (uses_of r)) (nat_le 16 (field_of field (field_bounds r.form))) suit in
     by_test (IfSound r) o.is_memory _ _ (λ e. sound_none r)
     (λ e. by_test (IfSound r) (shape_index o.value.shape == 2) _ _ (λ e. sound_some r _ (sound_register r bank field o.value.name f p.0 p.1 s)) (λ e. sound_none r))
 sound_fill r A10 o f halves suit s =
@@ -363,7 +363,7 @@ sound_all r (w ∷ ws) (o ∷ os) f halves all s =
     let p = and_parts (suits r w) (list_all (suits r) ws) all in
     sound_then r (fill_operands r ws os) (fill r w o f) (sound_fill r w o f halves p.0 s) (λ g t. sound_all r ws os g halves p.1 t)
 
-sound_nothing : (r : RowData) → IsRow r → Sound r no_fields
+sound_nothing : (r : RowData) → IsRow r → Sound r zero_fields
 sound_nothing r row = record {
   below = let b = row.has_least.below in
       let c = b.c in
@@ -384,22 +384,22 @@ sound_nothing r row = record {
     zeros a b c d e = rw (or_true a, or_true b, or_true c, or_true d, or_true e) refl
 
 -- ---- a statement
-sound_apart : (r : RowData) (g f : RowFieldsData) → Sound r g → check_registers_apart r g ≡ f → f.rule ≡ 15 → FitsStatedRow r f
-sound_apart r g f s e rule = by (are_registers_apart r g.fields) refl e
+sound_apart : (r : RowData) (g f : RowFieldsData) → Sound r g → note_equal_registers r g ≡ f → f.rule ≡ 15 → FieldsAndSymbolFitRow r f
+sound_apart r g f s e rule = by (are_registers_allowed r g.fields) refl e
   where
-    by : (b : Bool) → are_registers_apart r g.fields ≡ b → cond b g (with_rule 12 g) ≡ f → FitsStatedRow r f
-    by true is e = subst (FitsStatedRow r) e (record { fits = record { below = s.below; zero = s.zero; apart = is }; symbols = s.symbols })
+    by : (b : Bool) → are_registers_allowed r g.fields ≡ b → cond b g (with_rule 12 g) ≡ f → FieldsAndSymbolFitRow r f
+    by true is e = subst (FieldsAndSymbolFitRow r) e (record { fits = record { below = s.below; zero = s.zero; apart = is }; symbols = s.symbols })
     by false is e = let least : min g.rule 12 ≡ 15 = ap (λ (x : RowFieldsData). x.rule) e ∙ rule in absurd (omega arith)
 
-sound_judged : (k : ℕ) (r : RowData) (os : List OperandData) (f : RowFieldsData) → slice_get listed k ≡ Some r → fields_of_row r (wants_of r) os ≡ Some f → f.rule ≡ 15 → FitsStatedRow r f
+sound_judged : (k : ℕ) (r : RowData) (os : List OperandData) (f : RowFieldsData) → slice_get table_rows k ≡ Some r → fields_of_row r (wants_of r) os ≡ Some f → f.rule ≡ 15 → FieldsAndSymbolFitRow r f
 unfolding fields_of_row
 sound_judged k r os f at e rule =
     let suit = row_suit k r at in
-    by (fill_operands r (wants_of r) os no_fields) (sound_all r (wants_of r) os no_fields suit.1 suit.0 (sound_nothing r (row_at k r at))) e
+    by (fill_operands r (wants_of r) os zero_fields) (sound_all r (wants_of r) os zero_fields suit.1 suit.0 (sound_nothing r (row_at k r at))) e
   where
-    by : (o : Option RowFieldsData) → IfSound r o → option_and_then (λ g. Some (check_registers_apart r g)) o ≡ Some f → FitsStatedRow r f
+    by : (o : Option RowFieldsData) → IfSound r o → option_and_then (λ g. Some (note_equal_registers r g)) o ≡ Some f → FieldsAndSymbolFitRow r f
     by None h e = cc
-    by (Some g) h e = let same : check_registers_apart r g ≡ f = cc in sound_apart r g f (h.some g refl) same rule
+    by (Some g) h e = let same : note_equal_registers r g ≡ f = cc in sound_apart r g f (h.some g refl) same rule
 
 -- the row of a statement
 record Chosen (os : List OperandData) (rows : List RowData) (place k : ℕ) (f : RowFieldsData) : Type 0 where
@@ -410,8 +410,8 @@ record Chosen (os : List OperandData) (rows : List RowData) (place k : ℕ) (f :
   is : fields_of_row row (wants_of row) os ≡ Some f
   rule : f.rule ≡ 15
 
-stepped_ok : (name : List ℕ) (os : List OperandData) (r : RowData) (t : Tally) (f : RowFieldsData) → after_row name os r t ≡ Ok f → (fields_of_row r (wants_of r) os ≡ Some f) × (f.rule ≡ 15)
-unfolding after_row
+stepped_ok : (name : List ℕ) (os : List OperandData) (r : RowData) (t : Tally) (f : RowFieldsData) → row_outcome name os r t ≡ Ok f → (fields_of_row r (wants_of r) os ≡ Some f) × (f.rule ≡ 15)
+unfolding row_outcome
 stepped_ok name os r t f e = by (bytes_eq r.name name) (fields_of_row r (wants_of r) os) refl e
   where
     by_rule : (g : RowFieldsData) (b : Bool) → (g.rule == 15) ≡ b → fields_of_row r (wants_of r) os ≡ Some g → cond {A = Result RowFieldsData Tally} b (Ok g) (Err (record { named = true; fits = true; least = min t.least g.rule })) ≡ Ok f → (fields_of_row r (wants_of r) os ≡ Some f) × (f.rule ≡ 15)
@@ -430,12 +430,12 @@ stepped_ok name os r t f e = by (bytes_eq r.name name) (fields_of_row r (wants_o
 chosen : (name : List ℕ) (os : List OperandData) (rows : List RowData) (place : ℕ) (t : Tally) (k : ℕ) (f : RowFieldsData) → statement_outcome name os rows place t ≡ Ok (k, f) → Chosen os rows place k f
 unfolding statement_outcome
 chosen name os [] place t k f e = cc
-chosen name os (r ∷ rs) place t k f e = by (after_row name os r t) refl e (λ u g. chosen name os rs (place + 1) u k f g)
+chosen name os (r ∷ rs) place t k f e = by (row_outcome name os r t) refl e (λ u g. chosen name os rs (place + 1) u k f g)
   where
     further : Chosen os rs (place + 1) k f → Chosen os (r ∷ rs) place k f
     further c = record { at = suc c.at; row = c.row; is_row = c.is_row; number = let n = c.number in omega arith; is = c.is; rule = c.rule }
 
-    by : (q : Result RowFieldsData Tally) → after_row name os r t ≡ q → found_row_or_next q place (statement_outcome name os rs (place + 1)) ≡ Ok (k, f)
+    by : (q : Result RowFieldsData Tally) → row_outcome name os r t ≡ q → found_row_or_next q place (statement_outcome name os rs (place + 1)) ≡ Ok (k, f)
         → ((u : Tally) → statement_outcome name os rs (place + 1) u ≡ Ok (k, f) → Chosen os rs (place + 1) k f) → Chosen os (r ∷ rs) place k f
     by (Ok g) is e rec =
         let both : (place, g) ≡ (k, f) = cc in
@@ -447,9 +447,9 @@ chosen name os (r ∷ rs) place t k f e = by (after_row name os r t) refl e (λ 
 
 pub stated : (name : List ℕ) (os : List OperandData) (k : ℕ) (f : RowFieldsData) → statement name os ≡ Ok (k, f) → IsRowOfStatement k f
 stated name os k f e =
-    let c = chosen name os listed 0 judging.start_tally k f e in
+    let c = chosen name os table_rows 0 judging.empty_tally k f e in
     let same : c.at ≡ k = let n = c.number in omega arith in
-    let at : slice_get listed k ≡ Some c.row = ap (slice_get listed) (sym same) ∙ c.is_row in
+    let at : slice_get table_rows k ≡ Some c.row = ap (slice_get table_rows) (sym same) ∙ c.is_row in
     record { row = c.row; at = at; stated = sound_judged k c.row os f at c.is c.rule; zero = (zero_judged k c.row os f at c.is).some }
 
 pub stated_law : StatementFitsRowLaw

@@ -5,9 +5,9 @@ use Rattle.std.specs.List.{list_all}
 use Rattle.std.specs.Str.{bytes_eq}
 use Rattle.std.proofs.lemmas.Bool.{and_parts}
 use Rattle.tc_isa.specs.declared.table.Form.{Form}
-use Rattle.tc_isa.specs.Rows.{RowData, listed}
-use Rattle.tc_isa.specs.Forms.{bounds, form_index}
-use Rattle.tc_isa.specs.ValidRowFields.{are_registers_apart}
+use Rattle.tc_isa.specs.Rows.{RowData, table_rows}
+use Rattle.tc_isa.specs.Forms.{field_bounds, form_index}
+use Rattle.tc_isa.specs.ValidRowFields.{are_registers_allowed}
 use Rattle.tc_lex.specs.declared.operand.Shape.{Shape}
 use Rattle.tc_lex.specs.declared.operand.Shape.TheVariants as shape
 use Rattle.tc_stmt.specs.declared.want.Field.{Field}
@@ -16,12 +16,12 @@ use Rattle.tc_stmt.specs.declared.want.Want.{Want}
 use Rattle.tc_stmt.specs.declared.want.Want.TheVariants.{Reg, A10, Number, Target, Absolute, Memory}
 use Rattle.tc_lex.specs.Operands.{ValueData, OperandData}
 use Rattle.tc_stmt.specs.Wants.{want_of, wants_of}
-use Rattle.tc_stmt.specs.RowFields.{RowFieldsData, no_fields, with_rule, set_field, with_value, field_of}
+use Rattle.tc_stmt.specs.RowFields.{RowFieldsData, zero_fields, with_rule, set_field, with_value, field_of}
 use Rattle.tc_stmt.specs.Items.{ReferenceData}
-use Rattle.tc_stmt.specs.Filling.{put_register, put_number, with_symbol, half_operand_relocation, fill_constant, fill_memory, fill_target, put_absolute, fill_absolute, fill_register, fill_a10, fill_plain, fill, fill_operands, check_registers_apart, fields_of_row, is_within_field_bound}
+use Rattle.tc_stmt.specs.Filling.{fill_named_register, fill_number, with_symbol, half_operand_relocation, fill_constant, fill_memory, fill_target, fill_address, fill_absolute, fill_register, fill_a10, fill_plain, fill, fill_operands, note_equal_registers, fields_of_row, is_within_field_bound}
 use Rattle.tc_stmt.specs.Names.{symbol_rule}
 use Rattle.tc_stmt.specs.Displacements.{displacement_rule, with_displacement}
-use Rattle.tc_stmt.specs.OperandForms.{shape_index, register_by_name, operand_number_modulo, is_symbol_operand, is_half_operand}
+use Rattle.tc_stmt.specs.OperandForms.{shape_index, register_number, operand_number_modulo, is_symbol_operand, is_half_operand}
 use Rattle.tc_stmt.proofs.Cases.{by_test, one_passes}
 
 -- ---- rows
@@ -48,7 +48,7 @@ one_takes r (w ∷ ws) = cond (takes r w) (none_takes r ws) (one_takes r ws)
 abbrev row_takes : RowData → Bool
 row_takes r = one_takes r (wants_of r)
 
-all_take : list_all row_takes listed ≡ true
+all_take : list_all row_takes table_rows ≡ true
 unfolding wants_of want_of form_index half_operand_relocation shape_index
 all_take = refl
 
@@ -103,13 +103,13 @@ unfolding set_field
 kept_put K v f h = cc
 kept_put _ v f h = record { reference = refl; constant = refl }
 
-kept_register : (bank : Bool) (field : Field) (name : List ℕ) (f : RowFieldsData) → is_constant field ≡ false → IsKept f (put_register bank field name f)
-unfolding put_register
-kept_register bank field name f h = by_test (IsKept f) (register_by_name name / 16 == cond bank 1 0) _ _ (λ e. kept_put field (register_by_name name % 16) f h) (λ e. kept_broken 4 f)
+kept_register : (bank : Bool) (field : Field) (name : List ℕ) (f : RowFieldsData) → is_constant field ≡ false → IsKept f (fill_named_register bank field name f)
+unfolding fill_named_register
+kept_register bank field name f h = by_test (IsKept f) (register_number name / 16 == cond bank 1 0) _ _ (λ e. kept_put field (register_number name % 16) f h) (λ e. kept_broken 4 f)
 
-kept_number : (form : Form) (signed : Bool) (field : Field) (minus : Bool) (size : ℕ) (f : RowFieldsData) → is_constant field ≡ false → IsKept f (put_number form signed field minus size f)
-unfolding put_number
-kept_number form signed field minus size f h = by_test (IsKept f) (is_within_field_bound signed (field_of field (bounds form)) minus size) _ _ (λ e. kept_put field (operand_number_modulo (field_of field (bounds form)) minus size) f h) (λ e. kept_broken 5 f)
+kept_number : (form : Form) (signed : Bool) (field : Field) (minus : Bool) (size : ℕ) (f : RowFieldsData) → is_constant field ≡ false → IsKept f (fill_number form signed field minus size f)
+unfolding fill_number
+kept_number form signed field minus size f h = by_test (IsKept f) (is_within_field_bound signed (field_of field (field_bounds form)) minus size) _ _ (λ e. kept_put field (operand_number_modulo (field_of field (field_bounds form)) minus size) f h) (λ e. kept_broken 5 f)
 
 no_half : (r : RowData) (s : Shape) → (half_operand_relocation r shape.High == 0 && half_operand_relocation r shape.Low == 0) ≡ true → is_half_operand (shape_index s) ≡ true → half_operand_relocation r s == 0 ≡ true
 unfolding shape_index
@@ -173,13 +173,13 @@ zero_symbol : (kind : ℕ) (v : ValueData) (f : RowFieldsData) → IsFree f → 
 unfolding with_symbol
 zero_symbol kind v f h = by_test IsZero (symbol_rule v == 15) _ _ (λ e. record { some = λ s g. h.zero }) (λ e. none_broken (symbol_rule v) f h)
 
-zero_register : (bank : Bool) (field : Field) (name : List ℕ) (f : RowFieldsData) → IsFree f → IsZero (put_register bank field name f)
-unfolding put_register
-zero_register bank field name f h = by_test IsZero (register_by_name name / 16 == cond bank 1 0) _ _ (λ e. none_put field (register_by_name name % 16) f h) (λ e. none_broken 4 f h)
+zero_register : (bank : Bool) (field : Field) (name : List ℕ) (f : RowFieldsData) → IsFree f → IsZero (fill_named_register bank field name f)
+unfolding fill_named_register
+zero_register bank field name f h = by_test IsZero (register_number name / 16 == cond bank 1 0) _ _ (λ e. none_put field (register_number name % 16) f h) (λ e. none_broken 4 f h)
 
-zero_number : (form : Form) (signed : Bool) (field : Field) (minus : Bool) (size : ℕ) (f : RowFieldsData) → IsFree f → IsZero (put_number form signed field minus size f)
-unfolding put_number
-zero_number form signed field minus size f h = by_test IsZero (is_within_field_bound signed (field_of field (bounds form)) minus size) _ _ (λ e. none_put field (operand_number_modulo (field_of field (bounds form)) minus size) f h) (λ e. none_broken 5 f h)
+zero_number : (form : Form) (signed : Bool) (field : Field) (minus : Bool) (size : ℕ) (f : RowFieldsData) → IsFree f → IsZero (fill_number form signed field minus size f)
+unfolding fill_number
+zero_number form signed field minus size f h = by_test IsZero (is_within_field_bound signed (field_of field (field_bounds form)) minus size) _ _ (λ e. none_put field (operand_number_modulo (field_of field (field_bounds form)) minus size) f h) (λ e. none_broken 5 f h)
 
 zero_value : (r : RowData) (signed : Bool) (field : Field) (v : ValueData) (f : RowFieldsData) → IsFree f → IfSo IsZero (fill_constant r signed field v f)
 unfolding fill_constant
@@ -196,12 +196,12 @@ unfolding fill_memory
 zero_memory r plus offset o f h =
     by_test (IfSo IsZero) _ _ _
     (λ e. by_test (IfSo IsZero) (shape_index o.value.shape == 0) _ _ (λ e. if_some IsZero _ (zero_register true S2 o.base f h))
-    (λ e. by_test (IfSo IsZero) offset _ _ (λ e. zero_value r true K o.value (put_register true S2 o.base f) (free_kept f _ h (kept_register true S2 o.base f refl))) (λ e. if_none IsZero)))
+    (λ e. by_test (IfSo IsZero) offset _ _ (λ e. zero_value r true K o.value (fill_named_register true S2 o.base f) (free_kept f _ h (kept_register true S2 o.base f refl))) (λ e. if_none IsZero)))
     (λ e. if_none IsZero)
 
 zero_displaced : (r : RowData) (minus : Bool) (size : ℕ) (f : RowFieldsData) → IsFree f → IsZero (with_displacement r minus size f)
 unfolding with_displacement
-zero_displaced r minus size f h = by_test IsZero (displacement_rule r minus size == 15) _ _ (λ e. none_put K (operand_number_modulo (bounds r.form).k minus (size / 2)) f h) (λ e. none_broken (displacement_rule r minus size) f h)
+zero_displaced r minus size f h = by_test IsZero (displacement_rule r minus size == 15) _ _ (λ e. none_put K (operand_number_modulo (field_bounds r.form).k minus (size / 2)) f h) (λ e. none_broken (displacement_rule r minus size) f h)
 
 zero_target : (r : RowData) (v : ValueData) (f : RowFieldsData) → IsFree f → IfSo IsZero (fill_target r v f)
 unfolding fill_target
@@ -210,8 +210,8 @@ zero_target r v f h =
     (λ e. by_test (IfSo IsZero) (is_symbol_operand (shape_index v.shape)) _ _ (λ e. if_some IsZero _ (zero_symbol _ v f h))
     (λ e. by_test (IfSo IsZero) (is_half_operand (shape_index v.shape)) _ _ (λ e. if_some IsZero _ (none_broken _ f h)) (λ e. if_none IsZero)))
 
-zero_address : (form : Form) (minus : Bool) (size : ℕ) (f : RowFieldsData) → IsFree f → IsZero (put_absolute form minus size f)
-unfolding put_absolute
+zero_address : (form : Form) (minus : Bool) (size : ℕ) (f : RowFieldsData) → IsFree f → IsZero (fill_address form minus size f)
+unfolding fill_address
 zero_address form minus size f h =
     by_test IsZero ((minus && not (size == 0)) || nat_le (2 ^ 32) size) _ _ (λ e. none_broken 5 f h)
     (λ e. by_test IsZero (form_index form == 8) _ _
@@ -265,12 +265,12 @@ one_all r (w ∷ ws) (o ∷ os) f h z = by (takes r w) refl h (λ g k. one_all r
     by true e none rec = then_so IsZero IsZero (fill_operands r ws os) (fill r w o f) (zero_fill r w o f z) (λ g k. none_all r ws os g none k)
     by false e one rec = then_so (IsKept f) IsZero (fill_operands r ws os) (fill r w o f) (kept_fill r w o f e) (λ g k. rec g one (free_kept f g z k))
 
-zero_apart : (r : RowData) (f : RowFieldsData) → IsZero f → IsZero (check_registers_apart r f)
-zero_apart r f h = by_test IsZero (are_registers_apart r f.fields) f (with_rule 12 f) (λ e. h) (λ e. zero_kept f (with_rule 12 f) h (kept_broken 12 f))
+zero_apart : (r : RowData) (f : RowFieldsData) → IsZero f → IsZero (note_equal_registers r f)
+zero_apart r f h = by_test IsZero (are_registers_allowed r f.fields) f (with_rule 12 f) (λ e. h) (λ e. zero_kept f (with_rule 12 f) h (kept_broken 12 f))
 
 -- a listed row's fields have no constant if they have a symbol
-pub zero_judged : (k : ℕ) (r : RowData) (os : List OperandData) (f : RowFieldsData) → slice_get listed k ≡ Some r → fields_of_row r (wants_of r) os ≡ Some f → IsZero f
+pub zero_judged : (k : ℕ) (r : RowData) (os : List OperandData) (f : RowFieldsData) → slice_get table_rows k ≡ Some r → fields_of_row r (wants_of r) os ≡ Some f → IsZero f
 unfolding fields_of_row
 zero_judged k r os f at e =
-    (then_so IsZero IsZero (λ g. Some (check_registers_apart r g)) (fill_operands r (wants_of r) os no_fields)
-    (one_all r (wants_of r) os no_fields (one_passes row_takes listed k r all_take at) (record { none = refl; zero = refl })) (λ g z. if_some IsZero (check_registers_apart r g) (zero_apart r g z))).so f e
+    (then_so IsZero IsZero (λ g. Some (note_equal_registers r g)) (fill_operands r (wants_of r) os zero_fields)
+    (one_all r (wants_of r) os zero_fields (one_passes row_takes table_rows k r all_take at) (record { none = refl; zero = refl })) (λ g z. if_some IsZero (note_equal_registers r g) (zero_apart r g z))).so f e

@@ -6,8 +6,8 @@ use Rattle.tc_isa.specs.Relocations.{hi16, lo16, offset16, abs24}
 use Rattle.tc_stmt.specs.SourceRules.{wrong_register, wide_number, equal_registers, no_rule, misplaced_symbol}
 use Rattle.tc_isa.specs.Rows.{RowData}
 use Rattle.tc_isa.specs.declared.table.Form.{Form}
-use Rattle.tc_isa.specs.Forms.{bounds, is_bol_form, is_abs_form}
-use Rattle.tc_isa.specs.ValidRowFields.{are_registers_apart}
+use Rattle.tc_isa.specs.Forms.{field_bounds, is_bol_form, is_abs_form}
+use Rattle.tc_isa.specs.ValidRowFields.{are_registers_allowed}
 use Rattle.tc_lex.specs.declared.operand.Shape.{Shape}
 use Rattle.tc_stmt.specs.declared.want.Field.{Field}
 use Rattle.tc_stmt.specs.declared.want.Field.TheVariants.{S2, K}
@@ -15,17 +15,17 @@ use Rattle.tc_stmt.specs.declared.want.Want.{Want}
 use Rattle.tc_stmt.specs.declared.want.Want.TheVariants.{Reg, A10, Number, Target, Absolute, Memory}
 use Rattle.tc_stmt.specs.Names.{symbol_rule}
 use Rattle.tc_lex.specs.Operands.{ValueData, OperandData}
-use Rattle.tc_stmt.specs.OperandForms.{is_absent_operand, is_half_operand, is_high_operand, is_huge_operand, is_number_operand, is_sum_operand, is_symbol_operand, is_name_operand, register_by_name, shape_index, operand_number_modulo}
-use Rattle.tc_stmt.specs.RowFields.{RowFieldsData, field_of, no_fields, with_rule, with_value, row_fields_of}
+use Rattle.tc_stmt.specs.OperandForms.{is_absent_operand, is_half_operand, is_high_operand, is_huge_operand, is_number_operand, is_sum_operand, is_symbol_operand, is_name_operand, register_number, shape_index, operand_number_modulo}
+use Rattle.tc_stmt.specs.RowFields.{RowFieldsData, field_of, zero_fields, with_rule, with_value, row_fields_of}
 use Rattle.tc_stmt.specs.Items.{ReferenceData}
 use Rattle.tc_stmt.specs.Displacements.{target_operand_relocation, with_displacement}
 use Rattle.tc_stmt.specs.declared.row_fields.RowFields.{RowFields}
 
 -- a row's fields with a register of the data bank (false) or the address bank (true) in one of
 -- them; another name breaks rule 4
-unfoldable pub put_register : Bool → Field → List ℕ → RowFieldsData → RowFieldsData
-put_register bank field name acc =
-    if register_by_name name / 16 == (if bank then 1 else 0) then with_value field (register_by_name name % 16) acc else with_rule wrong_register acc
+unfoldable pub fill_named_register : Bool → Field → List ℕ → RowFieldsData → RowFieldsData
+fill_named_register bank field name acc =
+    if register_number name / 16 == (if bank then 1 else 0) then with_value field (register_number name % 16) acc else with_rule wrong_register acc
 
 -- a number fits the bound of the field that it fills
 unfoldable pub is_within_field_bound : Bool → ℕ → Bool → ℕ → Bool
@@ -36,9 +36,9 @@ is_within_field_bound signed bound minus size =
 
 -- a row's fields with a number in one of them, whose bound depends on the form; a number that
 -- doesn't fit breaks rule 5
-unfoldable pub put_number : Form → Bool → Field → Bool → ℕ → RowFieldsData → RowFieldsData
-put_number form signed field minus size acc =
-    if is_within_field_bound signed (field_of field (bounds form)) minus size then with_value field (operand_number_modulo (field_of field (bounds form)) minus size) acc else with_rule wide_number acc
+unfoldable pub fill_number : Form → Bool → Field → Bool → ℕ → RowFieldsData → RowFieldsData
+fill_number form signed field minus size acc =
+    if is_within_field_bound signed (field_of field (field_bounds form)) minus size then with_value field (operand_number_modulo (field_of field (field_bounds form)) minus size) acc else with_rule wide_number acc
 
 -- the reference of this kind to the symbol in an operand's value, with the number that is added
 abbrev pub reference : ℕ → ValueData → ReferenceData
@@ -70,7 +70,7 @@ half_operand_relocation r s =
 -- has another form
 unfoldable pub fill_constant : RowData → Bool → Field → ValueData → RowFieldsData → Option RowFieldsData
 fill_constant r signed field v acc =
-    if is_number_operand v.shape then Some (put_number r.form signed field v.minus v.size acc)
+    if is_number_operand v.shape then Some (fill_number r.form signed field v.minus v.size acc)
     else (if is_huge_operand v.shape then Some (with_rule wide_number acc)
     else (if is_symbol_operand (shape_index v.shape) then Some (with_misplaced v acc)
     else (if is_half_operand (shape_index v.shape) then (if half_operand_relocation r v.shape == 0 then Some (with_misplaced v acc) else Some (with_symbol (half_operand_relocation r v.shape) v acc))
@@ -81,8 +81,8 @@ fill_constant r signed field v acc =
 unfoldable pub fill_memory : RowData → Bool → Bool → OperandData → RowFieldsData → Option RowFieldsData
 fill_memory r plus offset o acc =
     if o.is_memory && (if o.plus then plus else not plus)
-    then (if is_absent_operand o.value.shape then Some (put_register true S2 o.base acc)
-    else (if offset then fill_constant r true K o.value (put_register true S2 o.base acc) else None))
+    then (if is_absent_operand o.value.shape then Some (fill_named_register true S2 o.base acc)
+    else (if offset then fill_constant r true K o.value (fill_named_register true S2 o.base acc) else None))
     else None
 
 -- A row's fields after a value as the target of a jump or call: a displacement from the
@@ -97,8 +97,8 @@ fill_target r v acc =
 
 -- a row's fields with an absolute address in the constant; an address that the field can't hold
 -- breaks rule 5
-unfoldable pub put_absolute : Form → Bool → ℕ → RowFieldsData → RowFieldsData
-put_absolute form minus size acc =
+unfoldable pub fill_address : Form → Bool → ℕ → RowFieldsData → RowFieldsData
+fill_address form minus size acc =
     if (minus && not (size == 0)) || nat_le (2 ^ 32) size then with_rule wide_number acc
     else (if is_abs_form form
     then (if size / 2 ^ 14 % 2 ^ 14 == 0 then with_value K (size / 2 ^ 28 * 2 ^ 14 + size % 2 ^ 14) acc else with_rule wide_number acc)
@@ -108,7 +108,7 @@ put_absolute form minus size acc =
 -- calls; None for another form
 unfoldable pub fill_absolute : RowData → ValueData → RowFieldsData → Option RowFieldsData
 fill_absolute r v acc =
-    if is_number_operand v.shape then Some (put_absolute r.form v.minus v.size acc)
+    if is_number_operand v.shape then Some (fill_address r.form v.minus v.size acc)
     else (if is_huge_operand v.shape then Some (with_rule wide_number acc)
     else (if is_symbol_operand (shape_index v.shape) then (if is_abs_form r.form then Some (with_misplaced v acc) else Some (with_symbol abs24 v acc))
     else (if is_half_operand (shape_index v.shape) then Some (with_misplaced v acc)
@@ -116,7 +116,7 @@ fill_absolute r v acc =
 
 -- a row's fields after a value that names a register; None if the value is no name
 unfoldable pub fill_register : Bool → Field → ValueData → RowFieldsData → Option RowFieldsData
-fill_register bank field v acc = if is_name_operand v.shape then Some (put_register bank field v.name acc) else None
+fill_register bank field v acc = if is_name_operand v.shape then Some (fill_named_register bank field v.name acc) else None
 
 -- A row's fields after the value a10, the stack pointer, which no field holds; another name breaks
 -- rule 4. Source: manual, volume 1, general purpose and system registers.
@@ -148,13 +148,13 @@ fill_operands r (w ∷ ws) [] acc = None
 fill_operands r (w ∷ ws) (o ∷ os) acc = option_and_then (fill_operands r ws os) (fill r w o acc)
 
 -- a row's fields, with rule 12 noted if the row's registers must differ and are equal
-abbrev pub check_registers_apart : RowData → RowFieldsData → RowFieldsData
-check_registers_apart r f = if are_registers_apart r f.fields then f else with_rule equal_registers f
+abbrev pub note_equal_registers : RowData → RowFieldsData → RowFieldsData
+note_equal_registers r f = if are_registers_allowed r f.fields then f else with_rule equal_registers f
 
 -- the row's fields after operands filled them; None if the forms of the operands aren't those of
 -- the row
 unfoldable pub fields_of_row : RowData → List Want → List OperandData → Option RowFieldsData
-fields_of_row r ws os = option_and_then (λ f. Some (check_registers_apart r f)) (fill_operands r ws os no_fields)
+fields_of_row r ws os = option_and_then (λ f. Some (note_equal_registers r f)) (fill_operands r ws os zero_fields)
 
 -- the code's answer for operands that fill a row is this: false for None, else the fields in the
 -- record

@@ -7,8 +7,8 @@ use Rattle.tc_stmt.specs.SourceRules.{no_rule, wrong_operands}
 use Rattle.tc_lex.specs.declared.kinds.Token.{Token}
 use Rattle.tc_lex.specs.declared.kinds.TokenKind.TheVariants as kind
 use Rattle.tc_lex.specs.Cut.{tokens_of}
-use Rattle.tc_isa.specs.Rows.{listed, is_long}
-use Rattle.tc_lex.specs.Pieces.{PieceData, is_token_kind, token_text, piece_in as with_text}
+use Rattle.tc_isa.specs.Rows.{table_rows, is_32_bit_row}
+use Rattle.tc_lex.specs.Pieces.{PieceData, is_token_kind, token_text, piece_of_token as with_text}
 use Rattle.tc_lex.specs.Operands.{OperandData, operands}
 use Rattle.tc_stmt.specs.RowFields.{RowFieldsData}
 use Rattle.tc_stmt.specs.OperandForms.{is_name_operand}
@@ -32,14 +32,14 @@ line_after_items is l = line_data l.rule (is ++ l.items)
 
 -- ---- statements
 -- the operand of a line `.section NAME` or `.global NAME` is a word
-unfoldable pub is_named_line_operand : OperandData → Bool
-is_named_line_operand o = if o.is_memory then false else is_name_operand o.value.shape
+unfoldable pub is_unbracketed_name : OperandData → Bool
+is_unbracketed_name o = if o.is_memory then false else is_name_operand o.value.shape
 
 -- the name that gives a line `.section NAME` or `.global NAME` its meaning, if it is the line's
 -- only operand
 unfoldable pub only_operand_name : List OperandData → Option (List ℕ)
 only_operand_name [] = None
-only_operand_name (o ∷ []) = if is_named_line_operand o then Some o.value.name else None
+only_operand_name (o ∷ []) = if is_unbracketed_name o then Some o.value.name else None
 only_operand_name (o ∷ p ∷ os) = None
 
 -- `.section NAME` or `.global NAME`; any other operands break rule 3
@@ -60,14 +60,14 @@ values_line width os = line_data (values_rule width os) (map (value_item width) 
 
 -- the number of zeros that a line adds if its instruction breaks a rule: the size in bytes of the
 -- instructions with its name, or 0 if there are none
-unfoldable pub size_of_name : List ℕ → ℕ
-size_of_name name = option_map_or (λ r. if is_long r then 4 else 2) (find (λ r. bytes_eq r.name name) listed) 0
+unfoldable pub instruction_size : List ℕ → ℕ
+instruction_size name = option_map_or (λ r. if is_32_bit_row r then 4 else 2) (find (λ r. bytes_eq r.name name) table_rows) 0
 
 -- the meaning of a line that is an instruction: its item; if a rule is broken, zeros in the size of
 -- instructions with its name
 abbrev pub code_line : List ℕ → Result (ℕ × RowFieldsData) ℕ → LineData
 code_line name (Ok found) = line_data no_rule (code found.0 found.1.fields found.1.reference ∷ [])
-code_line name (Err rule) = line_data rule (zeros (size_of_name name) ∷ [])
+code_line name (Err rule) = line_data rule (zeros (instruction_size name) ∷ [])
 
 -- the meaning of a line that is a statement with these operands: a directive, or an instruction
 unfoldable pub statement_line : List ℕ → List OperandData → LineData

@@ -42,8 +42,8 @@ is_huge_operand s = shape_index s == 7
 
 -- the number of the register that an operand's value names: 0 to 15 for d0 to d15, 16 to 31 for a0
 -- to a15, and 64 or more for any other name
-unfoldable pub register_by_name : List ℕ → ℕ
-register_by_name name =
+unfoldable pub register_number : List ℕ → ℕ
+register_number name =
     (if slice_index name 0 == 100 then 0 else (if slice_index name 0 == 97 then 16 else 64))
     + (if length name == 2 && is_digit (slice_index name 1) then slice_index name 1 - 48
     else (if length name == 3 && slice_index name 1 == 49 && nat_le 48 (slice_index name 2) && nat_le (slice_index name 2) 53 then slice_index name 2 - 38

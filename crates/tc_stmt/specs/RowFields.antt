@@ -19,8 +19,8 @@ abbrev pub row_fields_of : RowFields → RowFieldsData
 row_fields_of f = record { fields = f.fields; rule = f.rule; reference = option_map reference_of f.reference }
 
 -- a row's fields before the first operand: zeros, no rule broken, no symbol
-abbrev pub no_fields : RowFieldsData
-no_fields = record { fields = fields 0 0 0 0 0; rule = no_rule; reference = None }
+abbrev pub zero_fields : RowFieldsData
+zero_fields = record { fields = fields 0 0 0 0 0; rule = no_rule; reference = None }
 
 -- a row's fields with a further broken rule noted: the least one counts
 abbrev pub with_rule : ℕ → RowFieldsData → RowFieldsData

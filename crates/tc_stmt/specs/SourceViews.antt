@@ -12,8 +12,8 @@ lines_read [] is = []
 lines_read (l ∷ ls) is = line_data l.rule (take l.count is) ∷ lines_read ls (drop l.count is)
 
 -- the plain data of the lines of a source
-abbrev pub lines_of : Source → List LineData
-lines_of s = lines_read s.lines.items (map item_of s.items.items)
+abbrev pub source_lines : Source → List LineData
+source_lines s = lines_read s.lines.items (map item_of s.items.items)
 
 -- the lines and items so far are those of these lines
 pub record AreReadLines (lines : List Line) (items : List Item) (ls : List LineData) : Type 0 where

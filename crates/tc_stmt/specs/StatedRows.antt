@@ -1,6 +1,6 @@
 -- A statement that breaks no rule: its fields fit its row, and the row takes its symbol.
 use Rattle.std.specs.Prelude.{◌≡◌, ◌||◌, ℕ, Bool, true, List, slice_get, Option, Some, Ok}
-use Rattle.tc_isa.specs.Rows.{RowData, listed, is_long}
+use Rattle.tc_isa.specs.Rows.{RowData, table_rows, is_32_bit_row}
 use Rattle.tc_isa.specs.declared.table.Form.{Form}
 use Rattle.tc_isa.specs.Forms.{is_sb_form, is_sbr_form}
 use Rattle.tc_isa.specs.ValidRowFields.{FieldsFitRow, uses_of}
@@ -20,7 +20,7 @@ can_take_symbol_directly form = is_sb_form form || is_sbr_form form
 -- the constant; a jump of 16 bits has no relocation, and its form has a constant
 pub record TakesSymbol (r : RowData) (s : ReferenceData) : Type 0 where
   pub named : is_source_name s.name ≡ true
-  pub long : is_relocation_kind s.kind ≡ true → (is_long r ≡ true) × (can_relocation_fill r.form s.kind ≡ true)
+  pub long : is_relocation_kind s.kind ≡ true → (is_32_bit_row r ≡ true) × (can_relocation_fill r.form s.kind ≡ true)
   pub target : s.kind ≡ 0 → ((uses_of r).k ≡ true) × (can_take_symbol_directly r.form ≡ true)
 
 -- if a statement that breaks no rule has a symbol, its row has a field for it
@@ -28,7 +28,7 @@ pub record TakesAnySymbol (r : RowData) (o : Option ReferenceData) : Type 0 wher
   pub some : (s : ReferenceData) → o ≡ Some s → TakesSymbol r s
 
 -- the fields fit the row, and the row takes the symbol
-pub record FitsStatedRow (r : RowData) (f : RowFieldsData) : Type 0 where
+pub record FieldsAndSymbolFitRow (r : RowData) (f : RowFieldsData) : Type 0 where
   pub fits : FieldsFitRow r f.fields
   pub symbols : TakesAnySymbol r f.reference
 
@@ -36,8 +36,8 @@ pub record FitsStatedRow (r : RowData) (f : RowFieldsData) : Type 0 where
 -- constant is 0
 pub record IsRowOfStatement (k : ℕ) (f : RowFieldsData) : Type 0 where
   pub row : RowData
-  pub at : slice_get listed k ≡ Some row
-  pub stated : FitsStatedRow row f
+  pub at : slice_get table_rows k ≡ Some row
+  pub stated : FieldsAndSymbolFitRow row f
   pub zero : (s : ReferenceData) → f.reference ≡ Some s → f.fields.k ≡ 0
 
 -- a statement that breaks no rule fits its row

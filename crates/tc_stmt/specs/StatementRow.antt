@@ -3,7 +3,7 @@ use Rattle.std.specs.Prelude.{◌≡◌, ℕ, ◌+◌, ◌==◌, min, true, fals
 use Rattle.std.specs.Option.{option_map_or}
 use Rattle.std.specs.Str.{bytes_eq}
 use Rattle.tc_stmt.specs.SourceRules.{no_rule, wrong_operands, unknown_statement}
-use Rattle.tc_isa.specs.Rows.{RowData, listed}
+use Rattle.tc_isa.specs.Rows.{RowData, table_rows}
 use Rattle.tc_stmt.specs.declared.tally.Tally.{Tally}
 use Rattle.tc_stmt.specs.declared.row_fields.RowFields.{RowFields}
 use Rattle.tc_stmt.specs.Wants.{wants_of}
@@ -12,13 +12,13 @@ use Rattle.tc_stmt.specs.RowFields.{RowFieldsData, row_fields_of}
 use Rattle.tc_stmt.specs.Filling.{fields_of_row}
 
 -- the tally before the first row: none had the name, none had the forms, no rule was broken
-abbrev pub start_tally : Tally
-start_tally = record { named = false; fits = false; least = no_rule }
+abbrev pub empty_tally : Tally
+empty_tally = record { named = false; fits = false; least = no_rule }
 
 -- a row tried for a statement: the row's fields if the statement fits the row, else the tally of
 -- the rows tried
-unfoldable pub after_row : List ℕ → List OperandData → RowData → Tally → Result RowFieldsData Tally
-after_row name os r t =
+unfoldable pub row_outcome : List ℕ → List OperandData → RowData → Tally → Result RowFieldsData Tally
+row_outcome name os r t =
     if bytes_eq r.name name
     then option_map_or (λ f. if f.rule == no_rule then Ok f else Err (record { named = true; fits = true; least = min t.least f.rule })) (fields_of_row r (wants_of r) os) (Err (record t { named = true }))
     else Err t
@@ -36,11 +36,11 @@ found_row_or_next (Err t) place next = next t
 -- that it breaks
 unfoldable pub statement_outcome : List ℕ → List OperandData → List RowData → ℕ → Tally → Result (ℕ × RowFieldsData) ℕ
 statement_outcome name os [] place t = Err (tally_rule t)
-statement_outcome name os (r ∷ rs) place t = found_row_or_next (after_row name os r t) place (statement_outcome name os rs (place + 1))
+statement_outcome name os (r ∷ rs) place t = found_row_or_next (row_outcome name os r t) place (statement_outcome name os rs (place + 1))
 
 -- the first row of this name that fits the operands and breaks no rule, or the least rule broken
 abbrev pub statement : List ℕ → List OperandData → Result (ℕ × RowFieldsData) ℕ
-statement name os = statement_outcome name os listed 0 start_tally
+statement name os = statement_outcome name os table_rows 0 empty_tally
 
 -- the code's answer for a row is this: the fields in the record, or the tally after the row
 abbrev pub GivesRowOutcome : {U : Type 0} → Result U Tally → RowFields → Result RowFieldsData Tally → Type 0

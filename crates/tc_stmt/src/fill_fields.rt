@@ -1,13 +1,13 @@
 // Fills the fields of a row from the operands of a statement.
 ghost use Rattle.std.specs.Prelude.{◌≡◌, ◌<◌, ◌≤◌, ◌+◌, ◌^◌, map, true, if◌then◌else◌, ◌==◌, false, ◌*◌};
 ghost use Rattle.tc_isa.specs.Rows.{row_of};
-ghost use Rattle.tc_isa.specs.Forms.{bounds};
+ghost use Rattle.tc_isa.specs.Forms.{field_bounds};
 ghost use Rattle.tc_lex.specs.Operands.{value_of, operand_of};
 ghost use Rattle.tc_stmt.specs.SourceRules.{no_rule};
 ghost use Rattle.tc_stmt.specs.RowFields.{row_fields_of, field_of};
-ghost use Rattle.tc_stmt.specs.Filling.{GivesFilledFields, put_register, put_number, half_operand_relocation, fill_constant, fill_memory, fill_target, put_absolute, fill_absolute, fill_register, fill_a10, fill_plain, fill, fill_operands, is_within_field_bound, is_named_row as named};
+ghost use Rattle.tc_stmt.specs.Filling.{GivesFilledFields, fill_named_register, fill_number, half_operand_relocation, fill_constant, fill_memory, fill_target, fill_address, fill_absolute, fill_register, fill_a10, fill_plain, fill, fill_operands, is_within_field_bound, is_named_row as named};
 ghost use Rattle.tc_stmt.specs.Displacements.{displacement_rule, with_displacement, target_operand_relocation, is_far_displacement};
-ghost use Rattle.tc_stmt.specs.OperandForms.{register_by_name, operand_number_modulo};
+ghost use Rattle.tc_stmt.specs.OperandForms.{register_number, operand_number_modulo};
 
 use crate::form_index::{ABS, B, BOL, SBR, form_index};
 use crate::row_fields::{
@@ -105,7 +105,7 @@ fn fill_displacement(row: &Row, minus: bool, size: u128, acc: &mut RowFields<'_>
 #[tactic(auto, unfolding(crate::specs::Displacements::displacement_rule))]
 fn displacement_rule(row: &Row, minus: bool, size: u128) -> u8
     ensures value { result ≡ displacement_rule (row_of row.now) minus size }
-    ensures near { result ≡ no_rule → size ≤ 2 * (bounds row.now.form).k }
+    ensures near { result ≡ no_rule → size ≤ 2 * (field_bounds row.now.form).k }
 {
     let by_odd = if size % 2 == 1 {
         ODD_DISPLACEMENT
@@ -139,9 +139,9 @@ fn operand_number_modulo(bound: u32, minus: bool, size: u32) -> u32
 
 /// Returns the bound of the field that a statement's target fills, in rows of this form: the number
 /// of values that the field can have.
-#[tactic(auto, unfolding(tc_isa::specs::Forms::bounds))]
+#[tactic(auto, unfolding(tc_isa::specs::Forms::field_bounds))]
 fn target_operand_bound(form: Form) -> u32
-    ensures value { result ≡ (bounds form).k }
+    ensures value { result ≡ (field_bounds form).k }
     ensures small { result < 2 ^ 31 }
     ensures some { 1 ≤ result }
 {
@@ -319,10 +319,10 @@ fn fill_absolute<'a>(row: &Row, v: &Value<'a>, acc: &mut RowFields<'a>) -> bool
 }
 
 /// Fills a field with the register of this name and bank, or breaks rule 4.
-#[tactic(auto, unfolding(crate::specs::Filling::put_register))]
+#[tactic(auto, unfolding(crate::specs::Filling::fill_named_register))]
 fn fill_named_register(bank: bool, field: Field, name: &[u8], acc: &mut RowFields<'_>)
     ensures { row_fields_of acc.new
-        ≡ put_register bank field name.now (row_fields_of acc.old) }
+        ≡ fill_named_register bank field name.now (row_fields_of acc.old) }
 {
     let reg = register_number(name);
     if reg / 16 == (if bank { 1 } else { 0 }) {
@@ -334,9 +334,9 @@ fn fill_named_register(bank: bool, field: Field, name: &[u8], acc: &mut RowField
 
 /// Returns the number of the register of this name, by which a field is filled: 0 to 15 for d0 to
 /// d15, 16 to 31 for a0 to a15, and `NO_REGISTER` or more for other names.
-#[tactic(auto, unfolding(crate::specs::OperandForms::register_by_name, tc_lex::specs::Bytes::is_digit))]
+#[tactic(auto, unfolding(crate::specs::OperandForms::register_number, tc_lex::specs::Bytes::is_digit))]
 fn register_number(name: &[u8]) -> u8
-    ensures value { result ≡ register_by_name name.now }
+    ensures value { result ≡ register_number name.now }
 {
     if name.len() == 2 && b'0' <= name[1] && name[1] <= b'9' {
         bank_first_register(name[0]) + (name[1] - b'0')
@@ -364,7 +364,7 @@ fn bank_first_register(c: u8) -> u8
 }
 
 /// Fills a field with an operand's number that fits it, or breaks rule 5.
-#[tactic(auto, unfolding(crate::specs::Filling::put_number))]
+#[tactic(auto, unfolding(crate::specs::Filling::fill_number))]
 fn fill_number(
     form: Form,
     signed: bool,
@@ -374,7 +374,7 @@ fn fill_number(
     acc: &mut RowFields<'_>,
 )
     ensures { row_fields_of acc.new
-        ≡ put_number form signed field minus size (row_fields_of acc.old) }
+        ≡ fill_number form signed field minus size (row_fields_of acc.old) }
 {
     let bound = field_of(field, &field_bounds(form));
     if is_within_field_bound(signed, bound, minus, size) {
@@ -453,9 +453,9 @@ fn target_operand_relocation(row: &Row) -> u8
 }
 
 /// Fills the field of an absolute address, or breaks rule 5.
-#[tactic(auto, unfolding(crate::specs::Filling::put_absolute))]
+#[tactic(auto, unfolding(crate::specs::Filling::fill_address))]
 fn fill_address(form: Form, minus: bool, size: u128, acc: &mut RowFields<'_>)
-    ensures { row_fields_of acc.new ≡ put_absolute form minus size (row_fields_of acc.old) }
+    ensures { row_fields_of acc.new ≡ fill_address form minus size (row_fields_of acc.old) }
 {
     if (minus && size != 0) || 0x1_0000_0000 <= size {
         note_broken_rule(WIDE_NUMBER, acc);

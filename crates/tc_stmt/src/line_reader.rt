@@ -7,7 +7,7 @@ ghost use Rattle.tc_lex.specs.Pieces.{piece_of, token_text as text_in_pieces};
 ghost use Rattle.tc_lex.specs.Operands.{operand_of, operands as operands_in};
 ghost use Rattle.tc_stmt.specs.Items.{item_of, label, section, global, code, reference_of};
 ghost use Rattle.tc_stmt.specs.DataValues.{space_rule as space_rule_of, space_item as space_item_of};
-ghost use Rattle.tc_stmt.specs.Lines.{line_data, named_line, is_named_line_operand, only_operand_name, space_line, values_line, size_of_name, statement_line, line_from, line_with_label, tokens_line, has_label, label_of, label_before, line_in, code_line};
+ghost use Rattle.tc_stmt.specs.Lines.{line_data, named_line, is_unbracketed_name, only_operand_name, space_line, values_line, instruction_size, statement_line, line_from, line_with_label, tokens_line, has_label, label_of, label_before, line_in, code_line};
 ghost use Rattle.tc_stmt.specs.SourceViews.{AddsLine};
 
 use crate::data_values::{add_values, space_item, space_rule};
@@ -314,9 +314,9 @@ fn add_item<'a>(rule: u8, item: Item<'a>, items: &mut Vec<Item<'a>>) -> Result<u
 }
 
 /// Whether the operand is a word, as `.section` and `.global` want.
-#[tactic(auto, unfolding(crate::specs::Lines::is_named_line_operand))]
+#[tactic(auto, unfolding(crate::specs::Lines::is_unbracketed_name))]
 fn is_unbracketed_name(o: &Operand<'_>) -> bool
-    ensures { result ≡ is_named_line_operand (operand_of o.now) }
+    ensures { result ≡ is_unbracketed_name (operand_of o.now) }
 {
     !o.is_memory && shape_index(o.value.shape) == WORD
 }
@@ -345,9 +345,9 @@ fn code_item<'a>(row: u8, found: &RowFields<'a>) -> Item<'a>
 
 /// The number of zeros for a line whose instruction breaks a rule: the size in bytes of the
 /// instructions with this name, and 0 if there are none.
-#[tactic(auto, unfolding(crate::specs::Lines::size_of_name))]
+#[tactic(auto, unfolding(crate::specs::Lines::instruction_size))]
 fn instruction_size(name: &[u8]) -> u32
-    ensures { result ≡ size_of_name name.now }
+    ensures { result ≡ instruction_size name.now }
 {
     match row_of_name(name) {
         None => 0,

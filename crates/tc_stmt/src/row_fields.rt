@@ -1,9 +1,9 @@
 // The fields of a row, as its operands fill them.
 ghost use Rattle.std.specs.Prelude.{◌≡◌, ◌<◌};
 ghost use Rattle.tc_stmt.specs.Items.{reference_of, reference_to};
-ghost use Rattle.tc_stmt.specs.RowFields.{row_fields_of, no_fields, with_rule, set_field, field_of, with_value as put_in};
+ghost use Rattle.tc_stmt.specs.RowFields.{row_fields_of, zero_fields, with_rule, set_field, field_of, with_value as put_in};
 ghost use Rattle.tc_lex.specs.Operands.{value_of};
-ghost use Rattle.tc_stmt.specs.Filling.{with_symbol, with_misplaced, check_registers_apart};
+ghost use Rattle.tc_stmt.specs.Filling.{with_symbol, with_misplaced, note_equal_registers};
 ghost use Rattle.tc_stmt.specs.Names.{symbol_rule};
 ghost use Rattle.tc_isa.specs.Rows.{row_of};
 
@@ -57,7 +57,7 @@ pub struct RowFields<'a> {
 
 /// A row's fields before the first operand: zeros, no rule broken, no symbol.
 pub(crate) fn zero_fields<'a>() -> RowFields<'a>
-    ensures { row_fields_of result ≡ no_fields }
+    ensures { row_fields_of result ≡ zero_fields }
 {
     RowFields {
         fields: Fields {
@@ -143,7 +143,7 @@ pub(crate) fn note_misplaced_symbol(v: &Value<'_>, acc: &mut RowFields<'_>)
 
 /// Notes in `RowFields` that rule 12 is broken, if the row's registers must differ and are equal.
 pub(crate) fn note_equal_registers(row: &Row, f: &mut RowFields<'_>)
-    ensures { row_fields_of f.new ≡ check_registers_apart (row_of row.now) (row_fields_of f.old) }
+    ensures { row_fields_of f.new ≡ note_equal_registers (row_of row.now) (row_fields_of f.old) }
 {
     if !are_registers_allowed(row, &f.fields) {
         note_broken_rule(EQUAL_REGISTERS, f);

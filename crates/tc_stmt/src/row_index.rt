@@ -1,7 +1,7 @@
 // An index of the rows by a key of their names, so that a search skips most rows, and the first row
 // of a name. The tables are printed by tools/rows.py.
 ghost use Rattle.std.specs.Prelude.{◌≡◌, ◌<◌, ◌+◌, ◌-◌, ◌==◌, List, map, length, drop, true, slice_index, find, option_map};
-ghost use Rattle.tc_isa.specs.Rows.{RowData, row_of, listed};
+ghost use Rattle.tc_isa.specs.Rows.{RowData, row_of, table_rows};
 ghost use Rattle.tc_stmt.specs.RowIndex.{name_key, are_rows_without_key, are_next_rows, are_first_rows};
 ghost use Rattle.std.specs.Str.{bytes_eq};
 
@@ -175,7 +175,7 @@ static NEXT: [u8; ROW_COUNT] = [
 /// first row whose name has it.
 #[tactic(auto, unfolding(crate::specs::RowIndex::name_key))]
 pub(crate) fn first_rows() -> &'static [u8]
-    ensures { are_first_rows 0 listed result.now ≡ true }
+    ensures { are_first_rows 0 table_rows result.now ≡ true }
 {
     &FIRST
 }
@@ -184,7 +184,7 @@ pub(crate) fn first_rows() -> &'static [u8]
 /// for a statement's row skips those between.
 #[tactic(auto, unfolding(crate::specs::RowIndex::name_key))]
 pub(crate) fn next_rows() -> &'static [u8]
-    ensures { are_next_rows 0 listed result.now ≡ true }
+    ensures { are_next_rows 0 table_rows result.now ≡ true }
 {
     &NEXT
 }
@@ -228,7 +228,7 @@ pub(crate) fn find_row<'a>(rows: &'a [Row], name: &[u8]) -> Option<&'a Row>
 
 // The first row of the instruction table with this name, if an instruction has it.
 pub(crate) fn row_of_name(name: &[u8]) -> Option<&'static Row>
-    ensures { option_map (λ r. row_of r.now) result ≡ find (λ r. bytes_eq r.name name.now) listed }
+    ensures { option_map (λ r. row_of r.now) result ≡ find (λ r. bytes_eq r.name name.now) table_rows }
 {
     find_row(rows(), name)
 }

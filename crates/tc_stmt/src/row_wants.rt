@@ -1,6 +1,6 @@
 // The operands that each row wants. Printed by tools/rows.py.
 ghost use Rattle.std.specs.Prelude.{◌≡◌, map};
-ghost use Rattle.tc_isa.specs.Rows.{listed};
+ghost use Rattle.tc_isa.specs.Rows.{table_rows};
 ghost use Rattle.tc_stmt.specs.Wants.{wants_of, row_wants_now};
 
 use crate::want::{Field, Want};
@@ -360,7 +360,7 @@ pub static WANTS: [&[Want]; ROW_COUNT] = [
 /// The operands that each row wants, in the order of the rows.
 #[tactic(auto, unfolding(crate::specs::Wants::wants_of, crate::specs::Wants::want_of))]
 pub fn wants() -> &'static [&'static [Want]]
-    ensures { map row_wants_now result.now ≡ map wants_of listed }
+    ensures { map row_wants_now result.now ≡ map wants_of table_rows }
 {
     &WANTS
 }

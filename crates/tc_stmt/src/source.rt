@@ -2,7 +2,7 @@
 ghost use Rattle.std.specs.Prelude.{◌≡◌, ◌≤◌, ◌<◌, ◌+◌, ◌++◌, List, [], ◌∷◌, map, length, position, take, drop, IfOk, OnOk, IfSome, ◌==◌};
 ghost use Rattle.tc_stmt.specs.Items.{item_of};
 ghost use Rattle.tc_stmt.specs.Lines.{LineData, line_in, lines_in, items_in};
-ghost use Rattle.tc_stmt.specs.SourceViews.{lines_of, AreReadLines};
+ghost use Rattle.tc_stmt.specs.SourceViews.{source_lines, AreReadLines};
 
 use crate::item::Item;
 use crate::line_reader::read_line;
@@ -31,7 +31,7 @@ pub struct Source<'a> {
 
 /// Reads each line of a source. Line feeds separate the lines.
 pub fn read_source<'a>(alloc: Global, source: &'a [u8]) -> Result<Source<'a>, AllocError>
-    ensures lines { IfOk result (λ s. lines_of s ≡ lines_in source.now) }
+    ensures lines { IfOk result (λ s. source_lines s ≡ lines_in source.now) }
     ensures items { IfOk result (λ s. map item_of s.items.items ≡ items_in (lines_in source.now)) }
 {
     let mut pieces = Scratch::new();

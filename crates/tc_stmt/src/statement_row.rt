@@ -4,9 +4,9 @@ ghost use Rattle.std.specs.Str.{bytes_eq};
 ghost use Rattle.tc_isa.specs.Rows.{row_of};
 ghost use Rattle.tc_stmt.specs.Wants.{wants_of, row_wants_now};
 ghost use Rattle.tc_lex.specs.Operands.{operand_of};
-ghost use Rattle.tc_stmt.specs.RowFields.{no_fields};
-ghost use Rattle.tc_stmt.specs.Filling.{GivesFilledFields, fill_operands, check_registers_apart, fields_of_row};
-ghost use Rattle.tc_stmt.specs.StatementRow.{start_tally, after_row, statement_outcome, GivesRowOutcome, GivesStatementOutcome, statement, tally_rule};
+ghost use Rattle.tc_stmt.specs.RowFields.{zero_fields};
+ghost use Rattle.tc_stmt.specs.Filling.{GivesFilledFields, fill_operands, note_equal_registers, fields_of_row};
+ghost use Rattle.tc_stmt.specs.StatementRow.{empty_tally, row_outcome, statement_outcome, GivesRowOutcome, GivesStatementOutcome, statement, tally_rule};
 ghost use Rattle.tc_stmt.specs.RowIndex.{are_first_rows, are_next_rows};
 
 use crate::fill_fields::fill_operands;
@@ -42,7 +42,7 @@ fn search_statement_row<'a>(
     requires first { are_first_rows 0 (map row_of rows.now) first.now ≡ true }
     requires next { are_next_rows 0 (map row_of rows.now) next.now ≡ true }
     ensures { GivesStatementOutcome result
-        (statement_outcome name.now (map operand_of os.now) (map row_of rows.now) 0 start_tally) }
+        (statement_outcome name.now (map operand_of os.now) (map row_of rows.now) 0 empty_tally) }
 {
     let mut so_far = Tally {
         named: false,
@@ -63,7 +63,7 @@ fn search_statement_row<'a>(
 
 /// Tries a row for a statement: fills the row's fields if the statement fits, else returns the
 /// tally of the rows tried.
-#[tactic(auto, unfolding(crate::specs::StatementRow::after_row))]
+#[tactic(auto, unfolding(crate::specs::StatementRow::row_outcome))]
 fn try_statement_row<'a>(
     row: &Row,
     wants: &[Want],
@@ -74,7 +74,7 @@ fn try_statement_row<'a>(
 ) -> Result<(), Tally>
     requires { wants.now ≡ wants_of (row_of row.now) }
     ensures { GivesRowOutcome result found.new
-        (after_row name.now (map operand_of os.now) (row_of row.now) so_far) }
+        (row_outcome name.now (map operand_of os.now) (row_of row.now) so_far) }
 {
     if are_same_bytes(row.name.as_bytes(), name) {
         try_row_of_name(row, wants, name, os, so_far, found)
@@ -86,7 +86,7 @@ fn try_statement_row<'a>(
 // Tries a row that has the statement's name: fills its fields if the operands fit, else returns the
 // tally of the rows tried.
 #[inline(never)]
-#[tactic(auto, unfolding(crate::specs::StatementRow::after_row))]
+#[tactic(auto, unfolding(crate::specs::StatementRow::row_outcome))]
 fn try_row_of_name<'a>(
     row: &Row,
     wants: &[Want],
@@ -98,7 +98,7 @@ fn try_row_of_name<'a>(
     requires wants { wants.now ≡ wants_of (row_of row.now) }
     requires named { bytes_eq (row_of row.now).name name.now ≡ true }
     ensures { GivesRowOutcome result found.new
-        (after_row name.now (map operand_of os.now) (row_of row.now) so_far) }
+        (row_outcome name.now (map operand_of os.now) (row_of row.now) so_far) }
 {
     if !fill_statement_row(row, wants, os, found) {
         return Err(Tally {

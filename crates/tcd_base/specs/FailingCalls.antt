@@ -12,5 +12,5 @@ is_failing_call failing call = list_any (λ n. n == call) failing
 
 -- two counts of failures show that a call failed between them: the later count is greater, or it is
 -- the last value of 64 bits
-abbrev pub FaultCounted : ℕ → ℕ → Type 0
-FaultCounted before now = (before < now) ⊎ (now ≡ 2 ^ 64 - 1)
+abbrev pub IsFaultCounted : ℕ → ℕ → Type 0
+IsFaultCounted before now = (before < now) ⊎ (now ≡ 2 ^ 64 - 1)

@@ -1,12 +1,12 @@
 // The bytes of names: of symbols, sections and labels.
 ghost use Rattle.std.specs.Prelude.{◌≡◌, length, true};
 ghost use Rattle.std.specs.List.{list_all};
-ghost use Rattle.tcd_base.specs.NameBytes.{is_name_byte, is_name_first, are_name_byte_answers};
+ghost use Rattle.tcd_base.specs.NameBytes.{is_name_byte, is_name_start, is_name_byte_table_from};
 
 /// Returns true if a name can begin with this byte: a letter, `_`, `.` or `$`.
-#[tactic(auto, unfolding(crate::specs::NameBytes::is_name_first))]
+#[tactic(auto, unfolding(crate::specs::NameBytes::is_name_start))]
 pub fn is_name_start(c: u8) -> bool
-    ensures { result ≡ is_name_first c }
+    ensures { result ≡ is_name_start c }
 {
     (b'A' <= c && c <= b'Z') || (b'a' <= c && c <= b'z') || c == b'_' || c == b'.' || c == b'$'
 }
@@ -51,10 +51,10 @@ pub fn are_name_bytes(bytes: &[u8]) -> bool
 
 // Returns the table that says of each byte whether a name can have it after its first, as
 // `is_name_byte` does.
-#[tactic(auto, unfolding(crate::specs::NameBytes::is_name_byte, crate::specs::NameBytes::is_name_first))]
+#[tactic(auto, unfolding(crate::specs::NameBytes::is_name_byte, crate::specs::NameBytes::is_name_start))]
 fn name_byte_table() -> &'static [bool; 256]
     ensures count { length result.now ≡ 256 }
-    ensures answers { are_name_byte_answers 0 result.now ≡ true }
+    ensures answers { is_name_byte_table_from 0 result.now ≡ true }
 {
     &STAND_IN_NAMES
 }

@@ -1,6 +1,6 @@
 -- Reports that one fact decides.
 use Rattle.std.proofs.Common.{◌≡◌, ◌≢◌, List, [], ℕ, refl, sym, subst, ◌∙◌, inl, inr}
-use Rattle.tcd_reading.specs.Reports.{IsReportStatus, Report, says}
+use Rattle.tcd_reading.specs.Reports.{IsReportStatus, Report, text_report}
 use Rattle.tcd_reading.specs.declared.status.Status.{Status}
 use Rattle.tcd_reading.specs.declared.status.Status.TheVariants.{Done, Refused}
 use Rattle.tcd_reading.proofs.Decided.{AreAlike, status_is, writes_are}
@@ -9,7 +9,7 @@ use Rattle.tcd_reading.proofs.Decided.{AreAlike, status_is, writes_are}
 -- nothing to write
 pub data IsSide (Holds : Type 0) (other : Status) (r : Report) : Type 0 where
   well : (q : Report) → r ≡ q → q.status ≡ Done → Holds → IsSide Holds other r
-  against : (text : List ℕ) → r ≡ says other text → (Holds → ⊥) → IsSide Holds other r
+  against : (text : List ℕ) → r ≡ text_report other text → (Holds → ⊥) → IsSide Holds other r
 
 module _ {Holds : Type 0} {other : Status} where
   told : (r : Report) → IsReportStatus other → IsSide Holds other r → IsReportStatus r.status

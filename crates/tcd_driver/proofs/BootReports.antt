@@ -10,8 +10,8 @@ use Rattle.tc_boot.specs.Sequence.{boot_events}
 use Rattle.tc_boot.specs.Judging.{HasBoot}
 use Rattle.tc_boot.proofs.BootWhole.{safe_boots}
 use Rattle.tc_boot.proofs.JudgeOne.{not_both}
-use Rattle.tcd_reading.specs.Reports.{Report, says}
-use Rattle.tcd_forms.specs.Lines.{boots_line}
+use Rattle.tcd_reading.specs.Reports.{Report, text_report}
+use Rattle.tcd_forms.specs.Lines.{boot_line}
 use Rattle.tcd_driver.specs.Boot.{IsBootVerdict, refused, unbooted, boots}
 use Rattle.tcd_reading.specs.declared.status.Status.TheVariants.{Done, Refused}
 use Rattle.tcd_driver.proofs.Alike.{IsSide, well, against}
@@ -23,7 +23,7 @@ boot_side i p c at r (boots accepted has safe e) = well _ e refl (accepted, has)
 
 -- the certificate is accepted and the boot sequence may run
 pub boots_report : (parts i : ImageData) (fields p : PlanData) (c : CertData) (at events need : ℕ) (r : Report) → parts ≡ i → IsImage parts → fields ≡ p → IsPlan fields → Accepts i p c → need ≡ certified_need i p c → Safe i p need
-    → HasBoot i p at → events ≡ boot_events p → r ≡ says Done (boots_line events need (fields.areas - fields.reserve)) → IsBootVerdict i p c at r
+    → HasBoot i p at → events ≡ boot_events p → r ≡ text_report Done (boot_line events need (fields.areas - fields.reserve)) → IsBootVerdict i p c at r
 boots_report parts i fields p c at events need r image is_image same is_plan accepted is safe has count e =
     boots accepted has (safe_boots i p at (certified_need i p c) (subst IsPlan same is_plan) (subst IsImage image is_image) has (subst (λ (n : ℕ). Safe i p n) is safe))
     cc

@@ -19,10 +19,10 @@ use Rattle.tc_link.specs.Refusals.{Refusal}
 use Rattle.tc_link.specs.Errors.{refusal_of}
 use Rattle.tc_link.specs.declared.errors.LinkErr.{LinkErr}
 use Rattle.tc_link.specs.declared.errors.LinkErr.TheVariants as error
-use Rattle.tcd_reading.specs.Reports.{Report, says}
+use Rattle.tcd_reading.specs.Reports.{Report, text_report}
 use Rattle.tcd_forms.specs.Lines.{certified_line, run_line, bad_link_line}
 use Rattle.tcd_reading.specs.Inputs.{Reading, input}
-use Rattle.tcd_forms.specs.Forms.{elf_form, plan_form, object_form, placed_source_form}
+use Rattle.tcd_forms.specs.Forms.{elf_form, plan_form, object_form, numbered_source_form}
 use Rattle.tcd_driver.specs.Check as verdict
 use Rattle.tcd_driver.specs.Check.{IsCheckVerdict}
 use Rattle.tcd_driver.specs.Run.{IsRunReport, ran, script_run_line}
@@ -52,10 +52,10 @@ verdict_side : (i : ImageData) (p : PlanData) (c : CertData) (r : Report) → Is
 verdict_side i p c r (verdict.refused rule key addr first e) = against _ e (fails_refutes i p c rule key addr first.fails)
 verdict_side i p c r (verdict.certified accepted safe e) = well _ e refl accepted
 
-pub certified_report : (i : ImageData) (fields p : PlanData) (c : CertData) (need : ℕ) (r : Report) → fields ≡ p → Accepts i p c → need ≡ certified_need i p c → Safe i p need → r ≡ says Done (certified_line need (fields.areas - fields.reserve)) → IsCheckVerdict i p c r
+pub certified_report : (i : ImageData) (fields p : PlanData) (c : CertData) (need : ℕ) (r : Report) → fields ≡ p → Accepts i p c → need ≡ certified_need i p c → Safe i p need → r ≡ text_report Done (certified_line need (fields.areas - fields.reserve)) → IsCheckVerdict i p c r
 certified_report i fields p c need r same accepted is safe e =
     verdict.certified accepted (subst (λ (n : ℕ). Safe i p n) is safe)
-    (e ∙ ap (λ (n : ℕ). says Done (certified_line n (fields.areas - fields.reserve))) is ∙ ap (λ (q : PlanData). says Done (certified_line (certified_need i p c) (q.areas - q.reserve))) same)
+    (e ∙ ap (λ (n : ℕ). text_report Done (certified_line n (fields.areas - fields.reserve))) is ∙ ap (λ (q : PlanData). text_report Done (certified_line (certified_need i p c) (q.areas - q.reserve))) same)
 
 -- ---- run
 run_side : (i : ImageData) (p : PlanData) (s : ScriptData) (r : Report) → IsRunReport i p s r → IsSide (Unit {0}) Refused r
@@ -75,12 +75,12 @@ linked_side name l objects r (image i is e) = well _ e refl (i, is)
 pub linked_image : (name : List ℕ) (l : LayoutData) (objects : List ObjectData) (i : ImageData) (r : Report) → image_of_objects objects l ≡ Ok i → WritesImage name i r → IsLinkReport name l objects r
 linked_image name l objects i r is writes = image i is writes
 
-refused_by : (name : List ℕ) (l : LayoutData) (objects : List ObjectData) (o : Option Refusal) (r : Report) → (o ≡ None → ⊥) → IfSome o (λ q. image_of_objects objects l ≡ Err q) → IfSome o (λ q. r ≡ says BadInput (bad_link_line q)) → IsLinkReport name l objects r
+refused_by : (name : List ℕ) (l : LayoutData) (objects : List ObjectData) (o : Option Refusal) (r : Report) → (o ≡ None → ⊥) → IfSome o (λ q. image_of_objects objects l ≡ Err q) → IfSome o (λ q. r ≡ text_report BadInput (bad_link_line q)) → IsLinkReport name l objects r
 refused_by name l objects None r some is text = absurd (some refl)
 refused_by name l objects (Some q) r some is text = refused q is text
 
 pub refused_report : (name : List ℕ) (l : LayoutData) (objects : List ObjectData) (e : LinkErr) (line : List ℕ) (r : Report) → IfSome (refusal_of e) (λ q. image_of_objects objects l ≡ Err q) → IfSome (refusal_of e) (λ q. line ≡ bad_link_line q) →
-    (e ≡ error.NoMemory → ⊥) → r ≡ says BadInput line → IsLinkReport name l objects r
+    (e ≡ error.NoMemory → ⊥) → r ≡ text_report BadInput line → IsLinkReport name l objects r
 refused_report name l objects e line r is made some said = refused_by name l objects (refusal_of e) r (λ n. some (none_memory e n)) is (line_told line r (refusal_of e) made said)
 
 -- ---- all commands
@@ -98,7 +98,7 @@ command_decided (asm names) = decided_input _ _ _ _ source_lawful (λ o. decided
 command_decided (link names) = decided_input _ _ _ _ layout_lawful (λ l. decided_each _ object_form 0 _ _ object_lawful (λ os. decided_answer _ (alike (linked_side names.image l os) (inr (inr refl)))))
 command_decided (ship names) =
     decided_input _ _ _ _ plan_lawful
-    (λ p. decided_input _ _ _ _ layout_lawful (λ l. decided_each _ placed_source_form 0 _ _ placed_source_lawful (λ ss. decided_answer _ (shipped_alike names.elf names.cert p l ss))))
+    (λ p. decided_input _ _ _ _ layout_lawful (λ l. decided_each _ numbered_source_form 0 _ _ placed_source_lawful (λ ss. decided_answer _ (shipped_alike names.elf names.cert p l ss))))
 command_decided (boot names) = decided_firmware _ _ _ (λ i p. decided_input _ _ _ _ cert_lawful (λ c. decided_answer _ (refusable (boot_side i p c names.at))))
 command_decided (bootgen names) = decided_input _ _ _ _ plan_lawful (λ p. decided_answer _ (only_one _ refl))
 command_decided (cells names) =

@@ -16,21 +16,21 @@ use Rattle.tcd_report.proofs.ImageLemmas.PlanText.{text_tells}
 use Rattle.tc_machine.specs.Safe.{Safe}
 use Rattle.depth_cert.specs.Certs.{CertData, IsCert}
 use Rattle.depth_cert.specs.Nodes.{count_points}
-use Rattle.depth_maker.specs.LeastCertMade.{IsMade}
-use Rattle.tcd_reading.specs.Reports.{Report, says}
-use Rattle.tcd_forms.specs.Lines.{generated_line}
+use Rattle.depth_maker.specs.LeastCertMade.{IsLeastCert}
+use Rattle.tcd_reading.specs.Reports.{Report, text_report}
+use Rattle.tcd_forms.specs.Lines.{gen_line}
 use Rattle.tcd_driver.specs.BestCert.{IsLeastWithNeed}
 use Rattle.tcd_driver.specs.Gen.{IsGenReport, refused, certified}
 use Rattle.tcd_reading.specs.declared.status.Status.TheVariants.{Done, Refused}
 use Rattle.tcd_driver.proofs.Alike.{IsSide, well, against}
 
-pub summary_side : (n : ℕ) (i : ImageData) (p : PlanData) (r : Report) → IsGenReport n i p r → IsSide ((c : CertData) × IsCert c × IsMade i p 1 c) Refused r
+pub summary_side : (n : ℕ) (i : ImageData) (p : PlanData) (r : Report) → IsGenReport n i p r → IsSide ((c : CertData) × IsCert c × IsLeastCert i p 1 c) Refused r
 summary_side n i p r (refused rule key addr none why e) = against _ e (λ w. none w.0 w.1 (w.2).of_version (w.2).accepted)
 summary_side n i p r (certified c is made safe e) = well _ e refl (c, is, made)
 
 -- the report on the certificate
 pub counted_report : (n : ℕ) (i : ImageData) (fields p : PlanData) (c : CertData) (need : ℕ) (r : Report) → fields ≡ p → IsLeastWithNeed i p 1 c need
-    → r ≡ says Done (generated_line n (length c.nodes) (count_points c.nodes) need (fields.areas - fields.reserve)) → IsGenReport n i p r
+    → r ≡ text_report Done (gen_line n (length c.nodes) (count_points c.nodes) need (fields.areas - fields.reserve)) → IsGenReport n i p r
 counted_report n i fields p c need r same least e =
     certified c least.is_cert least.made (subst (λ (k : ℕ). Safe i p k) least.need_is least.safe)
     (let k = least.need_is in cc)

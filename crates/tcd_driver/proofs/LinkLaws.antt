@@ -5,7 +5,7 @@ use Rattle.tc_link.specs.Refusals.{Refusal}
 use Rattle.tc_link.specs.Errors.{refusal_of}
 use Rattle.tc_link.specs.declared.errors.LinkErr.{LinkErr}
 use Rattle.tc_link.specs.declared.errors.LinkErr.TheVariants as error
-use Rattle.tcd_reading.specs.Reports.{Report, says}
+use Rattle.tcd_reading.specs.Reports.{Report, text_report}
 use Rattle.tcd_forms.specs.Lines.{bad_link_line}
 use Rattle.tcd_reading.specs.declared.status.Status.TheVariants.{BadInput}
 
@@ -13,6 +13,6 @@ pub none_memory : (e : LinkErr) → refusal_of e ≡ None → e ≡ error.NoMemo
 none_memory error.NoMemory h = refl
 none_memory _ h = cc
 
-pub line_told : (line : List ℕ) (r : Report) (o : Option Refusal) → IfSome o (λ q. line ≡ bad_link_line q) → r ≡ says BadInput line → IfSome o (λ q. r ≡ says BadInput (bad_link_line q))
+pub line_told : (line : List ℕ) (r : Report) (o : Option Refusal) → IfSome o (λ q. line ≡ bad_link_line q) → r ≡ text_report BadInput line → IfSome o (λ q. r ≡ text_report BadInput (bad_link_line q))
 line_told line r None made said = tt
-line_told line r (Some q) made said = said ∙ ap (λ (t : List ℕ). says BadInput t) made
+line_told line r (Some q) made said = said ∙ ap (λ (t : List ℕ). text_report BadInput t) made

@@ -6,8 +6,8 @@ use Rattle.std.specs.List.{All}
 use Rattle.std.proofs.lemmas.List.Elements.{All-head, All-tail}
 use Rattle.tcd_base.specs.Files.{FileMap}
 use Rattle.tcd_driver.specs.Headlines.Asks.{InputRequirement, are_linked, are_linked_sources, is_cert_per_task, IsInputPresent, AreInputsPresent}
-use Rattle.tcd_driver.specs.Tool.{ToolCall, CannotFail, MayPrintText, of_bad_words, when_done, when_refused, when_bad}
-use Rattle.tcd_driver.specs.SureCalls.{asked_name, HasRoomForEnds, SureCallsAreDecided}
+use Rattle.tcd_driver.specs.Tool.{ToolCall, CallCannotFail, MayPrintText, of_bad_words, when_done, when_refused, when_bad}
+use Rattle.tcd_driver.specs.SureCalls.{asked_name, HasRoomForEnds, StatusesAreDecided}
 
 -- all that is asked is there, if its files are held
 module _ (m : FileMap) where
@@ -25,7 +25,7 @@ module _ (m : FileMap) where
   are_there (ask ∷ asks) all = (is_there ask (All-head IsHeld ask asks all), are_there asks (All-tail IsHeld ask asks all))
 
 -- nothing can fail with room, if all that is asked is there
-cannot_fail : (call : ToolCall) (before : FileMap) (asks : List InputRequirement) (D R B : FileMap → List ℕ → Type 0) → AreInputsPresent before asks → HasRoomForEnds call before D R B → CannotFail call before asks (MayPrintText D R B)
+cannot_fail : (call : ToolCall) (before : FileMap) (asks : List InputRequirement) (D R B : FileMap → List ℕ → Type 0) → AreInputsPresent before asks → HasRoomForEnds call before D R B → CallCannotFail call before asks (MayPrintText D R B)
 cannot_fail call before asks D R B there h = record {
   held = h.held;
   steady = h.steady;
@@ -40,7 +40,7 @@ cannot_fail call before asks D R B there h = record {
   fits text (when_refused after is) = h.refused after text is
   fits text (when_bad after is) = h.bad_input after text is
 
-pub sure_calls : (IfDone IfRefused : FileMap → FileMap → List ℕ → Type 0) → SureCallsAreDecided IfDone IfRefused
+pub sure_calls : (IfDone IfRefused : FileMap → FileMap → List ℕ → Type 0) → StatusesAreDecided IfDone IfRefused
 sure_calls IfDone IfRefused call words asks before says are held room some_memory good_words =
     let one = says.decided before are (cannot_fail call before asks _ _ _ (are_there before asks held) room) some_memory good_words in
     (one.one, one.done, one.refused, one.bad_input)

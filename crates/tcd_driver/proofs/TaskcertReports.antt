@@ -7,18 +7,18 @@ use Rattle.std.specs.declared.alloc.Global.{Global}
 use Rattle.std.proofs.lemmas.Bool.{cases_lt, eqb-true}
 use Rattle.std.proofs.lemmas.List.{length-append, get_or_append_left, get_or_push}
 use Rattle.std.proofs.lemmas.List.Elements.{All-contains}
-use Rattle.csa_chain.specs.SeveralChains.{sum_over_chains}
+use Rattle.csa_chain.specs.SeveralChains.{sum_of_first}
 use Rattle.elf_image.specs.Images.{ImageData}
 use Rattle.tcd_plan.specs.PlanData.{PlanData, IsPlan}
 use Rattle.depth_cert.specs.declared.keys.Key.{Key}
 use Rattle.depth_cert.specs.Keys.{number_of_key}
-use Rattle.depth_cert.specs.Nodes.{NodeData, IsNode, need_of, find_node}
+use Rattle.depth_cert.specs.Nodes.{NodeData, IsNode, need_or_zero, find_node}
 use Rattle.depth_cert.specs.Certs.{CertData, IsCert}
 use Rattle.depth_cert.specs.Spelling.{bytes_of_cert}
 use Rattle.depth_cert.proofs.KeyLaws.{found_in}
 use Rattle.cfg_recover.specs.RulesHoldOrFail.{certified_need}
 use Rattle.cfg_recover.specs.Entries.{start_key}
-use Rattle.depth_maker.specs.LeastCertMade.{IsMade, needs_in}
+use Rattle.depth_maker.specs.LeastCertMade.{IsLeastCert, need_in_cert}
 use Rattle.depth_maker.specs.Answers.{IsRightMakeErr}
 use Rattle.depth_maker.specs.declared.answering.MakeErr.{MakeErr}
 use Rattle.depth_maker.specs.declared.answering.MakeErr.TheVariants as make_err
@@ -29,7 +29,7 @@ use Rattle.task_chains.specs.Views.{FitPlan, view_image_of, view_plan_of}
 use Rattle.task_chains.specs.Rule17.{KeepsRule17, BreaksRule17, IsRule17Fault}
 use Rattle.task_chains.proofs.GrowthLaws.{task_faults_grow, task_faults_refute}
 use Rattle.task_chains.proofs.Together.{tasks_are_safe}
-use Rattle.tcd_reading.specs.Reports.{Report, ReportFile, says, report_with_files}
+use Rattle.tcd_reading.specs.Reports.{Report, ReportFile, text_report, report_with_files}
 use Rattle.tcd_base.specs.Files.{FilesSeen}
 use Rattle.task_chains.specs.declared.task_lists.TasksErr.TheVariants.{Count}
 use Rattle.tcd_reading.specs.Inputs.{answer}
@@ -38,8 +38,8 @@ use Rattle.tcd_reading.proofs.Told.{comes_told}
 use Rattle.tcd_forms.specs.Lines.{certified_tasks_line, refused_sum_line}
 use Rattle.tcd_driver.specs.BadInputLines.{bad_tasks_line}
 use Rattle.tcd_driver.specs.BestCert.{IsLeastWithNeed}
-use Rattle.tcd_driver.specs.Tasks.{cert_of_task, counted_needs_of_tasks, sum_of_needs, AreFirstTasksJudged, with_name_per_task}
-use Rattle.tcd_driver.specs.Taskcert.{NoneKeepsTaskApart, HasNoTaskCert, unaccepted, not_apart, AreLeastTaskCerts, cert_files, IsTaskcertReport, no_switch, refused, above, certified, MakesTaskViewCert, IsTaskCertWithNeed, MakesTaskCert, AreTaskCertFiles, MakesAllTaskCerts, IsLeastTaskCert}
+use Rattle.tcd_driver.specs.Tasks.{cert_of_task, counted_needs_of_tasks, sum_of_needs, AreFirstTaskCertsAccepted, with_name_per_task}
+use Rattle.tcd_driver.specs.Taskcert.{NoneKeepsTaskApart, HasNoTaskCert, unaccepted, not_apart, AreLeastTaskCerts, cert_files, IsTaskcertReport, no_switch, refused, above, certified, IsTaskViewCertOrErr, IsTaskCertWithNeed, IsTaskCertOrErr, AreTaskCertFiles, AreTaskCertsOrErr, IsLeastTaskCert}
 use Rattle.tcd_reading.specs.declared.status.Status.TheVariants.{Refused, BadInput}
 use Rattle.tcd_reading.proofs.Decided.{IsDecided, decided_answer}
 use Rattle.tcd_driver.proofs.TasksReports.{judged_well, decided_each_named, sum_next, as_many, not_as_many}
@@ -47,7 +47,7 @@ use Rattle.tcd_driver.proofs.Alike.{IsSide, well, against, refusable}
 
 -- ---- the certificate of a view
 -- if the least certificate fails K17, each one does
-none_apart : (v : ImageData) (b : PlanData) (t : TasksData) (c : CertData) (k : Key) (x : ℕ) → IsPlan b → IsCert c → IsMade v b 2 c → BreaksRule17 v b t c k x → NoneKeepsTaskApart v b t
+none_apart : (v : ImageData) (b : PlanData) (t : TasksData) (c : CertData) (k : Key) (x : ℕ) → IsPlan b → IsCert c → IsLeastCert v b 2 c → BreaksRule17 v b t c k x → NoneKeepsTaskApart v b t
 none_apart v b t c k x ok is_c made fails d is_d version accepted apart =
     task_faults_refute v b t d k x (task_faults_grow v b t c d k x ok is_c is_d (made.of_version ∙ sym version) made.accepted accepted (made.best d is_d version accepted).below fails) apart
 
@@ -57,7 +57,7 @@ apart_fails v fields b t c need k x plan_is is_plan least fault =
     not_apart c k x least.is_cert least.made fault (none_apart v b t c k x (subst IsPlan plan_is is_plan) least.is_cert least.made fault.fails)
 
 -- no certificate is made
-pub unmade_view : (v : ImageData) (b : PlanData) (t : TasksData) (e : MakeErr) → IsRightMakeErr v b 2 e → MakesTaskViewCert v b t (Err e)
+pub unmade_view : (v : ImageData) (b : PlanData) (t : TasksData) (e : MakeErr) → IsRightMakeErr v b 2 e → IsTaskViewCertOrErr v b t (Err e)
 unmade_view v b t (make_err.Refused rule key addr) why = unaccepted rule key addr why.1 why.0
 unmade_view v b t make_err.NoMemory why = tt
 
@@ -69,7 +69,7 @@ task_made i fields p parts t u c need v b same is_plan same_t are fit lt seen pl
     let judged = judged_well i fields p parts t c c u need v b same is_plan same_t are refl s.is_cert fit lt seen planned (s.made).accepted s.need_is s.safe apart in
     record {
       made = record {
-        made = subst (λ (q : PlanData). IsMade (view_image_of i t u) q 2 c) planned (subst (λ (w : ImageData). IsMade w b 2 c) seen s.made);
+        made = subst (λ (q : PlanData). IsLeastCert (view_image_of i t u) q 2 c) planned (subst (λ (w : ImageData). IsLeastCert w b 2 c) seen s.made);
         judged = judged.0;
       };
       need_is = judged.1;
@@ -82,38 +82,38 @@ task_uncertified i p t u rule k x v b seen planned h =
 
 -- the result of making a certificate for the task's view
 pub makes_task : (i : ImageData) (fields p : PlanData) (parts t : TasksData) (u : ℕ) (v : ImageData) (b : PlanData) (m : Result (CertData × ℕ) MakeErr) → fields ≡ p → IsPlan fields → parts ≡ t → AreTasks parts → FitPlan p t → u < count t
-    → v ≡ view_image_of i t u → b ≡ view_plan_of p t u → MakesTaskViewCert v b t m → MakesTaskCert i p t u m
+    → v ≡ view_image_of i t u → b ≡ view_plan_of p t u → IsTaskViewCertOrErr v b t m → IsTaskCertOrErr i p t u m
 makes_task i fields p parts t u v b (Ok made) same is_plan same_t are fit lt seen planned h = task_made i fields p parts t u made.0 made.1 v b same is_plan same_t are fit lt seen planned h.0 h.1
 makes_task i fields p parts t u v b (Err (make_err.Refused rule key addr)) same is_plan same_t are fit lt seen planned h = task_uncertified i p t u rule key addr v b seen planned h
 makes_task i fields p parts t u v b (Err make_err.NoMemory) same is_plan same_t are fit lt seen planned h = tt
 
 -- ---- one need for each task
 -- a list is searched alike by keys of one number
-need_there : (c d : CertData) (start : Key) → IsCert c → IsCert d → ((k : Key) → needs_in c k ≤ needs_in d k) → (o : Option NodeData) → find_node start c.nodes ≡ o → need_of o ≤ need_of (find_node start d.nodes)
+need_there : (c d : CertData) (start : Key) → IsCert c → IsCert d → ((k : Key) → need_in_cert c k ≤ need_in_cert d k) → (o : Option NodeData) → find_node start c.nodes ≡ o → need_or_zero o ≤ need_or_zero (find_node start d.nodes)
 need_there c d start is_c is_d least None e = omega arith
 need_there c d start is_c is_d least (Some n) e =
     let found = found_in (λ m. number_of_key m.key == number_of_key start) c.nodes n e in
     let same : number_of_key n.key ≡ number_of_key start = eqb-true _ _ found.1 in
     let key = (All-contains (IsNode c.version) c.nodes n is_c.nodes found.0).key in
-    let here : needs_in c n.key ≡ need_of (find_node start c.nodes) =
-    ap need_of (find_agrees c.version n.key c.nodes key is_c.nodes) ∙ ap (λ (x : ℕ). need_of (find (λ (m : NodeData). number_of_key m.key == x) c.nodes)) same in
-    let there : needs_in d n.key ≡ need_of (find_node start d.nodes) =
-    ap need_of (find_agrees d.version n.key d.nodes key is_d.nodes) ∙ ap (λ (x : ℕ). need_of (find (λ (m : NodeData). number_of_key m.key == x) d.nodes)) same in
-    let le : needs_in c n.key ≤ needs_in d n.key = least n.key in
-    let is : need_of (find_node start c.nodes) ≡ n.need = ap need_of e in
+    let here : need_in_cert c n.key ≡ need_or_zero (find_node start c.nodes) =
+    ap need_or_zero (find_agrees c.version n.key c.nodes key is_c.nodes) ∙ ap (λ (x : ℕ). need_or_zero (find (λ (m : NodeData). number_of_key m.key == x) c.nodes)) same in
+    let there : need_in_cert d n.key ≡ need_or_zero (find_node start d.nodes) =
+    ap need_or_zero (find_agrees d.version n.key d.nodes key is_d.nodes) ∙ ap (λ (x : ℕ). need_or_zero (find (λ (m : NodeData). number_of_key m.key == x) d.nodes)) same in
+    let le : need_in_cert c n.key ≤ need_in_cert d n.key = least n.key in
+    let is : need_or_zero (find_node start c.nodes) ≡ n.need = ap need_or_zero e in
     omega arith
 
 -- each frame has one need in both
-pub same_need : (v : ImageData) (b : PlanData) (c d : CertData) → IsCert c → IsCert d → ((k : Key) → needs_in c k ≤ needs_in d k) → ((k : Key) → needs_in d k ≤ needs_in c k) → certified_need v b c ≡ certified_need v b d
+pub same_need : (v : ImageData) (b : PlanData) (c d : CertData) → IsCert c → IsCert d → ((k : Key) → need_in_cert c k ≤ need_in_cert d k) → ((k : Key) → need_in_cert d k ≤ need_in_cert c k) → certified_need v b c ≡ certified_need v b d
 same_need v b c d is_c is_d below back =
     let le : certified_need v b c ≤ certified_need v b d = need_there c d (start_key v b) is_c is_d below (find_node (start_key v b) c.nodes) refl in
     let ge : certified_need v b d ≤ certified_need v b c = need_there d c (start_key v b) is_d is_c back (find_node (start_key v b) d.nodes) refl in
     omega arith
 
-pub same_below : (n : ℕ) (f g : ℕ → ℕ) → ((u : ℕ) → u < n → f u ≡ g u) → sum_over_chains n f ≡ sum_over_chains n g
+pub same_below : (n : ℕ) (f g : ℕ → ℕ) → ((u : ℕ) → u < n → f u ≡ g u) → sum_of_first n f ≡ sum_of_first n g
 same_below zero f g h = refl
 same_below (suc n) f g h =
-    let low : sum_over_chains n f ≡ sum_over_chains n g = same_below n f g (λ u lt. h u (omega arith)) in
+    let low : sum_of_first n f ≡ sum_of_first n g = same_below n f g (λ u lt. h u (omega arith)) in
     let top : f n ≡ g n = h n (omega arith) in
     omega arith
 
@@ -158,7 +158,7 @@ pub record AreFilesSoFar (names : List (List ℕ)) (i : ImageData) (p : PlanData
   pub many : length certs ≡ n
   pub made : AreLeastTaskCerts i p t certs
   pub files : writes ≡ cert_files names certs
-  pub sum_is : sum ≡ sum_over_chains n (counted_needs_of_tasks i p t certs)
+  pub sum_is : sum ≡ sum_of_first n (counted_needs_of_tasks i p t certs)
   pub few : sum ≤ n * 2 ^ 32
 
 no_files : (names : List (List ℕ)) → cert_files names [] ≡ []
@@ -212,7 +212,7 @@ next_made names i p t n name writes writes' sum need more c bytes at small so_fa
     let last : cert_of_task (certs ++ c ∷ []) n ≡ c = cert_last certs c n many in
     let need_is : more ≡ counted_needs_of_tasks i p t (certs ++ c ∷ []) n =
     counts_as ∙ ap (λ (m : ℕ). if n == 0 then m else max m 2) (s.need_is ∙ ap (certified_need (view_image_of i t n) (view_plan_of p t n)) (sym last)) in
-    let low : sum_over_chains n (counted_needs_of_tasks i p t certs) ≡ sum_over_chains n (counted_needs_of_tasks i p t (certs ++ c ∷ [])) =
+    let low : sum_of_first n (counted_needs_of_tasks i p t certs) ≡ sum_of_first n (counted_needs_of_tasks i p t (certs ++ c ∷ [])) =
     same_below n (counted_needs_of_tasks i p t certs) (counted_needs_of_tasks i p t (certs ++ c ∷ []))
     (λ u lt. ap (λ (c : CertData). if u == 0 then certified_need (view_image_of i t u) (view_plan_of p t u) c else max (certified_need (view_image_of i t u) (view_plan_of p t u) c) 2) (sym (cert_before certs c u (omega arith)))) in
     record {
@@ -222,13 +222,13 @@ next_made names i p t n name writes writes' sum need more c bytes at small so_fa
       files = pushed ∙ ap (λ (ws : List ReportFile). ws ++ record { name = name; bytes = bytes } ∷ []) so_far.files
           ∙ ap (λ (b : List ℕ). cert_files names certs ++ record { name = name; bytes = b } ∷ []) spell
           ∙ sym (file_next names name certs c (ap (λ (m : ℕ). slice_get names m) many ∙ at));
-      sum_is = let so = so_far.sum_is in let next : sum_over_chains (n + 1) (counted_needs_of_tasks i p t (certs ++ c ∷ [])) ≡ sum_over_chains n (counted_needs_of_tasks i p t (certs ++ c ∷ [])) + counted_needs_of_tasks i p t (certs ++ c ∷ []) n = sum_next n (counted_needs_of_tasks i p t (certs ++ c ∷ [])) in omega arith;
+      sum_is = let so = so_far.sum_is in let next : sum_of_first (n + 1) (counted_needs_of_tasks i p t (certs ++ c ∷ [])) ≡ sum_of_first n (counted_needs_of_tasks i p t (certs ++ c ∷ [])) + counted_needs_of_tasks i p t (certs ++ c ∷ []) n = sum_next n (counted_needs_of_tasks i p t (certs ++ c ∷ [])) in omega arith;
       few = omega arith;
     }
 
 -- a task without a certificate is the first
 pub first_uncertified : (names : List (List ℕ)) (i : ImageData) (p : PlanData) (t : TasksData) (n : ℕ) (writes : Vec ReportFile Global) (sum : ℕ) (e : MakeErr) → n < count t → AreFilesSoFar names i p t n writes.items sum
-    → MakesTaskCert i p t n (Err e) → MakesAllTaskCerts names i p t (Err (n, e))
+    → IsTaskCertOrErr i p t n (Err e) → AreTaskCertsOrErr names i p t (Err (n, e))
 first_uncertified names i p t n writes sum (make_err.Refused rule k x) lt so_far h = record {
   task = lt;
   before = λ w less. (cert_of_task so_far.certs w, so_far.made w (let m = so_far.many in omega arith));
@@ -243,11 +243,11 @@ all_made names i p t n writes sum e so_far = record {
   many = so_far.many ∙ e;
   made = so_far.made;
   files = so_far.files;
-  sum_is = so_far.sum_is ∙ ap (λ (m : ℕ). sum_over_chains m (counted_needs_of_tasks i p t so_far.certs)) e;
+  sum_is = so_far.sum_is ∙ ap (λ (m : ℕ). sum_of_first m (counted_needs_of_tasks i p t so_far.certs)) e;
 }
 
 -- ---- the reports of a sum
-judged_all : (i : ImageData) (p : PlanData) (t : TasksData) (certs : List CertData) → length certs ≡ count t → AreLeastTaskCerts i p t certs → AreFirstTasksJudged i p t certs (count t)
+judged_all : (i : ImageData) (p : PlanData) (t : TasksData) (certs : List CertData) → length certs ≡ count t → AreLeastTaskCerts i p t certs → AreFirstTaskCertsAccepted i p t certs (count t)
 judged_all i p t certs many made u lt = (made u (omega arith)).judged
 
 pub written_tasks : (names : List (List ℕ)) (i : ImageData) (fields p : PlanData) (parts t : TasksData) (writes : List ReportFile) (sum n : ℕ) (r : Report) → fields ≡ p → IsPlan fields → parts ≡ t → AreTasks parts → FitPlan p t → HasRoutine i p t
@@ -260,7 +260,7 @@ written_tasks names i fields p parts t writes sum n r same is_plan same_t are fi
     (let s = f.sum_is in let ws = f.files in cc)
 
 pub above_made : (names : List (List ℕ)) (i : ImageData) (fields p : PlanData) (t : TasksData) (writes : List ReportFile) (sum : ℕ) (r : Report) → fields ≡ p → HasRoutine i p t → AreTaskCertFiles names i p t writes sum
-    → fields.areas - fields.reserve < sum → r ≡ says Refused (refused_sum_line sum (fields.areas - fields.reserve)) → IsTaskcertReport names i p t r
+    → fields.areas - fields.reserve < sum → r ≡ text_report Refused (refused_sum_line sum (fields.areas - fields.reserve)) → IsTaskcertReport names i p t r
 above_made names i fields p t writes sum r same has f more e =
     above f.certs has f.many f.made (subst (λ (s : ℕ). p.areas - p.reserve < s) f.sum_is (subst (λ (q : PlanData). q.areas - q.reserve < sum) same more))
     (let s = f.sum_is in cc)
@@ -269,5 +269,5 @@ above_made names i fields p t writes sum r same has f more e =
 pub comes_counted : (names : List (List ℕ)) (t : TasksData) (P : Report → Type 0) (files : FilesSeen) (o : Outcome) → length names ≡ count t → IsReportOutcome P ⊥ o → IsCommandOutcome (with_name_per_task names t (answer P)) files files o
 comes_counted names t P files o many h = as_many (λ r. IsCommandOutcome r files files o) names t (answer P) many (comes_told P files o h)
 
-pub comes_miscounted : (names : List (List ℕ)) (t : TasksData) (P : Report → Type 0) (files : FilesSeen) (o : Outcome) → (length names ≡ count t → ⊥) → IsReportOutcome (λ r. r ≡ says BadInput (bad_tasks_line Count)) ⊥ o → IsCommandOutcome (with_name_per_task names t (answer P)) files files o
+pub comes_miscounted : (names : List (List ℕ)) (t : TasksData) (P : Report → Type 0) (files : FilesSeen) (o : Outcome) → (length names ≡ count t → ⊥) → IsReportOutcome (λ r. r ≡ text_report BadInput (bad_tasks_line Count)) ⊥ o → IsCommandOutcome (with_name_per_task names t (answer P)) files files o
 comes_miscounted names t P files o few h = not_as_many (λ r. IsCommandOutcome r files files o) names t (answer P) few (comes_told _ files o h)

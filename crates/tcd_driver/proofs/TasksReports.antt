@@ -4,7 +4,7 @@ use Rattle.std.specs.Prelude.{max, if◌then◌else◌}
 use Rattle.std.proofs.lemmas.Bool.Decides.{eqb_tells}
 use Rattle.std.proofs.lemmas.Bool.{cases_lt}
 use Rattle.std.proofs.lemmas.Option.{slice_get-get_or}
-use Rattle.csa_chain.specs.SeveralChains.{sum_over_chains}
+use Rattle.csa_chain.specs.SeveralChains.{sum_of_first}
 use Rattle.elf_image.specs.Images.{ImageData}
 use Rattle.tcd_plan.specs.PlanData.{PlanData, IsPlan}
 use Rattle.tcd_text.specs.Lines.{text_lines}
@@ -23,12 +23,12 @@ use Rattle.task_chains.proofs.GrowthLaws.{task_faults_refute}
 use Rattle.task_chains.proofs.ReadOne.{reads_one}
 use Rattle.task_chains.proofs.Together.{tasks_are_safe}
 use Rattle.task_chains.proofs.ViewPlan.{view_is_plan}
-use Rattle.tcd_reading.specs.Reports.{Report, says}
+use Rattle.tcd_reading.specs.Reports.{Report, text_report}
 use Rattle.tcd_reading.specs.Inputs.{Reading}
 use Rattle.tcd_forms.specs.Forms.{cert_form}
 use Rattle.tcd_driver.specs.CellAndTaskForms.{tasks_form}
 use Rattle.tcd_forms.specs.Lines.{certified_tasks_line}
-use Rattle.tcd_driver.specs.Tasks.{cert_of_task, IsTaskRefused, unaccepted, not_apart, counted_needs_of_tasks, sum_of_needs, AreFirstTasksJudged, IsTasksVerdict, no_switch, refused, above, certified, tasks_reading_if, with_name_per_task, task_certs_reading}
+use Rattle.tcd_driver.specs.Tasks.{cert_of_task, IsTaskRefused, unaccepted, not_apart, counted_needs_of_tasks, sum_of_needs, AreFirstTaskCertsAccepted, IsTasksVerdict, no_switch, refused, above, certified, tasks_reading_if, with_name_per_task, task_certs_reading}
 use Rattle.tcd_reading.specs.declared.status.Status.TheVariants.{Done, Refused, BadInput}
 use Rattle.tcd_reading.proofs.Decided.{AreAlike, IsLawful, IsDecided, decided_each, decided_answer}
 use Rattle.tcd_forms.proofs.FormLaws.{cert_lawful}
@@ -86,7 +86,7 @@ module _ (i : ImageData) (p : PlanData) (t : TasksData) (certs : List CertData) 
   -- nothing is against the tasks
   record IsWell : Type 0 where
     pub routine : HasRoutine i p t
-    pub judged : AreFirstTasksJudged i p t certs (count t)
+    pub judged : AreFirstTaskCertsAccepted i p t certs (count t)
     pub within : sum_of_needs i p t certs ≤ p.areas - p.reserve
 
   side : (r : Report) → IsTasksVerdict i p t certs r → IsSide IsWell Refused r
@@ -99,7 +99,7 @@ module _ (i : ImageData) (p : PlanData) (t : TasksData) (certs : List CertData) 
   tasks_alike = refusable side
 
 -- one report of a refusal
-bad_input_alike : (text : List ℕ) → AreAlike (λ r. r ≡ says BadInput text)
+bad_input_alike : (text : List ℕ) → AreAlike (λ r. r ≡ text_report BadInput text)
 bad_input_alike text = alike {Holds = ⊥} (λ r e. against text e (λ w. w)) (inr (inr refl))
 
 decided_if : (b : Bool) (reading : Reading) → IsDecided reading → IsDecided (tasks_reading_if b reading)
@@ -125,22 +125,22 @@ not_as_many P names t reading e h = elim (eqb_tells (length names) (count t)) [ 
 -- ---- the reports of a sum
 -- the certificates of the tasks below n are judged well, and this is the sum of their needs
 pub record AreTallied (image : ImageData) (plan : PlanData) (tasks : TasksData) (certs : List CertData) (n total : ℕ) : Type 0 where
-  pub judged : AreFirstTasksJudged image plan tasks certs n
-  pub sum : total ≡ sum_over_chains n (counted_needs_of_tasks image plan tasks certs)
+  pub judged : AreFirstTaskCertsAccepted image plan tasks certs n
+  pub sum : total ≡ sum_of_first n (counted_needs_of_tasks image plan tasks certs)
   pub few : total ≤ n * 2 ^ 32
 
 pub certified_tasks : (i : ImageData) (fields p : PlanData) (parts t : TasksData) (certs : List CertData) (sum n : ℕ) (r : Report) → fields ≡ p → IsPlan fields → parts ≡ t → AreTasks parts → FitPlan p t → HasRoutine i p t
-    → AreFirstTasksJudged i p t certs (count t) → sum ≡ sum_of_needs i p t certs → sum ≤ fields.areas - fields.reserve → n ≡ count t → r ≡ says Done (certified_tasks_line sum (fields.areas - fields.reserve) n) → IsTasksVerdict i p t certs r
+    → AreFirstTaskCertsAccepted i p t certs (count t) → sum ≡ sum_of_needs i p t certs → sum ≤ fields.areas - fields.reserve → n ≡ count t → r ≡ text_report Done (certified_tasks_line sum (fields.areas - fields.reserve) n) → IsTasksVerdict i p t certs r
 certified_tasks i fields p parts t certs sum n r same is_plan same_t are fit has judged is within many e =
     let room : sum_of_needs i p t certs ≤ p.areas - p.reserve = subst (λ (s : ℕ). s ≤ p.areas - p.reserve) is (subst (λ (q : PlanData). sum ≤ q.areas - q.reserve) same within) in
     certified has judged room (tasks_are_safe i p t (cert_of_task certs) (subst IsPlan same is_plan) (subst AreTasks same_t are) fit has judged room)
     cc
 
 -- ---- one task after another
-pub sum_next : (n : ℕ) (f : ℕ → ℕ) → sum_over_chains (n + 1) f ≡ sum_over_chains n f + f n
-sum_next n f = let one : n + 1 ≡ suc n = omega arith in ap (λ (m : ℕ). sum_over_chains m f) one
+pub sum_next : (n : ℕ) (f : ℕ → ℕ) → sum_of_first (n + 1) f ≡ sum_of_first n f + f n
+sum_next n f = let one : n + 1 ≡ suc n = omega arith in ap (λ (m : ℕ). sum_of_first m f) one
 
-judged_next : (i : ImageData) (p : PlanData) (t : TasksData) (certs : List CertData) (n : ℕ) → AreFirstTasksJudged i p t certs n → IsSoundTaskCert i p t (cert_of_task certs n) n → AreFirstTasksJudged i p t certs (n + 1)
+judged_next : (i : ImageData) (p : PlanData) (t : TasksData) (certs : List CertData) (n : ℕ) → AreFirstTaskCertsAccepted i p t certs n → IsSoundTaskCert i p t (cert_of_task certs n) n → AreFirstTaskCertsAccepted i p t certs (n + 1)
 judged_next i p t certs n before here u lt =
     elim (cases_lt u n) [ inl less ↦ before u less | inr not ↦ let e : n ≡ u = omega arith in subst (λ (w : ℕ). IsSoundTaskCert i p t (cert_of_task certs w) w) e here ]
 
@@ -152,7 +152,7 @@ next_tallied i p t certs c n total need more at small tallied judged counts =
     let below = tallied.few in
     let need_is : more ≡ counted_needs_of_tasks i p t certs n =
     counts ∙ ap (λ (m : ℕ). if n == 0 then m else max m 2) (judged.1 ∙ ap (λ (x : CertData). certified_need (view_image_of i t n) (view_plan_of p t n) x) (sym at)) in
-    let step : sum_over_chains (n + 1) (counted_needs_of_tasks i p t certs) ≡ sum_over_chains n (counted_needs_of_tasks i p t certs) + counted_needs_of_tasks i p t certs n = sum_next n (counted_needs_of_tasks i p t certs) in
+    let step : sum_of_first (n + 1) (counted_needs_of_tasks i p t certs) ≡ sum_of_first n (counted_needs_of_tasks i p t certs) + counted_needs_of_tasks i p t certs n = sum_next n (counted_needs_of_tasks i p t certs) in
     record {
       judged = judged_next i p t certs n tallied.judged here;
       sum = let s = tallied.sum in omega arith;

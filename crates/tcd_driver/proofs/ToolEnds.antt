@@ -3,7 +3,7 @@
 use Rattle.std.proofs.Common.{◌≡◌, ◌≢◌, ◌<◌, ◌≤◌, ◌+◌, ◌^◌, ◌==◌, ◌⊎◌, inl, inr, ℕ, suc, Bool, true, false, List, [], ◌∷◌, length, map, Option, Some, Ok, refl, sym, ap, subst, ◌∙◌, arith}
 use Rattle.std.specs.Prelude.{max, if◌then◌else◌}
 use Rattle.std.proofs.lemmas.Bool.{eqb-true, eqb-false}
-use Rattle.csa_chain.specs.SeveralChains.{sum_over_chains}
+use Rattle.csa_chain.specs.SeveralChains.{sum_of_first}
 use Rattle.elf_image.specs.Images.{ImageData}
 use Rattle.tcd_plan.specs.PlanData.{PlanData}
 use Rattle.tc_script.specs.Numbers.{script_number}
@@ -19,7 +19,7 @@ use Rattle.tc_boot.specs.Judging.{HasBoot}
 use Rattle.tc_boot.proofs.JudgeOne.{not_both}
 use Rattle.value_cells.specs.declared.cells.Cell.{Cell}
 use Rattle.value_cells.specs.Cells.{with_cells}
-use Rattle.value_cells.specs.Keeping.{KeepsCells}
+use Rattle.value_cells.specs.Keeping.{CertKeepsCells}
 use Rattle.value_cells.proofs.GrowthLaws.{cell_faults_refute}
 use Rattle.task_chains.specs.Tasks.{TasksData, count}
 use Rattle.task_chains.specs.Views.{view_image_of, view_plan_of}
@@ -28,31 +28,31 @@ use Rattle.task_chains.proofs.GrowthLaws.{task_faults_refute}
 use Rattle.tcd_report.specs.Generated.{generated_image}
 use Rattle.tcd_report.specs.Generated.Planned.{generated_plan}
 use Rattle.tcd_base.specs.Files.{FileMap}
-use Rattle.tcd_reading.specs.Inputs.{Reading, answer, each, input}
-use Rattle.tcd_forms.specs.Forms.{SourceData, elf_form, plan_form, cert_form, script_form, source_form, placed_source_form, layout_form, object_form}
+use Rattle.tcd_reading.specs.Inputs.{Reading, answer, input_files, input}
+use Rattle.tcd_forms.specs.Forms.{SourceData, elf_form, plan_form, cert_form, script_form, source_form, numbered_source_form, layout_form, object_form}
 use Rattle.tcd_driver.specs.CellAndTaskForms.{cells_form, tasks_form}
 use Rattle.tcd_driver.specs.DistinctNames.{are_distinct_names}
 use Rattle.tcd_driver.specs.Commands as asked
 use Rattle.tcd_driver.specs.Commands.{Command, reading_of}
-use Rattle.tcd_driver.specs.Check.{CheckNames}
-use Rattle.tcd_driver.specs.Cert.{CertNames}
-use Rattle.tcd_driver.specs.Cfg.{CfgNames}
-use Rattle.tcd_driver.specs.Reporting.{ReportNames}
-use Rattle.tcd_driver.specs.Run.{RunNames}
-use Rattle.tcd_driver.specs.Asm.{AsmNames}
-use Rattle.tcd_driver.specs.Link.{LinkNames, IsLinkReport}
-use Rattle.tcd_driver.specs.Ship.{ShipNames, IsShipReport}
-use Rattle.tcd_driver.specs.Boot.{BootNames, BootgenNames}
-use Rattle.tcd_driver.specs.Cells.{CellsNames}
-use Rattle.tcd_driver.specs.Cellcert.{CellcertNames}
-use Rattle.tcd_driver.specs.Tasks.{TasksNames, IsTasksVerdict, cert_of_task, tasks_reading_if, with_name_per_task}
-use Rattle.tcd_driver.specs.Taskcert.{TaskcertNames}
+use Rattle.tcd_driver.specs.Check.{CheckArgs}
+use Rattle.tcd_driver.specs.Cert.{CertArgs}
+use Rattle.tcd_driver.specs.Cfg.{CfgArgs}
+use Rattle.tcd_driver.specs.Reporting.{ReportArgs}
+use Rattle.tcd_driver.specs.Run.{RunArgs}
+use Rattle.tcd_driver.specs.Asm.{AsmArgs}
+use Rattle.tcd_driver.specs.Link.{LinkArgs, IsLinkReport}
+use Rattle.tcd_driver.specs.Ship.{ShipArgs, IsShipReport}
+use Rattle.tcd_driver.specs.Boot.{BootArgs, BootgenArgs}
+use Rattle.tcd_driver.specs.Cells.{CellsArgs}
+use Rattle.tcd_driver.specs.Cellcert.{CellcertArgs}
+use Rattle.tcd_driver.specs.Tasks.{TasksArgs, IsTasksVerdict, cert_of_task, tasks_reading_if, with_name_per_task}
+use Rattle.tcd_driver.specs.Taskcert.{TaskcertArgs}
 use Rattle.tcd_driver.specs.Gen.{IsGenFunctionCount}
 use Rattle.tcd_driver.specs.BadInputLines.{bad_tasks_line}
 use Rattle.tcd_driver.specs.Headlines.{HoldEachFile, AreFirmwareFiles, AreCheckFiles, HeadlineOfCheck, RefusalByCheck, HeadlineOfCert, RefusalByCert, HeadlineOfRun, HoldsPlan}
 use Rattle.tcd_driver.specs.Headlines.Asks.{InputRequirement, is_elf, is_plan, is_cert, is_layout, is_object, is_source, is_script, are_cells, are_tasks, are_linked, are_linked_sources, is_cert_per_task, require_each, HoldsTasks, HoldsCells}
 use Rattle.tcd_driver.specs.Headlines.Boots.{HeadlineOfBoot, RefusalByBoot, HeadlineOfBootgen}
-use Rattle.tcd_driver.specs.Headlines.Builds.{HeadlineOfAsm, HeadlineOfLink, IsObjectText, IsSourceText, IsImageOfFiles, HeadlineOfShip, RefusalByShip}
+use Rattle.tcd_driver.specs.Headlines.Builds.{HeadlineOfAsm, HeadlineOfLink, AreObjectBytes, IsSourceText, IsImageOfFiles, HeadlineOfShip, RefusalByShip}
 use Rattle.tcd_driver.specs.Headlines.Cells.{AreCellFiles, HeadlineOfCells, RefusalByCells, HeadlineOfCellcert, RefusalByCellcert}
 use Rattle.tcd_driver.specs.Headlines.Reports.{HeadlineOfCfg, HeadlineOfReport, HeadlineOfDis, HeadlineOfGen, RefusalByGen}
 use Rattle.tcd_driver.specs.Headlines.Tasks.{AreTaskFiles, IsAcceptedForTask, AreTasksSafeTogether, sum_of_task_needs, HeadlineOfTasks, IsTasksFault, no_switch, refused_task, above, RefusalByTasks, HoldTaskCerts, IsLeastForTask, HeadlineOfTaskcert, NoCertForTask, unaccepted, not_apart, IsTaskcertFault, switch_missing, without, sum_above, RefusalByTaskcert}
@@ -91,7 +91,7 @@ firmware_good : {m : FileMap} {elf plan : List ℕ} {i : ImageData} {p : PlanDat
 firmware_good {m} {elf} {plan} {i} {p} asks h rest = ((i, h.elf_file), ((p, h.plan_file), rest))
 
 -- ---- check
-pub check_ends : (names : CheckNames) → Answers (asked.check names) (is_elf names.elf ∷ is_plan names.plan ∷ is_cert names.cert ∷ []) (HeadlineOfCheck names.elf names.plan names.cert) (RefusalByCheck names.elf names.plan names.cert)
+pub check_ends : (names : CheckArgs) → Answers (asked.check names) (is_elf names.elf ∷ is_plan names.plan ∷ is_cert names.cert ∷ []) (HeadlineOfCheck names.elf names.plan names.cert) (RefusalByCheck names.elf names.plan names.cert)
 check_ends names = record {
   follows = λ m. then_checked (check_means names m);
   good = λ m after text h. elim h [ inl d ↦ check_good d.files | inr k ↦ check_good k.files ];
@@ -103,7 +103,7 @@ check_ends names = record {
 none_alike : {m : FileMap} {elf plan : List ℕ} {i j : ImageData} {p q : PlanData} (c : CertData) → AreFirmwareFiles m elf plan i p → AreFirmwareFiles m elf plan j q → Accepts i p c → Accepts j q c
 none_alike c h k accepted = let same = firmware_one h k in accepts_as same.0 same.1 refl accepted
 
-pub cert_ends : (names : CertNames) → Answers (asked.certify names) (is_elf names.elf ∷ is_plan names.plan ∷ []) (HeadlineOfCert names.elf names.plan names.cert) (RefusalByCert names.elf names.plan)
+pub cert_ends : (names : CertArgs) → Answers (asked.certify names) (is_elf names.elf ∷ is_plan names.plan ∷ []) (HeadlineOfCert names.elf names.plan names.cert) (RefusalByCert names.elf names.plan)
 cert_ends names = record {
   follows = λ m. then_firmware (λ i p files. then_answer (λ r. cert_means names m i p r files));
   good = λ m after text h. elim h [ inl d ↦ firmware_good [] d.files tt | inr k ↦ firmware_good [] k.files tt ];
@@ -111,7 +111,7 @@ cert_ends names = record {
 }
 
 -- ---- cfg
-pub cfg_ends : (names : CfgNames) → Answers (asked.cfg names) (is_elf names.elf ∷ is_plan names.plan ∷ []) (HeadlineOfCfg names.elf names.plan) (RefusalByCert names.elf names.plan)
+pub cfg_ends : (names : CfgArgs) → Answers (asked.cfg names) (is_elf names.elf ∷ is_plan names.plan ∷ []) (HeadlineOfCfg names.elf names.plan) (RefusalByCert names.elf names.plan)
 cfg_ends names = record {
   follows = λ m. then_firmware (λ i p files. then_answer (λ r. cfg_means names m i p r files));
   good = λ m after text h. elim h [ inl d ↦ firmware_good [] d.files tt | inr k ↦ firmware_good [] k.files tt ];
@@ -119,7 +119,7 @@ cfg_ends names = record {
 }
 
 -- ---- report
-pub report_ends : (names : ReportNames) → Answers (asked.report names) (is_elf names.elf ∷ is_plan names.plan ∷ is_cert names.cert ∷ []) (HeadlineOfReport names.elf names.plan names.cert) (RefusalByCheck names.elf names.plan names.cert)
+pub report_ends : (names : ReportArgs) → Answers (asked.report names) (is_elf names.elf ∷ is_plan names.plan ∷ is_cert names.cert ∷ []) (HeadlineOfReport names.elf names.plan names.cert) (RefusalByCheck names.elf names.plan names.cert)
 report_ends names = record {
   follows = λ m. then_checked (report_means names m);
   good = λ m after text h. elim h [ inl d ↦ check_good d.files | inr k ↦ check_good k.files ];
@@ -127,7 +127,7 @@ report_ends names = record {
 }
 
 -- ---- run
-pub run_ends : (names : RunNames) → Answers (asked.run names) (is_elf names.elf ∷ is_plan names.plan ∷ is_script names.plan names.script ∷ []) (HeadlineOfRun names.elf names.plan names.script) NeverRefuses
+pub run_ends : (names : RunArgs) → Answers (asked.run names) (is_elf names.elf ∷ is_plan names.plan ∷ is_script names.plan names.script ∷ []) (HeadlineOfRun names.elf names.plan names.script) NeverRefuses
 run_ends names = record {
   follows = λ m. then_firmware (λ i p files. then_input (script_asked m names.script names.plan p files.plan_file) (λ s s_is. then_answer (λ r. run_means names m i p s r files (held_as (script_form p) m names.script s s_is))));
   good = λ m after text h. elim h [ inl d ↦ firmware_good (is_script names.plan names.script ∷ []) d.files ((d.plan, d.script, (d.files).plan_file, d.script_file), tt) | inr k ↦ absurd k ];
@@ -142,22 +142,22 @@ dis_ends elf = record {
   apart = λ m after other text line h k. k;
 }
 
-pub asm_ends : (names : AsmNames) → Answers (asked.asm names) (is_source 0 names.source ∷ []) (HeadlineOfAsm names.source names.object) NeverRefuses
+pub asm_ends : (names : AsmArgs) → Answers (asked.asm names) (is_source 0 names.source ∷ []) (HeadlineOfAsm names.source names.object) NeverRefuses
 asm_ends names = record {
   follows = λ m. then_input (source_asked m names.source) (λ o o_is. then_answer (λ r. asm_means names m o r (held_as source_form m names.source o o_is)));
   good = λ m after text h. elim h [ inl d ↦ ((d.object, d.source_file), tt) | inr k ↦ absurd k ];
   apart = λ m after other text line h k. k;
 }
 
-pub link_ends : (names : LinkNames) → Answers (asked.link names) (is_layout names.layout ∷ require_each is_object 0 names.objects (are_linked names.layout names.objects ∷ [])) (HeadlineOfLink names.layout names.image names.objects) NeverRefuses
+pub link_ends : (names : LinkArgs) → Answers (asked.link names) (is_layout names.layout ∷ require_each is_object 0 names.objects (are_linked names.layout names.objects ∷ [])) (HeadlineOfLink names.layout names.image names.objects) NeverRefuses
 link_ends names = record {
   follows = λ m. then_input (layout_asked m names.layout) (λ l l_is.
-      then_each object_form (2 ^ 24) IsObjectText is_object (are_linked names.layout names.objects ∷ []) object_told (λ place name. object_asked m name place) 0 names.objects (λ os. answer (IsLinkReport names.image l os))
+      then_each object_form (2 ^ 24) AreObjectBytes is_object (are_linked names.layout names.objects ∷ []) object_told (λ place name. object_asked m name place) 0 names.objects (λ os. answer (IsLinkReport names.image l os))
       (λ os held. then_answer (λ r. link_means names m l os r (record { layout_file = held_as layout_form m names.layout l l_is; object_files = held }))));
   good = λ m after text h. elim h [
     | inl d ↦ (
       (d.layout, (d.files).layout_file),
-      good_each m (2 ^ 24) IsObjectText is_object (are_linked names.layout names.objects ∷ []) (λ place name x held. (x, held)) 0 names.objects d.objects (d.files).object_files ((d.layout, d.objects, d.image, d.files, d.linked), tt),
+      good_each m (2 ^ 24) AreObjectBytes is_object (are_linked names.layout names.objects ∷ []) (λ place name x held. (x, held)) 0 names.objects d.objects (d.files).object_files ((d.layout, d.objects, d.image, d.files, d.linked), tt),
     )
     | inr k ↦ absurd k
   ];
@@ -185,11 +185,11 @@ image_good m plan layout sources p i h = (
   ),
 )
 
-pub ship_ends : (names : ShipNames) → names.elf ≢ names.cert → Answers (asked.ship names) (is_plan names.plan ∷ is_layout names.layout ∷ require_each is_source 0 names.sources (are_linked_sources names.layout names.sources ∷ []))
+pub ship_ends : (names : ShipArgs) → names.elf ≢ names.cert → Answers (asked.ship names) (is_plan names.plan ∷ is_layout names.layout ∷ require_each is_source 0 names.sources (are_linked_sources names.layout names.sources ∷ []))
     (HeadlineOfShip names.plan names.layout names.elf names.cert names.sources) (RefusalByShip names.plan names.layout names.sources)
 ship_ends names differ = record {
   follows = λ m. then_input (plan_asked m names.plan) (λ p p_is. then_input (layout_asked m names.layout) (λ l l_is.
-      then_each placed_source_form (2 ^ 24) IsSourceText is_source (are_linked_sources names.layout names.sources ∷ []) source_told (λ place name. placed_source_asked m name place) 0 names.sources (λ ss. answer (IsShipReport names.elf names.cert p l ss))
+      then_each numbered_source_form (2 ^ 24) IsSourceText is_source (are_linked_sources names.layout names.sources ∷ []) source_told (λ place name. placed_source_asked m name place) 0 names.sources (λ ss. answer (IsShipReport names.elf names.cert p l ss))
       (λ ss held. then_answer (ship_means names differ m p l ss (held_as plan_form m names.plan p p_is) (held_as layout_form m names.layout l l_is) held))));
   good = λ m after text h. elim h [ inl d ↦ image_good m names.plan names.layout names.sources d.plan d.image d.image_is | inr k ↦ image_good m names.plan names.layout names.sources k.plan k.image k.image_is ];
   apart = λ m after other text line h k.
@@ -201,7 +201,7 @@ ship_ends names differ = record {
 same_number : (o : Option ℕ) (a b : ℕ) → o ≡ Some a → o ≡ Some b → a ≡ b
 same_number o a b e f = cc
 
-pub boot_ends : (names : BootNames) (word : List ℕ) → hex_number_of word ≡ Some names.at →
+pub boot_ends : (names : BootArgs) (word : List ℕ) → hex_number_of word ≡ Some names.at →
     Answers (asked.boot names) (is_elf names.elf ∷ is_plan names.plan ∷ is_cert names.cert ∷ []) (HeadlineOfBoot names.elf names.plan names.cert word) (RefusalByBoot names.elf names.plan names.cert word)
 boot_ends names word at_is = record {
   follows = λ m. then_checked (boot_means names word at_is m);
@@ -217,7 +217,7 @@ boot_ends names word at_is = record {
   ];
 }
 
-pub bootgen_ends : (names : BootgenNames) (entry_word at_word : List ℕ) → hex_number_of entry_word ≡ Some names.entry → hex_number_of at_word ≡ Some names.at → names.at + 224 ≤ 2 ^ 32 →
+pub bootgen_ends : (names : BootgenArgs) (entry_word at_word : List ℕ) → hex_number_of entry_word ≡ Some names.entry → hex_number_of at_word ≡ Some names.at → names.at + 224 ≤ 2 ^ 32 →
     Answers (asked.bootgen names) (is_plan names.plan ∷ []) (HeadlineOfBootgen names.plan entry_word at_word names.source) NeverRefuses
 bootgen_ends names entry_word at_word entry_is at_is room = record {
   follows = λ m. then_input (plan_asked m names.plan) (λ p p_is. then_answer (λ r. bootgen_means names entry_word at_word entry_is at_is room m p r (held_as plan_form m names.plan p p_is)));
@@ -245,9 +245,9 @@ list_as {A} {m} {elf} {plan} {i} {j} {p} {q} {x} {y} Held one Holds h k here the
 -- the certificate is accepted under the plan with the cells, and keeps them
 record AreKept (c : CertData) (i : ImageData) (p : PlanData) (cs : List Cell) : Type 0 where
   accepted : Accepts i (with_cells p cs) c
-  keeps : KeepsCells i (with_cells p cs) cs c
+  keeps : CertKeepsCells i (with_cells p cs) cs c
 
-pub cells_ends : (names : CellsNames) → Answers (asked.cells names) (is_elf names.elf ∷ is_plan names.plan ∷ are_cells names.plan names.cells ∷ is_cert names.cert ∷ [])
+pub cells_ends : (names : CellsArgs) → Answers (asked.cells names) (is_elf names.elf ∷ is_plan names.plan ∷ are_cells names.plan names.cells ∷ is_cert names.cert ∷ [])
     (HeadlineOfCells names.elf names.plan names.cells names.cert) (RefusalByCells names.elf names.plan names.cells names.cert)
 cells_ends names = record {
   follows = λ m. then_cells (λ i p cs files. then_input (cert_asked m names.cert) (λ c c_is. then_answer (cells_means names m i p cs c files (held_as cert_form m names.cert c c_is))));
@@ -260,7 +260,7 @@ cells_ends names = record {
 }
 
 -- ---- cellcert
-pub cellcert_ends : (names : CellcertNames) → Answers (asked.cellcert names) (is_elf names.elf ∷ is_plan names.plan ∷ are_cells names.plan names.cells ∷ [])
+pub cellcert_ends : (names : CellcertArgs) → Answers (asked.cellcert names) (is_elf names.elf ∷ is_plan names.plan ∷ are_cells names.plan names.cells ∷ [])
     (HeadlineOfCellcert names.elf names.plan names.cells names.cert) (RefusalByCellcert names.elf names.plan names.cells)
 cellcert_ends names = record {
   follows = λ m. then_cells (λ i p cs files. then_answer (cellcert_means names m i p cs files));
@@ -309,7 +309,7 @@ task_files_good {m} {elf} {plan} {list} {i} {p} {t} certs asks h many rest =
     firmware_good (are_tasks plan list ∷ is_cert_per_task plan list certs ∷ asks) h.firmware ((p, t, (h.firmware).plan_file, h.tasks_file), ((p, t, (h.firmware).plan_file, h.tasks_file, many), rest))
 
 module _ (i : ImageData) (p : PlanData) (t : TasksData) (cs : List CertData) (needs : ℕ → ℕ) (h : AreTasksSafeTogether i p t cs needs) where
-  sum_as : sum_over_chains (count t) needs ≡ sum_of_task_needs i p t cs
+  sum_as : sum_of_first (count t) needs ≡ sum_of_task_needs i p t cs
   sum_as = same_below (count t) needs (need_of_task i p t (cert_of_task cs)) (λ u lt. h.needs_are u)
 
   tasks_refuted : (line : List ℕ) → IsTasksFault i p t cs line → ⊥
@@ -326,7 +326,7 @@ task_certs_good {m} {elf} {plan} {list} {i} {p} {t} certs cs held files many =
     task_files_good certs (require_each (λ place name. is_cert name) 0 certs []) files (held_many m (2 ^ 30) (λ bytes cert. certificate_of bytes ≡ Ok cert) certs cs held ∙ many)
     (good_each m (2 ^ 30) (λ bytes cert. certificate_of bytes ≡ Ok cert) (λ place name. is_cert name) [] (λ place name x held. (x, held)) 0 certs cs held tt)
 
-pub tasks_end : (names : TasksNames) →
+pub tasks_end : (names : TasksArgs) →
     Answers (asked.tasks names)
     (is_elf names.elf ∷ is_plan names.plan ∷ are_tasks names.plan names.tasks ∷ is_cert_per_task names.plan names.tasks names.certs ∷ require_each (λ place name. is_cert name) 0 names.certs [])
     (HeadlineOfTasks names.elf names.plan names.tasks names.certs) (RefusalByTasks names.elf names.plan names.tasks names.certs)
@@ -380,7 +380,7 @@ module _ (i : ImageData) (p : PlanData) (t : TasksData) (cs : List CertData) (ne
       let enough = (h.together).enough in
       omega (arith, same, ours, enough, more)
 
-pub taskcert_ends : (names : TaskcertNames) → are_distinct_names names.certs ≡ true →
+pub taskcert_ends : (names : TaskcertArgs) → are_distinct_names names.certs ≡ true →
     Answers (asked.taskcert names) (is_elf names.elf ∷ is_plan names.plan ∷ are_tasks names.plan names.tasks ∷ is_cert_per_task names.plan names.tasks names.certs ∷ [])
     (HeadlineOfTaskcert names.elf names.plan names.tasks names.certs) (RefusalByTaskcert names.elf names.plan names.tasks names.certs)
 taskcert_ends names different = record {

@@ -20,7 +20,7 @@ use Rattle.tcd_driver.specs.BadInputLines.{bad_words_line}
 use Rattle.tcd_driver.specs.Commands as asked
 use Rattle.tcd_driver.specs.Commands.{Command, command, reading_of, is_link, is_ship, is_tasks, is_taskcert}
 use Rattle.tcd_driver.specs.DistinctNames.{are_distinct_names}
-use Rattle.tcd_driver.specs.Tool.{ToolCall, ToolCallMeans, EndsWithBadWords, CannotFail, CanEnd, IsDecidedStatus, MayPrintText, of_bad_words, when_done, when_refused, when_bad, CommandSays, ToolSays, NeverRefuses}
+use Rattle.tcd_driver.specs.Tool.{ToolCall, ToolCallMeans, EndsWithBadWords, CallCannotFail, CallCanEnd, IsDecidedStatus, MayPrintText, of_bad_words, when_done, when_refused, when_bad, CommandSays, ToolSays, NeverRefuses}
 use Rattle.tcd_driver.specs.Headlines.Asks.{InputRequirement, BadInputOf}
 use Rattle.tcd_driver.proofs.Headlines.{Means, is_bad, is_done, is_refused}
 use Rattle.tcd_driver.proofs.Headlines.Asks.{never_bad}
@@ -207,7 +207,7 @@ module _ (call : ToolCall) where
           (λ r said. leaves_as m asks IfDone IfRefused r (((f.answers).follows m).means r said))
           (subst (λ (s : Status). HasEnded (reading_of f.c) call.files call.files_after call.sink call.sink_after s) is (f.ended).ended)
 
-      module _ (m : FileMap) (are : call.words ≡ words) (sure : CannotFail call m asks (MayPrintText (IfDone m) (IfRefused m) (BadInputOf asks m))) (some_memory : call.status ≢ NoMemory) (good_words : call.status ≢ BadWords) where
+      module _ (m : FileMap) (are : call.words ≡ words) (sure : CallCannotFail call m asks (MayPrintText (IfDone m) (IfRefused m) (BadInputOf asks m))) (some_memory : call.status ≢ NoMemory) (good_words : call.status ≢ BadWords) where
         has_room : (text : List ℕ) → MayPrintText (IfDone m) (IfRefused m) (BadInputOf asks m) text → HasRoomFor call.sink text
         has_room text may = subst (λ (o : Option ℕ). IsSomeAnd o (λ n. length text ≤ n)) (sym sure.room_is) (sure.fits text may)
 
@@ -239,20 +239,20 @@ module _ (call : ToolCall) where
         by_ended (ending.no_memory e held quiet) = absurd (some_memory e)
 
         -- what an end with this status means
-        can : (status : Status) → IsTold status → call.status ≡ status → CanEnd (Meant asks IfDone IfRefused status m)
+        can : (status : Status) → IsTold status → call.status ≡ status → CallCanEnd (Meant asks IfDone IfRefused status m)
         can status is_told is = let e = means status is_told m are is sure.held in (e.0, e.1, e.4)
 
-        end_is_done : CanEnd (IfDone m) → IsReportStatus call.status → call.status ≡ Done
+        end_is_done : CallCanEnd (IfDone m) → IsReportStatus call.status → call.status ≡ Done
         end_is_done d (inl e) = e
         end_is_done d (inr (inl e)) = let k = can Refused refused_told e in absurd ((here.answers).apart m d.0 k.0 d.1 k.1 d.2 k.2)
         end_is_done d (inr (inr e)) = let b = can BadInput bad_told e in absurd (never_bad m asks b.1 ((here.answers).good m d.0 d.1 (inl d.2)) (b.2).first)
 
-        end_is_refused : CanEnd (IfRefused m) → IsReportStatus call.status → call.status ≡ Refused
+        end_is_refused : CallCanEnd (IfRefused m) → IsReportStatus call.status → call.status ≡ Refused
         end_is_refused k (inl e) = let d = can Done done_told e in absurd ((here.answers).apart m d.0 k.0 d.1 k.1 d.2 k.2)
         end_is_refused k (inr (inl e)) = e
         end_is_refused k (inr (inr e)) = let b = can BadInput bad_told e in absurd (never_bad m asks b.1 ((here.answers).good m k.0 k.1 (inr k.2)) (b.2).first)
 
-        end_is_bad : CanEnd (BadInputOf asks m) → IsReportStatus call.status → call.status ≡ BadInput
+        end_is_bad : CallCanEnd (BadInputOf asks m) → IsReportStatus call.status → call.status ≡ BadInput
         end_is_bad b (inl e) = let d = can Done done_told e in absurd (never_bad m asks b.1 ((here.answers).good m d.0 d.1 (inl d.2)) (b.2).first)
         end_is_bad b (inr (inl e)) = let k = can Refused refused_told e in absurd (never_bad m asks b.1 ((here.answers).good m k.0 k.1 (inr k.2)) (b.2).first)
         end_is_bad b (inr (inr e)) = e

@@ -8,7 +8,7 @@ use Rattle.tcd_forms.specs.Forms.{source_form}
 use Rattle.tcd_forms.specs.Lines.{assembled_object_line}
 
 -- the names of the source that `asm` reads, and of the object that it writes
-pub record AsmNames : Type 0 where
+pub record AsmArgs : Type 0 where
   pub source : List ℕ
   pub object : List ℕ
 
@@ -17,5 +17,5 @@ abbrev pub WritesObject : List ℕ → ObjectData → Report → Type 0
 WritesObject name object report = report ≡ report_with_file name (bytes_of_object object) (assembled_object_line (length (bytes_of_object object)))
 
 -- a source is read; then its object is written
-abbrev pub asm_reading : AsmNames → Reading
+abbrev pub asm_reading : AsmArgs → Reading
 asm_reading names = input ObjectData source_form names.source (λ object. answer (WritesObject names.object object))

@@ -6,7 +6,7 @@ use Rattle.tc_object.specs.Grammar.{object_of}
 use Rattle.tc_link.specs.LayoutFaults.{layout_of}
 use Rattle.tc_link.specs.declared.layout_errors.LayoutErr.{LayoutErr}
 use Rattle.tcd_base.specs.declared.errors.FormErr.{FormErr}
-use Rattle.tcd_forms.specs.Lines.{bad_elf_line, bad_plan_line, bad_script_line, bad_layout_line, line_end_at_one}
+use Rattle.tcd_forms.specs.Lines.{bad_elf_line, bad_plan_line, bad_script_line, bad_layout_line, line_end_with_number}
 use Rattle.value_cells.specs.declared.errors.CellsErr.{CellsErr}
 use Rattle.task_chains.specs.declared.task_lists.TasksErr.{TasksErr}
 use Rattle.value_cells.specs.declared.errors.CellsErr.TheVariants as cell
@@ -14,7 +14,7 @@ use Rattle.task_chains.specs.declared.task_lists.TasksErr.TheVariants as task
 use Rattle.elf_image.specs.ReadElf.{image_of_file}
 use Rattle.elf_image.specs.declared.errors.ImageErr.{ImageErr}
 use Rattle.tcd_plan.specs.PlanData.{PlanData}
-use Rattle.tcd_plan.specs.PlanReader.{AnswersPlan}
+use Rattle.tcd_plan.specs.PlanReader.{IsPlanResult}
 use Rattle.tcd_plan.specs.declared.plans.PlanErr.{PlanErr}
 use Rattle.tcd_plan.specs.declared.plans.PlanErr.TheVariants.{NoMemory}
 use Rattle.depth_cert.specs.Grammar.{certificate_of}
@@ -36,7 +36,7 @@ IsNoImage bytes line = (e : ImageErr) × (image_of_file bytes ≡ Err e) × (lin
 
 -- the bad-input line on bytes that are no plan: it has their first fault
 abbrev pub IsNoPlan : List ℕ → List ℕ → Type 0
-IsNoPlan bytes line = (e : PlanErr) × AnswersPlan bytes (Err e) × (e ≢ NoMemory) × (line ≡ bad_plan_line e)
+IsNoPlan bytes line = (e : PlanErr) × IsPlanResult bytes (Err e) × (e ≢ NoMemory) × (line ≡ bad_plan_line e)
 
 -- the bytes are no certificate, and this is the line: the number of the first fault, and its offset
 abbrev pub IsNoCert : List ℕ → List ℕ → Type 0
@@ -59,16 +59,16 @@ IsNoObject place bytes line =
 
 -- the driver's line on why a file isn't in the form of cells: the number of the fault, and its line
 unfoldable pub bad_cells_line : CellsErr → List ℕ
-bad_cells_line (cell.BadLine n) = codes "bad cells 1" ++ line_end_at_one n
-bad_cells_line (cell.NotRam n) = codes "bad cells 2" ++ line_end_at_one n
-bad_cells_line (cell.Twice n) = codes "bad cells 3" ++ line_end_at_one n
-bad_cells_line (cell.TooMany n) = codes "bad cells 4" ++ line_end_at_one n
+bad_cells_line (cell.BadLine n) = codes "bad cells 1" ++ line_end_with_number n
+bad_cells_line (cell.NotRam n) = codes "bad cells 2" ++ line_end_with_number n
+bad_cells_line (cell.Twice n) = codes "bad cells 3" ++ line_end_with_number n
+bad_cells_line (cell.TooMany n) = codes "bad cells 4" ++ line_end_with_number n
 
 -- the driver's bad-input line `bad tasks`, on a fault in a file of tasks or in the count of
 -- certificates: the number of the fault, and for the first two its line
 unfoldable pub bad_tasks_line : TasksErr → List ℕ
-bad_tasks_line (task.BadLine n) = codes "bad tasks 1" ++ line_end_at_one n
-bad_tasks_line (task.TooMany n) = codes "bad tasks 2" ++ line_end_at_one n
+bad_tasks_line (task.BadLine n) = codes "bad tasks 1" ++ line_end_with_number n
+bad_tasks_line (task.TooMany n) = codes "bad tasks 2" ++ line_end_with_number n
 bad_tasks_line task.TooFew = codes "bad tasks 3" ++ 10 ∷ []
 bad_tasks_line task.NotRam = codes "bad tasks 4" ++ 10 ∷ []
 bad_tasks_line task.NoRoom = codes "bad tasks 5" ++ 10 ∷ []

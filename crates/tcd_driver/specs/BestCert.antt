@@ -7,20 +7,20 @@ use Rattle.depth_cert.specs.declared.keys.Key.{Key}
 use Rattle.depth_cert.specs.Certs.{CertData, IsCert}
 use Rattle.cfg_recover.specs.RulesHoldOrFail.{Accepts, certified_need}
 use Rattle.cfg_recover.specs.CertRefusals.{IsRefusal}
-use Rattle.depth_maker.specs.LeastCertMade.{IsMade, needs_in}
-use Rattle.depth_maker.specs.Answers.{NoneAccepted, IsRightMakeErr}
+use Rattle.depth_maker.specs.LeastCertMade.{IsLeastCert, need_in_cert}
+use Rattle.depth_maker.specs.Answers.{IsNoCertAccepted, IsRightMakeErr}
 use Rattle.depth_maker.specs.declared.answering.MakeErr.{MakeErr}
 use Rattle.depth_maker.specs.declared.answering.MakeErr.TheVariants as make_err
-use Rattle.tcd_reading.specs.Reports.{Report, says}
+use Rattle.tcd_reading.specs.Reports.{Report, text_report}
 use Rattle.tcd_reading.specs.declared.status.Status.TheVariants.{Refused}
 use Rattle.tcd_forms.specs.Lines.{refused_line}
-use Rattle.cfg_recover.specs.Assignments.{IsBelowAt, known_in}
+use Rattle.cfg_recover.specs.Assignments.{IsAssignmentBelow, assignment_of_cert}
 
 -- the best certificate: the least of format 1, or the least of format 2 if none of format 1 is
 -- accepted
 pub data IsBestCert (image : ImageData) (plan : PlanData) (cert : CertData) : Type 0 where
-  first : IsMade image plan 1 cert → IsBestCert image plan cert
-  second : NoneAccepted image plan 1 → IsMade image plan 2 cert → IsBestCert image plan cert
+  first : IsLeastCert image plan 1 cert → IsBestCert image plan cert
+  second : IsNoCertAccepted image plan 1 → IsLeastCert image plan 2 cert → IsBestCert image plan cert
 
 -- the best certificate for an image and a plan, of format 1 or 2: it is accepted, so that every run
 -- is safe with its need
@@ -32,16 +32,16 @@ pub record IsAcceptedBestCert (image : ImageData) (plan : PlanData) (cert : Cert
 
 -- no certificate of either format is accepted, and this is why none of format 2 is
 pub record HasNoBestCert (image : ImageData) (plan : PlanData) (rule : ℕ) (key : Key) (addr : ℕ) : Type 0 where
-  pub first : NoneAccepted image plan 1
-  pub second : NoneAccepted image plan 2
+  pub first : IsNoCertAccepted image plan 1
+  pub second : IsNoCertAccepted image plan 2
   pub why : IsRefusal image plan 2 rule key addr
 
 -- the best certificate is the least of its format: no accepted one of that format states a lesser
 -- need of a frame, or less of what is known at a point
 pub record IsLeastOfItsFormat (image : ImageData) (plan : PlanData) (cert : CertData) : Type 0 where
   pub is_cert : IsCert cert
-  pub needs : (other : CertData) (frame : Key) → IsCert other → other.version ≡ cert.version → Accepts image plan other → needs_in cert frame ≤ needs_in other frame
-  pub states : (other : CertData) → IsCert other → other.version ≡ cert.version → Accepts image plan other → IsBelowAt (known_in cert) (known_in other)
+  pub needs : (other : CertData) (frame : Key) → IsCert other → other.version ≡ cert.version → Accepts image plan other → need_in_cert cert frame ≤ need_in_cert other frame
+  pub states : (other : CertData) → IsCert other → other.version ≡ cert.version → Accepts image plan other → IsAssignmentBelow (assignment_of_cert cert) (assignment_of_cert other)
 
 -- why an image and a plan have no best certificate: none of either format is accepted, and this is
 -- why none of format 2 is
@@ -53,22 +53,22 @@ pub record NoCertIsAccepted (image : ImageData) (plan : PlanData) (rule : ℕ) (
 -- the least certificate of a format, which was checked, and its need
 pub record IsLeastWithNeed (image : ImageData) (plan : PlanData) (version : ℕ) (cert : CertData) (need : ℕ) : Type 0 where
   pub is_cert : IsCert cert
-  pub made : IsMade image plan version cert
+  pub made : IsLeastCert image plan version cert
   pub safe : Safe image plan need
   pub need_is : need ≡ certified_need image plan cert
 
 -- the result of making the least certificate of a format
-abbrev pub MakesLeastCert : ImageData → PlanData → ℕ → Result (CertData × ℕ) MakeErr → Type 0
-MakesLeastCert image plan version (Ok made) = IsLeastWithNeed image plan version made.0 made.1
-MakesLeastCert image plan version (Err e) = IsRightMakeErr image plan version e
+abbrev pub IsLeastCertOrErr : ImageData → PlanData → ℕ → Result (CertData × ℕ) MakeErr → Type 0
+IsLeastCertOrErr image plan version (Ok made) = IsLeastWithNeed image plan version made.0 made.1
+IsLeastCertOrErr image plan version (Err e) = IsRightMakeErr image plan version e
 
 -- the result of making the best certificate for an image and a plan, with its need
-abbrev pub MakesBestCert : ImageData → PlanData → Result (CertData × ℕ) MakeErr → Type 0
-MakesBestCert image plan (Ok made) = IsAcceptedBestCert image plan made.0 × (made.1 ≡ certified_need image plan made.0)
-MakesBestCert image plan (Err (make_err.Refused rule key addr)) = HasNoBestCert image plan rule key addr
-MakesBestCert image plan (Err make_err.NoMemory) = Unit {0}
+abbrev pub IsBestCertOrErr : ImageData → PlanData → Result (CertData × ℕ) MakeErr → Type 0
+IsBestCertOrErr image plan (Ok made) = IsAcceptedBestCert image plan made.0 × (made.1 ≡ certified_need image plan made.0)
+IsBestCertOrErr image plan (Err (make_err.Refused rule key addr)) = HasNoBestCert image plan rule key addr
+IsBestCertOrErr image plan (Err make_err.NoMemory) = Unit {0}
 
 -- a command's report that no certificate is made: the rule that fails, with its address and frame
 abbrev pub IsNoCertReport : MakeErr → Report → Type 0
-IsNoCertReport (make_err.Refused rule key addr) report = report ≡ says Refused (refused_line rule key addr)
+IsNoCertReport (make_err.Refused rule key addr) report = report ≡ text_report Refused (refused_line rule key addr)
 IsNoCertReport make_err.NoMemory report = ⊥

@@ -7,13 +7,13 @@ use Rattle.depth_cert.specs.declared.keys.Key.{Key}
 use Rattle.depth_cert.specs.Spelling.{bytes_of_cert}
 use Rattle.cfg_recover.specs.RulesHoldOrFail.{Accepts, certified_need}
 use Rattle.cfg_recover.specs.CertRefusals.{IsRefusal}
-use Rattle.depth_maker.specs.LeastCertMade.{IsMade}
-use Rattle.depth_maker.specs.Answers.{NoneAccepted}
+use Rattle.depth_maker.specs.LeastCertMade.{IsLeastCert}
+use Rattle.depth_maker.specs.Answers.{IsNoCertAccepted}
 use Rattle.value_cells.specs.declared.cells.Cell.{Cell}
 use Rattle.value_cells.specs.Cells.{with_cells}
-use Rattle.value_cells.specs.Keeping.{KeepsCells, IsRule16Fault}
+use Rattle.value_cells.specs.Keeping.{CertKeepsCells, IsFirstRule16Fault}
 use Rattle.value_cells.specs.Safe.{SafeWithCells}
-use Rattle.tcd_reading.specs.Reports.{Report, says, report_with_file}
+use Rattle.tcd_reading.specs.Reports.{Report, text_report, report_with_file}
 use Rattle.tcd_reading.specs.Inputs.{Reading, input, answer}
 use Rattle.tcd_driver.specs.CellAndTaskForms.{cells_form}
 use Rattle.tcd_forms.specs.Forms.{elf_form, plan_form}
@@ -21,7 +21,7 @@ use Rattle.tcd_forms.specs.Lines.{certified_cells_line, refused_line}
 use Rattle.tcd_reading.specs.declared.status.Status.TheVariants.{Refused}
 
 -- the names of the files that `cellcert` reads, and of the one that it writes
-pub record CellcertNames : Type 0 where
+pub record CellcertArgs : Type 0 where
   pub elf : List ℕ
   pub plan : List ℕ
   pub cells : List ℕ
@@ -31,7 +31,7 @@ pub record CellcertNames : Type 0 where
 -- plan with cells breaks K16
 abbrev pub NoneKeepsCells : ImageData → PlanData → List Cell → Type 0
 NoneKeepsCells image plan cells =
-    (cert : CertData) → IsCert cert → cert.version ≡ 2 → Accepts image (with_cells plan cells) cert → KeepsCells image (with_cells plan cells) cells cert → ⊥
+    (cert : CertData) → IsCert cert → cert.version ≡ 2 → Accepts image (with_cells plan cells) cert → CertKeepsCells image (with_cells plan cells) cells cert → ⊥
 
 -- The report on an image, a plan and its cells, under the plan with cells. If no certificate of
 -- format 2 is accepted, the reason is printed. If each one that is accepted breaks K16, the first
@@ -40,21 +40,21 @@ NoneKeepsCells image plan cells =
 -- the words there.
 pub data IsCellcertReport (name : List ℕ) (image : ImageData) (plan : PlanData) (cells : List Cell) (report : Report) : Type 0 where
   refused :
-      (rule : ℕ) (key : Key) (addr : ℕ) → NoneAccepted image (with_cells plan cells) 2 → IsRefusal image (with_cells plan cells) 2 rule key addr
-      → report ≡ says Refused (refused_line rule key addr) → IsCellcertReport name image plan cells report
+      (rule : ℕ) (key : Key) (addr : ℕ) → IsNoCertAccepted image (with_cells plan cells) 2 → IsRefusal image (with_cells plan cells) 2 rule key addr
+      → report ≡ text_report Refused (refused_line rule key addr) → IsCellcertReport name image plan cells report
   broken :
-      (cert : CertData) (key : Key) (addr : ℕ) → NoneKeepsCells image plan cells → IsCert cert → IsMade image (with_cells plan cells) 2 cert
-      → IsRule16Fault image (with_cells plan cells) cells cert key addr → report ≡ says Refused (refused_line 16 key addr)
+      (cert : CertData) (key : Key) (addr : ℕ) → NoneKeepsCells image plan cells → IsCert cert → IsLeastCert image (with_cells plan cells) 2 cert
+      → IsFirstRule16Fault image (with_cells plan cells) cells cert key addr → report ≡ text_report Refused (refused_line 16 key addr)
       → IsCellcertReport name image plan cells report
   certified :
-      (cert : CertData) → IsCert cert → IsMade image (with_cells plan cells) 2 cert → KeepsCells image (with_cells plan cells) cells cert
+      (cert : CertData) → IsCert cert → IsLeastCert image (with_cells plan cells) 2 cert → CertKeepsCells image (with_cells plan cells) cells cert
       → SafeWithCells image plan cells (certified_need image (with_cells plan cells) cert)
       → report
       ≡ report_with_file name (bytes_of_cert cert) (certified_cells_line (certified_need image (with_cells plan cells) cert) (plan.areas - plan.reserve) (length cells))
       → IsCellcertReport name image plan cells report
 
 -- reads an executable, a plan and its cells; then a certificate is made
-abbrev pub cellcert_reading : CellcertNames → Reading
+abbrev pub cellcert_reading : CellcertArgs → Reading
 cellcert_reading names =
     input ImageData elf_form names.elf
     (λ image. input PlanData plan_form names.plan

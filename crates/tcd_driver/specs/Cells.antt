@@ -7,9 +7,9 @@ use Rattle.depth_cert.specs.declared.keys.Key.{Key}
 use Rattle.cfg_recover.specs.RulesHoldOrFail.{Accepts, IsFirstFault, certified_need}
 use Rattle.value_cells.specs.declared.cells.Cell.{Cell}
 use Rattle.value_cells.specs.Cells.{with_cells}
-use Rattle.value_cells.specs.Keeping.{KeepsCells, IsRule16Fault}
+use Rattle.value_cells.specs.Keeping.{CertKeepsCells, IsFirstRule16Fault}
 use Rattle.value_cells.specs.Safe.{SafeWithCells}
-use Rattle.tcd_reading.specs.Reports.{Report, says}
+use Rattle.tcd_reading.specs.Reports.{Report, text_report}
 use Rattle.tcd_reading.specs.Inputs.{Reading, input, answer}
 use Rattle.tcd_driver.specs.CellAndTaskForms.{cells_form}
 use Rattle.tcd_forms.specs.Forms.{elf_form, plan_form, cert_form}
@@ -17,7 +17,7 @@ use Rattle.tcd_forms.specs.Lines.{certified_cells_line, refused_line}
 use Rattle.tcd_reading.specs.declared.status.Status.TheVariants.{Done, Refused}
 
 -- the names of the files that `cells` reads
-pub record CellsNames : Type 0 where
+pub record CellsArgs : Type 0 where
   pub elf : List ℕ
   pub plan : List ℕ
   pub cells : List ℕ
@@ -29,19 +29,19 @@ pub record CellsNames : Type 0 where
 -- safe, and keeps the words there.
 pub data IsCellsVerdict (image : ImageData) (plan : PlanData) (cells : List Cell) (cert : CertData) (report : Report) : Type 0 where
   refused :
-      (rule : ℕ) (key : Key) (addr : ℕ) → IsFirstFault image (with_cells plan cells) cert rule key addr → report ≡ says Refused (refused_line rule key addr)
+      (rule : ℕ) (key : Key) (addr : ℕ) → IsFirstFault image (with_cells plan cells) cert rule key addr → report ≡ text_report Refused (refused_line rule key addr)
       → IsCellsVerdict image plan cells cert report
   broken :
-      (key : Key) (addr : ℕ) → Accepts image (with_cells plan cells) cert → IsRule16Fault image (with_cells plan cells) cells cert key addr
-      → report ≡ says Refused (refused_line 16 key addr) → IsCellsVerdict image plan cells cert report
+      (key : Key) (addr : ℕ) → Accepts image (with_cells plan cells) cert → IsFirstRule16Fault image (with_cells plan cells) cells cert key addr
+      → report ≡ text_report Refused (refused_line 16 key addr) → IsCellsVerdict image plan cells cert report
   certified :
-      Accepts image (with_cells plan cells) cert → KeepsCells image (with_cells plan cells) cells cert
+      Accepts image (with_cells plan cells) cert → CertKeepsCells image (with_cells plan cells) cells cert
       → SafeWithCells image plan cells (certified_need image (with_cells plan cells) cert)
-      → report ≡ says Done (certified_cells_line (certified_need image (with_cells plan cells) cert) (plan.areas - plan.reserve) (length cells))
+      → report ≡ text_report Done (certified_cells_line (certified_need image (with_cells plan cells) cert) (plan.areas - plan.reserve) (length cells))
       → IsCellsVerdict image plan cells cert report
 
 -- reads an executable, a plan, its cells and a certificate; then the verdict is printed
-abbrev pub cells_reading : CellsNames → Reading
+abbrev pub cells_reading : CellsArgs → Reading
 cells_reading names =
     input ImageData elf_form names.elf
     (λ image. input PlanData plan_form names.plan

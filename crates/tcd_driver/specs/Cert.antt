@@ -6,7 +6,7 @@ use Rattle.depth_cert.specs.declared.keys.Key.{Key}
 use Rattle.depth_cert.specs.Certs.{CertData}
 use Rattle.depth_cert.specs.Spelling.{bytes_of_cert}
 use Rattle.cfg_recover.specs.RulesHoldOrFail.{certified_need}
-use Rattle.tcd_reading.specs.Reports.{Report, says, report_with_file}
+use Rattle.tcd_reading.specs.Reports.{Report, text_report, report_with_file}
 use Rattle.tcd_reading.specs.Inputs.{Reading, input, answer}
 use Rattle.tcd_forms.specs.Forms.{elf_form, plan_form}
 use Rattle.tcd_forms.specs.Lines.{refused_line, certified_line}
@@ -14,7 +14,7 @@ use Rattle.tcd_driver.specs.BestCert.{IsAcceptedBestCert, HasNoBestCert}
 use Rattle.tcd_reading.specs.declared.status.Status.TheVariants.{Refused}
 
 -- the names of the files that `cert` reads, and of the certificate that it writes
-pub record CertNames : Type 0 where
+pub record CertArgs : Type 0 where
   pub elf : List ℕ
   pub plan : List ℕ
   pub cert : List ℕ
@@ -23,7 +23,7 @@ pub record CertNames : Type 0 where
 -- why. Or the best one is written under this name, and every run is safe with its need.
 pub data IsCertReport (name : List ℕ) (image : ImageData) (plan : PlanData) (report : Report) : Type 0 where
   refused :
-      (rule : ℕ) (key : Key) (addr : ℕ) → HasNoBestCert image plan rule key addr → report ≡ says Refused (refused_line rule key addr)
+      (rule : ℕ) (key : Key) (addr : ℕ) → HasNoBestCert image plan rule key addr → report ≡ text_report Refused (refused_line rule key addr)
       → IsCertReport name image plan report
   certified :
       (cert : CertData) → IsAcceptedBestCert image plan cert
@@ -31,7 +31,7 @@ pub data IsCertReport (name : List ℕ) (image : ImageData) (plan : PlanData) (r
       → IsCertReport name image plan report
 
 -- an executable and a plan are read; then a certificate is made
-abbrev pub cert_reading : CertNames → Reading
+abbrev pub cert_reading : CertArgs → Reading
 cert_reading names =
     input ImageData elf_form names.elf
     (λ image. input PlanData plan_form names.plan (λ plan. answer (IsCertReport names.cert image plan)))

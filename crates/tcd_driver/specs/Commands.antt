@@ -5,21 +5,21 @@ use Rattle.std.specs.Option.{option_or, option_map, option_and_then}
 use Rattle.std.specs.Str.{bytes_eq}
 use Rattle.tcd_text.specs.HexNumbers.{hex_number_of}
 use Rattle.tcd_reading.specs.Inputs.{Reading}
-use Rattle.tcd_driver.specs.Check.{CheckNames, check_reading}
-use Rattle.tcd_driver.specs.Cert.{CertNames, cert_reading}
-use Rattle.tcd_driver.specs.Cfg.{CfgNames, cfg_reading}
-use Rattle.tcd_driver.specs.Reporting.{ReportNames, report_reading}
-use Rattle.tcd_driver.specs.Run.{RunNames, run_reading}
+use Rattle.tcd_driver.specs.Check.{CheckArgs, check_reading}
+use Rattle.tcd_driver.specs.Cert.{CertArgs, cert_reading}
+use Rattle.tcd_driver.specs.Cfg.{CfgArgs, cfg_reading}
+use Rattle.tcd_driver.specs.Reporting.{ReportArgs, report_reading}
+use Rattle.tcd_driver.specs.Run.{RunArgs, run_reading}
 use Rattle.tcd_driver.specs.Dis.{dis_reading}
-use Rattle.tcd_driver.specs.Asm.{AsmNames, asm_reading}
-use Rattle.tcd_driver.specs.Link.{LinkNames, link_reading}
-use Rattle.tcd_driver.specs.Ship.{ShipNames, ship_names, ship_reading}
-use Rattle.tcd_driver.specs.Boot.{BootNames, BootgenNames, boot_reading, bootgen_reading}
-use Rattle.tcd_driver.specs.Cells.{CellsNames, cells_reading}
-use Rattle.tcd_driver.specs.Cellcert.{CellcertNames, cellcert_reading}
-use Rattle.tcd_driver.specs.Tasks.{TasksNames, tasks_reading}
+use Rattle.tcd_driver.specs.Asm.{AsmArgs, asm_reading}
+use Rattle.tcd_driver.specs.Link.{LinkArgs, link_reading}
+use Rattle.tcd_driver.specs.Ship.{ShipArgs, ship_args, ship_reading}
+use Rattle.tcd_driver.specs.Boot.{BootArgs, BootgenArgs, boot_reading, bootgen_reading}
+use Rattle.tcd_driver.specs.Cells.{CellsArgs, cells_reading}
+use Rattle.tcd_driver.specs.Cellcert.{CellcertArgs, cellcert_reading}
+use Rattle.tcd_driver.specs.Tasks.{TasksArgs, tasks_reading}
 use Rattle.tcd_driver.specs.Gen.{gen_reading, gen_function_count}
-use Rattle.tcd_driver.specs.Taskcert.{TaskcertNames, taskcert_reading}
+use Rattle.tcd_driver.specs.Taskcert.{TaskcertArgs, taskcert_reading}
 use Rattle.tcd_driver.specs.declared.command.Command.{Command as Words}
 use Rattle.tcd_driver.specs.declared.command.Command.TheVariants as words
 use Rattle.tcd_driver.specs.DistinctNames.{are_distinct_names}
@@ -27,22 +27,22 @@ use Rattle.tcd_driver.specs.DistinctNames.{are_distinct_names}
 -- a command with the names of its files; for `dis` the executable, for `gen` the number of
 -- functions
 pub data Command : Type 0 where
-  check : CheckNames → Command
-  certify : CertNames → Command
-  cfg : CfgNames → Command
-  report : ReportNames → Command
-  run : RunNames → Command
+  check : CheckArgs → Command
+  certify : CertArgs → Command
+  cfg : CfgArgs → Command
+  report : ReportArgs → Command
+  run : RunArgs → Command
   dis : List ℕ → Command
-  asm : AsmNames → Command
-  link : LinkNames → Command
-  ship : ShipNames → Command
-  boot : BootNames → Command
-  bootgen : BootgenNames → Command
-  cells : CellsNames → Command
-  cellcert : CellcertNames → Command
-  tasks : TasksNames → Command
+  asm : AsmArgs → Command
+  link : LinkArgs → Command
+  ship : ShipArgs → Command
+  boot : BootArgs → Command
+  bootgen : BootgenArgs → Command
+  cells : CellsArgs → Command
+  cellcert : CellcertArgs → Command
+  tasks : TasksArgs → Command
   generate : ℕ → Command
-  taskcert : TaskcertNames → Command
+  taskcert : TaskcertArgs → Command
 
 -- the arguments are those of the command `link`, which has 1 to 65,532 objects
 abbrev pub is_link : List ℕ → List (List ℕ) → Bool
@@ -165,7 +165,7 @@ command_of_value (words.Run elf plan script) = run (record { elf = elf.now; plan
 command_of_value (words.Dis elf) = dis elf.now
 command_of_value (words.Asm source object) = asm (record { source = source.now; object = object.now })
 command_of_value (words.Link layout image objects) = link (record { layout = layout.now; image = image.now; objects = map string_bytes objects.now })
-command_of_value (words.Ship names) = ship (ship_names names)
+command_of_value (words.Ship names) = ship (ship_args names)
 command_of_value (words.Boot elf plan cert at) = boot (record { elf = elf.now; plan = plan.now; cert = cert.now; at = at })
 command_of_value (words.Bootgen plan entry at source) = bootgen (record { plan = plan.now; entry = entry; at = at; source = source.now })
 command_of_value (words.Cells elf plan cells' cert) = cells (record { elf = elf.now; plan = plan.now; cells = cells'.now; cert = cert.now })

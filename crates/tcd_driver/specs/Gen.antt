@@ -9,13 +9,13 @@ use Rattle.depth_cert.specs.Certs.{CertData, IsCert}
 use Rattle.depth_cert.specs.Nodes.{count_points}
 use Rattle.cfg_recover.specs.RulesHoldOrFail.{certified_need}
 use Rattle.cfg_recover.specs.CertRefusals.{IsRefusal}
-use Rattle.depth_maker.specs.LeastCertMade.{IsMade}
-use Rattle.depth_maker.specs.Answers.{NoneAccepted}
+use Rattle.depth_maker.specs.LeastCertMade.{IsLeastCert}
+use Rattle.depth_maker.specs.Answers.{IsNoCertAccepted}
 use Rattle.tcd_report.specs.Generated.{generated_image}
 use Rattle.tcd_report.specs.Generated.Planned.{generated_plan}
-use Rattle.tcd_reading.specs.Reports.{Report, says}
+use Rattle.tcd_reading.specs.Reports.{Report, text_report}
 use Rattle.tcd_reading.specs.Inputs.{Reading, answer}
-use Rattle.tcd_forms.specs.Lines.{refused_line, generated_line}
+use Rattle.tcd_forms.specs.Lines.{refused_line, gen_line}
 use Rattle.tcd_reading.specs.declared.status.Status.TheVariants.{Done, Refused}
 use Rattle.std.specs.Bool.{then_some}
 use Rattle.std.specs.Option.{option_and_then}
@@ -25,13 +25,13 @@ use Rattle.std.specs.Option.{option_and_then}
 -- nodes and points.
 pub data IsGenReport (functions : ℕ) (image : ImageData) (plan : PlanData) (report : Report) : Type 0 where
   refused :
-      (rule : ℕ) (key : Key) (addr : ℕ) → NoneAccepted image plan 1 → IsRefusal image plan 1 rule key addr → report ≡ says Refused (refused_line rule key addr)
+      (rule : ℕ) (key : Key) (addr : ℕ) → IsNoCertAccepted image plan 1 → IsRefusal image plan 1 rule key addr → report ≡ text_report Refused (refused_line rule key addr)
       → IsGenReport functions image plan report
   certified :
-      (cert : CertData) → IsCert cert → IsMade image plan 1 cert → Safe image plan (certified_need image plan cert)
+      (cert : CertData) → IsCert cert → IsLeastCert image plan 1 cert → Safe image plan (certified_need image plan cert)
       → report
-      ≡ says Done
-      (generated_line functions (length cert.nodes) (count_points cert.nodes) (certified_need image plan cert) (plan.areas - plan.reserve))
+      ≡ text_report Done
+      (gen_line functions (length cert.nodes) (count_points cert.nodes) (certified_need image plan cert) (plan.areas - plan.reserve))
       → IsGenReport functions image plan report
 
 -- nothing is read: the image of this number of functions and its plan are generated, and a

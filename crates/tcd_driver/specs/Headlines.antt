@@ -33,8 +33,8 @@ use Rattle.cfg_recover.specs.Entries.{start_key}
 use Rattle.cfg_recover.specs.RulesHoldOrFail.{Accepts, IsFirstFault}
 use Rattle.tcd_base.specs.Files.{FileMap}
 use Rattle.tcd_forms.specs.Lines.{run_end_text}
-use Rattle.tcd_report.specs.Texts.{key_kind_words}
-use Rattle.depth_maker.specs.Answers.{NoneAccepted}
+use Rattle.tcd_report.specs.Texts.{key_kind_letters}
+use Rattle.depth_maker.specs.Answers.{IsNoCertAccepted}
 use Rattle.tcd_driver.specs.BestCert.{IsLeastOfItsFormat, NoCertIsAccepted}
 
 -- ---- files
@@ -105,7 +105,7 @@ pub record IsAcceptedWithNeed (image : ImageData) (plan : PlanData) (cert : Cert
 pub record IsBestWithNeed (image : ImageData) (plan : PlanData) (cert : CertData) (need : ℕ) : Type 0 where
   pub accepted : IsAcceptedWithNeed image plan cert need
   pub safe : Safe image plan need
-  pub version : (cert.version ≡ 1) ⊎ ((cert.version ≡ 2) × NoneAccepted image plan 1)
+  pub version : (cert.version ≡ 1) ⊎ ((cert.version ≡ 2) × IsNoCertAccepted image plan 1)
   pub least : IsLeastOfItsFormat image plan cert
   pub reads : certificate_of (bytes_of_cert cert) ≡ Ok cert
 
@@ -115,7 +115,7 @@ pub record IsBestWithNeed (image : ImageData) (plan : PlanData) (cert : CertData
 -- runs on the interrupt stack
 abbrev pub frame_text : Key → List ℕ
 frame_text frame =
-    key_kind_words frame.kind ++ (hex_word frame.entry ++ (codes " prio " ++ (decimal frame.prio ++ (codes " is " ++ ((if frame.is then 49 else 48) ∷ [])))))
+    key_kind_letters frame.kind ++ (hex_word frame.entry ++ (codes " prio " ++ (decimal frame.prio ++ (codes " is " ++ ((if frame.is then 49 else 48) ∷ [])))))
 
 -- the text of a refusal in the headlines: the rule that fails, the address, and the frame
 abbrev pub refused_text : ℕ → Key → ℕ → List ℕ

@@ -6,14 +6,14 @@ use Rattle.tc_object.specs.Objects.{ObjectData}
 use Rattle.tc_link.specs.Layouts.{LayoutData}
 use Rattle.tc_link.specs.Linked.{image_of_objects}
 use Rattle.tc_link.specs.Refusals.{Refusal}
-use Rattle.tcd_reading.specs.Reports.{Report, says, report_with_file}
-use Rattle.tcd_reading.specs.Inputs.{Reading, input, each, answer}
+use Rattle.tcd_reading.specs.Reports.{Report, text_report, report_with_file}
+use Rattle.tcd_reading.specs.Inputs.{Reading, input, input_files, answer}
 use Rattle.tcd_forms.specs.Forms.{layout_form, object_form}
 use Rattle.tcd_forms.specs.Lines.{bad_link_line, linked_image_line}
 use Rattle.tcd_reading.specs.declared.status.Status.TheVariants.{BadInput}
 
 -- the names of the layout and of the objects that `link` reads, and of the image that it writes
-pub record LinkNames : Type 0 where
+pub record LinkArgs : Type 0 where
   pub layout : List ℕ
   pub image : List ℕ
   pub objects : List (List ℕ)
@@ -24,11 +24,11 @@ WritesImage name image report = report ≡ report_with_file name (elf_file image
 
 -- the report of `link` on objects and a layout: the image to write, or the first rejection
 pub data IsLinkReport (name : List ℕ) (layout : LayoutData) (objects : List ObjectData) (report : Report) : Type 0 where
-  refused : (r : Refusal) → image_of_objects objects layout ≡ Err r → report ≡ says BadInput (bad_link_line r) → IsLinkReport name layout objects report
+  refused : (r : Refusal) → image_of_objects objects layout ≡ Err r → report ≡ text_report BadInput (bad_link_line r) → IsLinkReport name layout objects report
   image : (i : ImageData) → image_of_objects objects layout ≡ Ok i → WritesImage name i report → IsLinkReport name layout objects report
 
 -- a layout and the objects are read; then they are linked
-abbrev pub link_reading : LinkNames → Reading
+abbrev pub link_reading : LinkArgs → Reading
 link_reading names =
     input LayoutData layout_form names.layout
-    (λ layout. each ObjectData object_form 0 names.objects (λ objects. answer (IsLinkReport names.image layout objects)))
+    (λ layout. input_files ObjectData object_form 0 names.objects (λ objects. answer (IsLinkReport names.image layout objects)))

@@ -9,14 +9,14 @@ use Rattle.tc_machine.specs.Safe.{AllFit}
 use Rattle.tc_script.specs.ScriptData.{ScriptData}
 use Rattle.tc_script.specs.DrivenRuns.{driven_peak}
 use Rattle.tc_script.specs.ScriptRuns.{script_events}
-use Rattle.tcd_reading.specs.Reports.{Report, says}
+use Rattle.tcd_reading.specs.Reports.{Report, text_report}
 use Rattle.tcd_reading.specs.Inputs.{Reading, input, answer}
 use Rattle.tcd_forms.specs.Forms.{elf_form, plan_form, script_form}
 use Rattle.tcd_forms.specs.Lines.{run_line}
 use Rattle.tcd_reading.specs.declared.status.Status.TheVariants.{Done}
 
 -- what `run` reads, by the names of the files: an executable, a plan, and a turn script
-pub record RunNames : Type 0 where
+pub record RunArgs : Type 0 where
   pub elf : List ℕ
   pub plan : List ℕ
   pub script : List ℕ
@@ -30,11 +30,11 @@ script_run_line plan script m =
 -- script's events, which fit the plan
 pub data IsRunReport (image : ImageData) (plan : PlanData) (script : ScriptData) (report : Report) : Type 0 where
   ran :
-      (m : Machine) → StartsInZeros image plan m → AllFit plan m (script_events plan script m) → report ≡ says Done (script_run_line plan script m)
+      (m : Machine) → StartsInZeros image plan m → AllFit plan m (script_events plan script m) → report ≡ text_report Done (script_run_line plan script m)
       → IsRunReport image plan script report
 
 -- an executable, a plan and a turn script for the plan are read; then the run is reported
-abbrev pub run_reading : RunNames → Reading
+abbrev pub run_reading : RunArgs → Reading
 run_reading names =
     input ImageData elf_form names.elf
     (λ image. input PlanData plan_form names.plan (λ plan. input ScriptData (script_form plan) names.script (λ script. answer (IsRunReport image plan script))))

@@ -35,8 +35,8 @@ pub record HasRoomForEnds (call : ToolCall) (before : FileMap) (IfDone IfRefused
 
 -- What the tool promises of any command, whatever its arguments, asks and ends, decides its status
 -- over files that hold all that is asked of, with room: one of three, each exactly if it can be.
-abbrev pub SureCallsAreDecided : (FileMap → FileMap → List ℕ → Type 0) → (FileMap → FileMap → List ℕ → Type 0) → Type 0
-SureCallsAreDecided IfDone IfRefused =
+abbrev pub StatusesAreDecided : (FileMap → FileMap → List ℕ → Type 0) → (FileMap → FileMap → List ℕ → Type 0) → Type 0
+StatusesAreDecided IfDone IfRefused =
     (call : ToolCall) (words : List (List ℕ)) (asks : List InputRequirement) (before : FileMap)
     → CommandSays call words asks IfDone IfRefused → call.words ≡ words
     → All (λ ask. IfSome (asked_name ask) (λ name. IsSome (get before name))) asks

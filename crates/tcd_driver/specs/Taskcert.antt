@@ -9,8 +9,8 @@ use Rattle.depth_cert.specs.Spelling.{bytes_of_cert}
 use Rattle.depth_cert.specs.declared.keys.Key.{Key}
 use Rattle.cfg_recover.specs.RulesHoldOrFail.{Accepts, certified_need}
 use Rattle.cfg_recover.specs.CertRefusals.{IsRefusal}
-use Rattle.depth_maker.specs.LeastCertMade.{IsMade}
-use Rattle.depth_maker.specs.Answers.{NoneAccepted}
+use Rattle.depth_maker.specs.LeastCertMade.{IsLeastCert}
+use Rattle.depth_maker.specs.Answers.{IsNoCertAccepted}
 use Rattle.depth_maker.specs.declared.answering.MakeErr.{MakeErr}
 use Rattle.depth_maker.specs.declared.answering.MakeErr.TheVariants as make_err
 use Rattle.task_chains.specs.Tasks.{TasksData, count}
@@ -18,7 +18,7 @@ use Rattle.task_chains.specs.SwitchRoutine.{HasRoutine, IsRoutineFault}
 use Rattle.task_chains.specs.Views.{view_image_of, view_plan_of}
 use Rattle.task_chains.specs.Rule17.{KeepsRule17, IsRule17Fault}
 use Rattle.task_chains.specs.SafeTasks.{SafeTasks, IsSoundTaskCert}
-use Rattle.tcd_reading.specs.Reports.{Report, ReportFile, says, report_with_files}
+use Rattle.tcd_reading.specs.Reports.{Report, ReportFile, text_report, report_with_files}
 use Rattle.tcd_reading.specs.Inputs.{Reading, input, answer}
 use Rattle.tcd_driver.specs.BestCert.{IsLeastWithNeed}
 use Rattle.tcd_driver.specs.CellAndTaskForms.{tasks_form}
@@ -28,7 +28,7 @@ use Rattle.tcd_driver.specs.Tasks.{cert_of_task, counted_needs_of_tasks, sum_of_
 use Rattle.tcd_reading.specs.declared.status.Status.TheVariants.{Refused}
 
 -- the names of the files that `taskcert` reads, and of the certificates that it writes
-pub record TaskcertNames : Type 0 where
+pub record TaskcertArgs : Type 0 where
   pub elf : List ℕ
   pub plan : List ℕ
   pub tasks : List ℕ
@@ -44,15 +44,15 @@ NoneKeepsTaskApart view plan tasks =
 -- `taskcert` has no certificate for a view: none of format 2 is accepted, for this reason; or each
 -- accepted one fails K17, and this is the first place at which the least one does
 pub data HasNoTaskCert (view : ImageData) (plan : PlanData) (tasks : TasksData) : ℕ → Key → ℕ → Type 0 where
-  unaccepted : (rule : ℕ) (key : Key) (addr : ℕ) → NoneAccepted view plan 2 → IsRefusal view plan 2 rule key addr → HasNoTaskCert view plan tasks rule key addr
+  unaccepted : (rule : ℕ) (key : Key) (addr : ℕ) → IsNoCertAccepted view plan 2 → IsRefusal view plan 2 rule key addr → HasNoTaskCert view plan tasks rule key addr
   not_apart :
-      (cert : CertData) (key : Key) (addr : ℕ) → IsCert cert → IsMade view plan 2 cert → IsRule17Fault view plan tasks cert key addr → NoneKeepsTaskApart view plan tasks
+      (cert : CertData) (key : Key) (addr : ℕ) → IsCert cert → IsLeastCert view plan 2 cert → IsRule17Fault view plan tasks cert key addr → NoneKeepsTaskApart view plan tasks
       → HasNoTaskCert view plan tasks 17 key addr
 
 -- this is the least certificate of format 2 for task u's view, accepted for it, and keeps the tasks
 -- apart (K17)
 pub record IsLeastTaskCert (image : ImageData) (plan : PlanData) (tasks : TasksData) (u : ℕ) (cert : CertData) : Type 0 where
-  pub made : IsMade (view_image_of image tasks u) (view_plan_of plan tasks u) 2 cert
+  pub made : IsLeastCert (view_image_of image tasks u) (view_plan_of plan tasks u) 2 cert
   pub judged : IsSoundTaskCert image plan tasks cert u
 
 -- ---- all tasks
@@ -78,14 +78,14 @@ cert_files _ _ = []
 -- but the sum of the least ones' needs is above the areas without the reserve. Else the least ones
 -- are written under their names, and every run of all tasks is safe.
 pub data IsTaskcertReport (names : List (List ℕ)) (image : ImageData) (plan : PlanData) (tasks : TasksData) (report : Report) : Type 0 where
-  no_switch : (addr : ℕ) → IsRoutineFault image plan tasks addr → report ≡ says Refused (refused_switch_line addr) → IsTaskcertReport names image plan tasks report
+  no_switch : (addr : ℕ) → IsRoutineFault image plan tasks addr → report ≡ text_report Refused (refused_switch_line addr) → IsTaskcertReport names image plan tasks report
   refused :
       (u rule : ℕ) (key : Key) (addr : ℕ) → HasRoutine image plan tasks → IsFirstUncertifiedTask image plan tasks u rule key addr
-      → report ≡ says Refused (refused_task_line rule key addr u) → IsTaskcertReport names image plan tasks report
+      → report ≡ text_report Refused (refused_task_line rule key addr u) → IsTaskcertReport names image plan tasks report
   above :
       (certs : List CertData) → HasRoutine image plan tasks → length certs ≡ count tasks → AreLeastTaskCerts image plan tasks certs
       → plan.areas - plan.reserve < sum_of_needs image plan tasks certs
-      → report ≡ says Refused (refused_sum_line (sum_of_needs image plan tasks certs) (plan.areas - plan.reserve)) → IsTaskcertReport names image plan tasks report
+      → report ≡ text_report Refused (refused_sum_line (sum_of_needs image plan tasks certs) (plan.areas - plan.reserve)) → IsTaskcertReport names image plan tasks report
   certified :
       (certs : List CertData) → HasRoutine image plan tasks → length certs ≡ count tasks → AreLeastTaskCerts image plan tasks certs
       → sum_of_needs image plan tasks certs ≤ plan.areas - plan.reserve → SafeTasks image plan tasks (counted_needs_of_tasks image plan tasks certs)
@@ -93,7 +93,7 @@ pub data IsTaskcertReport (names : List (List ℕ)) (image : ImageData) (plan : 
       → IsTaskcertReport names image plan tasks report
 
 -- reads an executable, a plan and its tasks; then a certificate for each task is made
-abbrev pub taskcert_reading : TaskcertNames → Reading
+abbrev pub taskcert_reading : TaskcertArgs → Reading
 taskcert_reading names =
     input ImageData elf_form names.elf
     (λ image. input PlanData plan_form names.plan
@@ -102,10 +102,10 @@ taskcert_reading names =
 
 -- ---- by what the code has
 -- the result of making the least certificate of a view that keeps K17, with its need
-abbrev pub MakesTaskViewCert : ImageData → PlanData → TasksData → Result (CertData × ℕ) MakeErr → Type 0
-MakesTaskViewCert view plan tasks (Ok made) = IsLeastWithNeed view plan 2 made.0 made.1 × KeepsRule17 view plan tasks made.0
-MakesTaskViewCert view plan tasks (Err (make_err.Refused rule key addr)) = HasNoTaskCert view plan tasks rule key addr
-MakesTaskViewCert view plan tasks (Err make_err.NoMemory) = Unit {0}
+abbrev pub IsTaskViewCertOrErr : ImageData → PlanData → TasksData → Result (CertData × ℕ) MakeErr → Type 0
+IsTaskViewCertOrErr view plan tasks (Ok made) = IsLeastWithNeed view plan 2 made.0 made.1 × KeepsRule17 view plan tasks made.0
+IsTaskViewCertOrErr view plan tasks (Err (make_err.Refused rule key addr)) = HasNoTaskCert view plan tasks rule key addr
+IsTaskViewCertOrErr view plan tasks (Err make_err.NoMemory) = Unit {0}
 
 -- the certificate of task u is made, and has this need
 pub record IsTaskCertWithNeed (image : ImageData) (plan : PlanData) (tasks : TasksData) (u : ℕ) (cert : CertData) (need : ℕ) : Type 0 where
@@ -113,10 +113,10 @@ pub record IsTaskCertWithNeed (image : ImageData) (plan : PlanData) (tasks : Tas
   pub need_is : need ≡ certified_need (view_image_of image tasks u) (view_plan_of plan tasks u) cert
 
 -- the result of making a certificate for task u
-abbrev pub MakesTaskCert : ImageData → PlanData → TasksData → ℕ → Result (CertData × ℕ) MakeErr → Type 0
-MakesTaskCert image plan tasks u (Ok made) = IsTaskCertWithNeed image plan tasks u made.0 made.1
-MakesTaskCert image plan tasks u (Err (make_err.Refused rule key addr)) = HasNoTaskCert (view_image_of image tasks u) (view_plan_of plan tasks u) tasks rule key addr
-MakesTaskCert image plan tasks u (Err make_err.NoMemory) = Unit {0}
+abbrev pub IsTaskCertOrErr : ImageData → PlanData → TasksData → ℕ → Result (CertData × ℕ) MakeErr → Type 0
+IsTaskCertOrErr image plan tasks u (Ok made) = IsTaskCertWithNeed image plan tasks u made.0 made.1
+IsTaskCertOrErr image plan tasks u (Err (make_err.Refused rule key addr)) = HasNoTaskCert (view_image_of image tasks u) (view_plan_of plan tasks u) tasks rule key addr
+IsTaskCertOrErr image plan tasks u (Err make_err.NoMemory) = Unit {0}
 
 -- the files that `taskcert` writes, a certificate for each task, with the sum of the needs
 pub record AreTaskCertFiles (names : List (List ℕ)) (image : ImageData) (plan : PlanData) (tasks : TasksData) (writes : List ReportFile) (sum : ℕ) : Type 0 where
@@ -128,7 +128,7 @@ pub record AreTaskCertFiles (names : List (List ℕ)) (image : ImageData) (plan 
 
 -- the result of making a certificate for each task: their files and the sum of their needs, or the
 -- first task without one
-abbrev pub MakesAllTaskCerts : List (List ℕ) → ImageData → PlanData → TasksData → Result (Vec ReportFile Global × ℕ) (ℕ × MakeErr) → Type 0
-MakesAllTaskCerts names image plan tasks (Ok (writes, sum)) = AreTaskCertFiles names image plan tasks writes.items sum
-MakesAllTaskCerts names image plan tasks (Err (u, make_err.Refused rule key addr)) = IsFirstUncertifiedTask image plan tasks u rule key addr
-MakesAllTaskCerts names image plan tasks (Err (u, make_err.NoMemory)) = Unit {0}
+abbrev pub AreTaskCertsOrErr : List (List ℕ) → ImageData → PlanData → TasksData → Result (Vec ReportFile Global × ℕ) (ℕ × MakeErr) → Type 0
+AreTaskCertsOrErr names image plan tasks (Ok (writes, sum)) = AreTaskCertFiles names image plan tasks writes.items sum
+AreTaskCertsOrErr names image plan tasks (Err (u, make_err.Refused rule key addr)) = IsFirstUncertifiedTask image plan tasks u rule key addr
+AreTaskCertsOrErr names image plan tasks (Err (u, make_err.NoMemory)) = Unit {0}

@@ -1,6 +1,6 @@
 -- What `tasks` reads and prints.
 use Rattle.std.specs.Prelude.{◌≡◌, ◌-◌, ◌<◌, ◌≤◌, ◌==◌, ℕ, Bool, true, false, List, [], length, slice_index_or}
-use Rattle.csa_chain.specs.SeveralChains.{sum_over_chains}
+use Rattle.csa_chain.specs.SeveralChains.{sum_of_first}
 use Rattle.elf_image.specs.Images.{ImageData}
 use Rattle.tcd_plan.specs.PlanData.{PlanData}
 use Rattle.depth_cert.specs.Certs.{CertData}
@@ -14,8 +14,8 @@ use Rattle.task_chains.specs.SwitchRoutine.{HasRoutine, IsRoutineFault}
 use Rattle.task_chains.specs.Views.{view_image_of, view_plan_of}
 use Rattle.task_chains.specs.Rule17.{IsRule17Fault}
 use Rattle.task_chains.specs.SafeTasks.{SafeTasks, IsSoundTaskCert, need_of_task}
-use Rattle.tcd_reading.specs.Reports.{Report, says}
-use Rattle.tcd_reading.specs.Inputs.{Reading, input, each, answer}
+use Rattle.tcd_reading.specs.Reports.{Report, text_report}
+use Rattle.tcd_reading.specs.Inputs.{Reading, input, input_files, answer}
 use Rattle.tcd_driver.specs.CellAndTaskForms.{tasks_form}
 use Rattle.tcd_forms.specs.Forms.{elf_form, plan_form, cert_form}
 use Rattle.tcd_forms.specs.Lines.{refused_switch_line, refused_task_line, refused_sum_line, certified_tasks_line}
@@ -25,7 +25,7 @@ use Rattle.tcd_driver.specs.declared.commands.tasks.Tally.TheVariants.{Sum, Agai
 use Rattle.tcd_reading.specs.declared.status.Status.TheVariants.{Done, Refused, BadInput}
 
 -- the names of the files that `tasks` reads
-pub record TasksNames : Type 0 where
+pub record TasksArgs : Type 0 where
   pub elf : List ℕ
   pub plan : List ℕ
   pub tasks : List ℕ
@@ -61,23 +61,23 @@ counted_needs_of_tasks image plan tasks certs = need_of_task image plan tasks (c
 
 -- the sum of the needs of all tasks, which `tasks` compares with the areas
 abbrev pub sum_of_needs : ImageData → PlanData → TasksData → List CertData → ℕ
-sum_of_needs image plan tasks certs = sum_over_chains (count tasks) (counted_needs_of_tasks image plan tasks certs)
+sum_of_needs image plan tasks certs = sum_of_first (count tasks) (counted_needs_of_tasks image plan tasks certs)
 
 -- the certificate of each task below n is accepted for the task's view and keeps the tasks apart
 -- (K17)
-abbrev pub AreFirstTasksJudged : ImageData → PlanData → TasksData → List CertData → ℕ → Type 0
-AreFirstTasksJudged image plan tasks certs n = (u : ℕ) → u < n → IsSoundTaskCert image plan tasks (cert_of_task certs u) u
+abbrev pub AreFirstTaskCertsAccepted : ImageData → PlanData → TasksData → List CertData → ℕ → Type 0
+AreFirstTaskCertsAccepted image plan tasks certs n = (u : ℕ) → u < n → IsSoundTaskCert image plan tasks (cert_of_task certs u) u
 
 -- task u is the first whose certificate is refused
 pub record IsFirstRefusedTaskCert (image : ImageData) (plan : PlanData) (tasks : TasksData) (certs : List CertData) (u rule : ℕ) (key : Key) (addr : ℕ) : Type 0 where
   pub task : u < count tasks
-  pub before : AreFirstTasksJudged image plan tasks certs u
+  pub before : AreFirstTaskCertsAccepted image plan tasks certs u
   pub refused : IsTaskRefused image plan tasks (cert_of_task certs u) u rule key addr
 
 -- what `tasks` finds for all certificates: the sum of the tasks' needs, or the first task whose
 -- certificate is refused
 abbrev pub IsTallyOfTasks : ImageData → PlanData → TasksData → List CertData → Tally → Type 0
-IsTallyOfTasks image plan tasks certs (Sum n) = AreFirstTasksJudged image plan tasks certs (count tasks) × (n ≡ sum_of_needs image plan tasks certs)
+IsTallyOfTasks image plan tasks certs (Sum n) = AreFirstTaskCertsAccepted image plan tasks certs (count tasks) × (n ≡ sum_of_needs image plan tasks certs)
 IsTallyOfTasks image plan tasks certs (Against u rule key addr) = IsFirstRefusedTaskCert image plan tasks certs u rule key addr
 
 -- The verdict on an image, a plan, its tasks and a certificate for each. The image doesn't have the
@@ -85,17 +85,17 @@ IsTallyOfTasks image plan tasks certs (Against u rule key addr) = IsFirstRefused
 -- certificate is refused, and the sum of the needs is above the areas without the reserve. Else
 -- every run of all tasks is safe with these needs.
 pub data IsTasksVerdict (image : ImageData) (plan : PlanData) (tasks : TasksData) (certs : List CertData) (report : Report) : Type 0 where
-  no_switch : (addr : ℕ) → IsRoutineFault image plan tasks addr → report ≡ says Refused (refused_switch_line addr) → IsTasksVerdict image plan tasks certs report
+  no_switch : (addr : ℕ) → IsRoutineFault image plan tasks addr → report ≡ text_report Refused (refused_switch_line addr) → IsTasksVerdict image plan tasks certs report
   refused :
       (u rule : ℕ) (key : Key) (addr : ℕ) → HasRoutine image plan tasks → IsFirstRefusedTaskCert image plan tasks certs u rule key addr
-      → report ≡ says Refused (refused_task_line rule key addr u) → IsTasksVerdict image plan tasks certs report
+      → report ≡ text_report Refused (refused_task_line rule key addr u) → IsTasksVerdict image plan tasks certs report
   above :
-      HasRoutine image plan tasks → AreFirstTasksJudged image plan tasks certs (count tasks) → plan.areas - plan.reserve < sum_of_needs image plan tasks certs
-      → report ≡ says Refused (refused_sum_line (sum_of_needs image plan tasks certs) (plan.areas - plan.reserve)) → IsTasksVerdict image plan tasks certs report
+      HasRoutine image plan tasks → AreFirstTaskCertsAccepted image plan tasks certs (count tasks) → plan.areas - plan.reserve < sum_of_needs image plan tasks certs
+      → report ≡ text_report Refused (refused_sum_line (sum_of_needs image plan tasks certs) (plan.areas - plan.reserve)) → IsTasksVerdict image plan tasks certs report
   certified :
-      HasRoutine image plan tasks → AreFirstTasksJudged image plan tasks certs (count tasks) → sum_of_needs image plan tasks certs ≤ plan.areas - plan.reserve
+      HasRoutine image plan tasks → AreFirstTaskCertsAccepted image plan tasks certs (count tasks) → sum_of_needs image plan tasks certs ≤ plan.areas - plan.reserve
       → SafeTasks image plan tasks (counted_needs_of_tasks image plan tasks certs)
-      → report ≡ says Done (certified_tasks_line (sum_of_needs image plan tasks certs) (plan.areas - plan.reserve) (count tasks))
+      → report ≡ text_report Done (certified_tasks_line (sum_of_needs image plan tasks certs) (plan.areas - plan.reserve) (count tasks))
       → IsTasksVerdict image plan tasks certs report
 
 -- ---- what is read
@@ -103,7 +103,7 @@ pub data IsTasksVerdict (image : ImageData) (plan : PlanData) (tasks : TasksData
 -- read, and the bad count printed
 abbrev pub tasks_reading_if : Bool → Reading → Reading
 tasks_reading_if true reading = reading
-tasks_reading_if false reading = answer (λ report. report ≡ says BadInput (bad_tasks_line Count))
+tasks_reading_if false reading = answer (λ report. report ≡ text_report BadInput (bad_tasks_line Count))
 
 -- what the commands `tasks` and `taskcert` read next if they have as many names of certificates as
 -- tasks; else their line of bad input is printed
@@ -113,10 +113,10 @@ with_name_per_task names tasks reading = tasks_reading_if (length names == count
 -- reads a certificate for each task; then the verdict is printed
 abbrev pub task_certs_reading : List (List ℕ) → ImageData → PlanData → TasksData → Reading
 task_certs_reading names image plan tasks =
-    with_name_per_task names tasks (each CertData (λ _. cert_form) 0 names (λ certs. answer (IsTasksVerdict image plan tasks certs)))
+    with_name_per_task names tasks (input_files CertData (λ _. cert_form) 0 names (λ certs. answer (IsTasksVerdict image plan tasks certs)))
 
 -- reads an executable, a plan and its tasks, and then the certificates
-abbrev pub tasks_reading : TasksNames → Reading
+abbrev pub tasks_reading : TasksArgs → Reading
 tasks_reading names =
     input ImageData elf_form names.elf
     (λ image. input PlanData plan_form names.plan

@@ -43,7 +43,7 @@ ToolCallMeans call words status Holds =
 -- A call of whose files it is known what they hold, so that nothing can fail: they are steady and
 -- hold each file of which something is asked, and the sink has room for each text that may be
 -- printed.
-pub record CannotFail (call : ToolCall) (before : FileMap) (asks : List InputRequirement) (MayPrint : List ℕ → Type 0) : Type 0 where
+pub record CallCannotFail (call : ToolCall) (before : FileMap) (asks : List InputRequirement) (MayPrint : List ℕ → Type 0) : Type 0 where
   pub held : (call.files).held ≡ Some before
   pub steady : (call.files).steady ≡ true
   pub there : AreInputsPresent before asks
@@ -52,15 +52,15 @@ pub record CannotFail (call : ToolCall) (before : FileMap) (asks : List InputReq
   pub fits : (text : List ℕ) → MayPrint text → length text ≤ room
 
 -- there are files and a printed text with which a call may end
-abbrev pub CanEnd : (FileMap → List ℕ → Type 0) → Type 0
-CanEnd Holds = (after : FileMap) × (printed : List ℕ) × Holds after printed
+abbrev pub CallCanEnd : (FileMap → List ℕ → Type 0) → Type 0
+CallCanEnd Holds = (after : FileMap) × (printed : List ℕ) × Holds after printed
 
 -- a call's status is Done, Refused or BadInput, and each exactly if a call can end so
 pub record IsDecidedStatus (status : Status) (IfDone IfRefused IfBad : FileMap → List ℕ → Type 0) : Type 0 where
   pub one : (status ≡ Done) ⊎ ((status ≡ Refused) ⊎ (status ≡ BadInput))
-  pub done : (status ≡ Done) ↔ CanEnd IfDone
-  pub refused : (status ≡ Refused) ↔ CanEnd IfRefused
-  pub bad_input : (status ≡ BadInput) ↔ CanEnd IfBad
+  pub done : (status ≡ Done) ↔ CallCanEnd IfDone
+  pub refused : (status ≡ Refused) ↔ CallCanEnd IfRefused
+  pub bad_input : (status ≡ BadInput) ↔ CallCanEnd IfBad
 
 -- a text that a call may print: `bad words`, or that of one of its three ends
 pub data MayPrintText (IfDone IfRefused IfBad : FileMap → List ℕ → Type 0) (text : List ℕ) : Type 0 where
@@ -77,7 +77,7 @@ pub record CommandSays (call : ToolCall) (words : List (List ℕ)) (asks : List 
   pub refused : ToolCallMeans call words Refused IfRefused
   pub bad_input : ToolCallMeans call words BadInput (BadInputOf asks)
   pub decided :
-      (before : FileMap) → call.words ≡ words → CannotFail call before asks (MayPrintText (IfDone before) (IfRefused before) (BadInputOf asks before))
+      (before : FileMap) → call.words ≡ words → CallCannotFail call before asks (MayPrintText (IfDone before) (IfRefused before) (BadInputOf asks before))
       → call.status ≢ NoMemory → call.status ≢ BadWords → IsDecidedStatus call.status (IfDone before) (IfRefused before) (BadInputOf asks before)
 
 -- for a command that refuses nothing: no files and no text belong to a refusal

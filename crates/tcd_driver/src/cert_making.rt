@@ -1,6 +1,6 @@
 // Makes certificates, and checks them.
 ghost use Rattle.std.specs.Prelude.{◌≡◌, ◌⊎◌};
-ghost use Rattle.tcd_driver.specs.BestCert.{IsNoCertReport, MakesBestCert, MakesLeastCert};
+ghost use Rattle.tcd_driver.specs.BestCert.{IsNoCertReport, IsBestCertOrErr, IsLeastCertOrErr};
 ghost use Rattle.tcd_reading.specs.Outcomes.{IsReportOutcome};
 
 use depth_check::{Verdict, check};
@@ -21,7 +21,7 @@ pub(crate) fn make_least_cert(
     version: u8,
 ) -> Result<(Cert, u32), MakeErr>
     requires { (version ≡ 1) ⊎ (version ≡ 2) }
-    ensures { MakesLeastCert image.now plan.now version result }
+    ensures { IsLeastCertOrErr image.now plan.now version result }
 {
     let cert = make(alloc, image, plan, version)?;
     // What holds of every certificate is known after its format is read.
@@ -39,7 +39,7 @@ pub(crate) fn make_best_cert(
     image: &Image,
     plan: &Plan,
 ) -> Result<(Cert, u32), MakeErr>
-    ensures { MakesBestCert image.now plan.now result }
+    ensures { IsBestCertOrErr image.now plan.now result }
 {
     match make_least_cert(alloc, image, plan, 1) {
         Ok((cert, need)) => Ok((cert, need)),

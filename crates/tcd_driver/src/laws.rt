@@ -1,7 +1,7 @@
 // Laws of what the tool promises.
 ghost use Rattle.std.specs.Prelude.{ℕ, List};
 ghost use Rattle.tcd_base.specs.Files.{FileMap};
-ghost use Rattle.tcd_driver.specs.SureCalls.{SureCallsAreDecided};
+ghost use Rattle.tcd_driver.specs.SureCalls.{StatusesAreDecided};
 
 use std::marker::Brand;
 
@@ -23,5 +23,5 @@ impl AnyEnds for Brand {
 /// The status of any command is decided over steady files that hold each file of which it asks
 /// something, with room for each text that it may print.
 pub fn decided_status_law<C: AnyEnds>()
-    ensures { SureCallsAreDecided C.IfDone C.IfRefused }
+    ensures { StatusesAreDecided C.IfDone C.IfRefused }
 {}

@@ -36,7 +36,7 @@ pub(crate) fn refused_boot_line(alloc: Global, e: BootErr) -> Result<Vec<u8>, No
 
 /// Returns the printed line on a file that isn't in the form of cells: the number of the fault, and
 /// its line.
-#[tactic(auto, unfolding(crate::specs::BadInputLines::bad_cells_line, tcd_forms::specs::Lines::line_end_at_one))]
+#[tactic(auto, unfolding(crate::specs::BadInputLines::bad_cells_line, tcd_forms::specs::Lines::line_end_with_number))]
 pub(crate) fn bad_cells_line(alloc: Global, e: CellsErr) -> Result<Vec<u8>, NoMemory>
     ensures { IfOk result (λ line. line.items ≡ bad_cells_line e) }
 {
@@ -50,7 +50,7 @@ pub(crate) fn bad_cells_line(alloc: Global, e: CellsErr) -> Result<Vec<u8>, NoMe
 
 /// Returns the printed line on a file that isn't in the form of tasks: the number of the fault, and
 /// for the first two its line.
-#[tactic(auto, unfolding(crate::specs::BadInputLines::bad_tasks_line, tcd_forms::specs::Lines::line_end_at_one))]
+#[tactic(auto, unfolding(crate::specs::BadInputLines::bad_tasks_line, tcd_forms::specs::Lines::line_end_with_number))]
 pub(crate) fn bad_tasks_line(alloc: Global, e: TasksErr) -> Result<Vec<u8>, NoMemory>
     ensures { IfOk result (λ line. line.items ≡ bad_tasks_line e) }
 {

@@ -4,16 +4,16 @@ use Rattle.serde_json.specs.Data.{Data}
 use Rattle.serde_json.specs.Read.{read}
 use Rattle.elf_image.specs.ReadElf.{image_of_file}
 use Rattle.tcd_plan.specs.PlanData.{PlanData}
-use Rattle.tcd_plan.specs.PlanReader.{GivesPlan, AnswersPlan, plan_of}
+use Rattle.tcd_plan.specs.PlanReader.{GivesPlan, IsPlanResult, plan_of}
 use Rattle.tcd_plan.specs.declared.plans.PlanErr.{PlanErr}
 use Rattle.tcd_plan.specs.declared.plans.PlanErr.TheVariants as plan
 use Rattle.depth_cert.specs.Grammar.{certificate_of}
 use Rattle.tc_script.specs.ScriptText.{script_of}
 use Rattle.tc_object.specs.Grammar as grammar
 use Rattle.tc_stmt.specs.Lines.{LineData, lines_in}
-use Rattle.tc_asm.specs.Rules.{KeepsRules, IsFirstBrokenLine}
+use Rattle.tc_asm.specs.Rules.{LinesKeepRules, IsFirstBrokenLine}
 use Rattle.tc_link.specs.LayoutFaults.{layout_of}
-use Rattle.tcd_forms.specs.Forms.{elf_form, plan_form, cert_form, script_form, source_form, placed_source_form, layout_form, object_form}
+use Rattle.tcd_forms.specs.Forms.{elf_form, plan_form, cert_form, script_form, source_form, numbered_source_form, layout_form, object_form}
 use Rattle.tcd_reading.proofs.Decided.{IsLawful}
 
 ok_same : {T E : Type 0} (r : Result T E) (x y : T) → r ≡ Ok x → r ≡ Ok y → x ≡ y
@@ -36,13 +36,13 @@ plan_err : (bytes : List ℕ) (p : PlanData) (e : PlanErr) → GivesPlan bytes (
 plan_err bytes p e h k = let same = gives_same bytes (Ok p) (Err e) h k in cc
 
 -- bytes that are a plan aren't rejected
-not_refused : (bytes : List ℕ) (p : PlanData) (e : PlanErr) → GivesPlan bytes (Ok p) → AnswersPlan bytes (Err e) → (e ≡ plan.NoMemory → ⊥) → ⊥
+not_refused : (bytes : List ℕ) (p : PlanData) (e : PlanErr) → GivesPlan bytes (Ok p) → IsPlanResult bytes (Err e) → (e ≡ plan.NoMemory → ⊥) → ⊥
 not_refused bytes p plan.NotJson h k some = let e = sym h.3 ∙ k h.0 h.1 h.2 in cc
 not_refused bytes p plan.NoMemory h k some = some refl
 not_refused bytes p _ h k some = plan_err bytes p _ h k
 
 -- ---- no source both keeps the rules and breaks one
-no_least : (lines : List LineData) (line rule : ℕ) (d : LineData) → KeepsRules lines (length lines) → IsFirstBrokenLine lines line rule → ⊥
+no_least : (lines : List LineData) (line rule : ℕ) (d : LineData) → LinesKeepRules lines (length lines) → IsFirstBrokenLine lines line rule → ⊥
 no_least lines line rule d keeps least = least.some (sym (least.broken d) ∙ keeps least.place d least.within)
 
 a_line : LineData
@@ -64,7 +64,7 @@ script_lawful p = record { one = λ b x y h k. ok_same (script_of p b) x y h k; 
 pub source_lawful : IsLawful source_form
 source_lawful = record { one = λ b x y h k. h.is ∙ sym k.is; apart = λ b t x h k. no_least (lines_in b) k.0 k.1 a_line h.keeps k.2 }
 
-pub placed_source_lawful : (place : ℕ) → IsLawful (placed_source_form place)
+pub placed_source_lawful : (place : ℕ) → IsLawful (numbered_source_form place)
 placed_source_lawful place = record {
   one = λ b x y h k. λ i. record { text = (h.0 ∙ sym k.0) i; object = (h.1.is ∙ sym k.1.is) i };
   apart = λ b t x h k. no_least (lines_in b) k.0 k.1 a_line h.1.keeps k.2;

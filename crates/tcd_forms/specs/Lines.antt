@@ -26,24 +26,24 @@ use Rattle.tcd_plan.specs.declared.plans.PlanErr.TheVariants as plan
 
 -- the end of a printed line that names a frame: its kind, its entry, its priority, and whether the
 -- interrupt stack is in use
-unfoldable pub line_end_at_frame : Key → List ℕ
-line_end_at_frame key = key_kind_text key.kind ++ (hex_word key.entry ++ (codes " prio " ++ (decimal key.prio ++ (codes " is " ++ ((if key.is then 49 else 48) ∷ 10 ∷ [])))))
+unfoldable pub line_end_with_frame : Key → List ℕ
+line_end_with_frame key = key_kind_text key.kind ++ (hex_word key.entry ++ (codes " prio " ++ (decimal key.prio ++ (codes " is " ++ ((if key.is then 49 else 48) ∷ 10 ∷ [])))))
 
 -- the end of a rejection's line that names one number
-unfoldable pub line_end_at_one : ℕ → List ℕ
-line_end_at_one i = codes " at " ++ (decimal i ++ 10 ∷ [])
+unfoldable pub line_end_with_number : ℕ → List ℕ
+line_end_with_number i = codes " at " ++ (decimal i ++ 10 ∷ [])
 
 -- the end of a rejection's line that names two numbers
-unfoldable pub line_end_at_two : ℕ → ℕ → List ℕ
-line_end_at_two i j = codes " at " ++ (decimal i ++ (codes " " ++ (decimal j ++ 10 ∷ [])))
+unfoldable pub line_end_with_two_numbers : ℕ → ℕ → List ℕ
+line_end_with_two_numbers i j = codes " at " ++ (decimal i ++ (codes " " ++ (decimal j ++ 10 ∷ [])))
 
 -- the end of a rejection's line that names a key of the plan
-unfoldable pub line_end_at_key : PlanKey → List ℕ
-line_end_at_key key = codes " key " ++ (unwrap_or (slice_get key_texts key.0) [] ++ 10 ∷ [])
+unfoldable pub line_end_with_key : PlanKey → List ℕ
+line_end_with_key key = codes " key " ++ (unwrap_or (slice_get key_texts key.0) [] ++ 10 ∷ [])
 
 -- the printed line for an executable with more bytes than its form allows
-unfoldable pub too_long_elf_line : List ℕ
-too_long_elf_line = codes "bad elf 0" ++ 10 ∷ []
+unfoldable pub elf_too_long_line : List ℕ
+elf_too_long_line = codes "bad elf 0" ++ 10 ∷ []
 
 -- the printed line on why a file is no executable: the number of the fault, 1 to 7
 unfoldable pub bad_elf_line : ImageErr → List ℕ
@@ -51,54 +51,54 @@ bad_elf_line elf.Short = codes "bad elf 1" ++ 10 ∷ []
 bad_elf_line elf.NotElf32Le = codes "bad elf 2" ++ 10 ∷ []
 bad_elf_line elf.NotTriCore = codes "bad elf 3" ++ 10 ∷ []
 bad_elf_line elf.NotExec = codes "bad elf 4" ++ 10 ∷ []
-bad_elf_line (elf.BadSegment i) = codes "bad elf 5" ++ line_end_at_one i
+bad_elf_line (elf.BadSegment i) = codes "bad elf 5" ++ line_end_with_number i
 bad_elf_line elf.TooLarge = codes "bad elf 6" ++ 10 ∷ []
-bad_elf_line (elf.Overlap i j) = codes "bad elf 7" ++ line_end_at_two i j
+bad_elf_line (elf.Overlap i j) = codes "bad elf 7" ++ line_end_with_two_numbers i j
 bad_elf_line elf.NoMemory = []
 
 -- the printed line for a plan with more bytes than its form allows
-unfoldable pub too_long_plan_line : List ℕ
-too_long_plan_line = codes "bad plan 0" ++ 10 ∷ []
+unfoldable pub plan_too_long_line : List ℕ
+plan_too_long_line = codes "bad plan 0" ++ 10 ∷ []
 
 -- the printed line on why a file is no plan: the number of the fault, 1 to 8
 unfoldable pub bad_plan_line : PlanErr → List ℕ
 bad_plan_line plan.NotJson = codes "bad plan 1" ++ 10 ∷ []
-bad_plan_line (plan.Missing key) = codes "bad plan 2" ++ line_end_at_key key
-bad_plan_line (plan.Unknown key) = codes "bad plan 3" ++ line_end_at_key key
-bad_plan_line (plan.BadValue key) = codes "bad plan 4" ++ line_end_at_key key
-bad_plan_line (plan.TooMany key) = codes "bad plan 5" ++ line_end_at_key key
+bad_plan_line (plan.Missing key) = codes "bad plan 2" ++ line_end_with_key key
+bad_plan_line (plan.Unknown key) = codes "bad plan 3" ++ line_end_with_key key
+bad_plan_line (plan.BadValue key) = codes "bad plan 4" ++ line_end_with_key key
+bad_plan_line (plan.TooMany key) = codes "bad plan 5" ++ line_end_with_key key
 bad_plan_line plan.BadCsa = codes "bad plan 6" ++ 10 ∷ []
 bad_plan_line plan.BadVector = codes "bad plan 7" ++ 10 ∷ []
-bad_plan_line (plan.Overlap i j) = codes "bad plan 8" ++ line_end_at_two i j
+bad_plan_line (plan.Overlap i j) = codes "bad plan 8" ++ line_end_with_two_numbers i j
 bad_plan_line plan.NoMemory = []
 
 -- the printed line for a certificate with more bytes than its form allows
-unfoldable pub too_long_cert_line : List ℕ
-too_long_cert_line = codes "bad cert 0" ++ 10 ∷ []
+unfoldable pub cert_too_long_line : List ℕ
+cert_too_long_line = codes "bad cert 0" ++ 10 ∷ []
 
 -- the printed line on why a file is no certificate: the number of the fault, and its offset in the
 -- file
 unfoldable pub bad_cert_line : FormErr → List ℕ
-bad_cert_line e = codes "bad cert " ++ (decimal e.kind ++ line_end_at_one e.at)
+bad_cert_line e = codes "bad cert " ++ (decimal e.kind ++ line_end_with_number e.at)
 
 -- the printed line on a rule of certificates that fails, with the address and the frame
 unfoldable pub refused_line : ℕ → Key → ℕ → List ℕ
-refused_line rule key addr = codes "refused K" ++ (decimal rule ++ (codes " at " ++ (hex_word addr ++ (codes " in " ++ line_end_at_frame key))))
+refused_line rule key addr = codes "refused K" ++ (decimal rule ++ (codes " at " ++ (hex_word addr ++ (codes " in " ++ line_end_with_frame key))))
 
 -- the printed line on an accepted certificate: the needed CSAs, and those of the plan
 unfoldable pub certified_line : ℕ → ℕ → List ℕ
 certified_line need areas = codes "certified " ++ (decimal need ++ (codes " of " ++ (decimal areas ++ (codes " areas" ++ 10 ∷ []))))
 
 -- the printed line for a turn script with more bytes than its form allows
-unfoldable pub too_long_script_line : List ℕ
-too_long_script_line = codes "bad script 0" ++ 10 ∷ []
+unfoldable pub script_too_long_line : List ℕ
+script_too_long_line = codes "bad script 0" ++ 10 ∷ []
 
 -- the printed line on why a file is no turn script: the number of the fault, and its line
 unfoldable pub bad_script_line : ScriptErr → List ℕ
-bad_script_line (script.BadLine n) = codes "bad script 1" ++ line_end_at_one n
-bad_script_line (script.NoSource n) = codes "bad script 2" ++ line_end_at_one n
-bad_script_line (script.OutOfRange n) = codes "bad script 3" ++ line_end_at_one n
-bad_script_line (script.TooMany n) = codes "bad script 4" ++ line_end_at_one n
+bad_script_line (script.BadLine n) = codes "bad script 1" ++ line_end_with_number n
+bad_script_line (script.NoSource n) = codes "bad script 2" ++ line_end_with_number n
+bad_script_line (script.OutOfRange n) = codes "bad script 3" ++ line_end_with_number n
+bad_script_line (script.TooMany n) = codes "bad script 4" ++ line_end_with_number n
 bad_script_line script.NoMemory = []
 
 -- the word that the line of a run prints for a cause of death
@@ -124,38 +124,38 @@ run_line events peak m = codes "events " ++ (decimal events ++ (codes " peak " +
 
 -- the printed line for the source at this place, if it has more bytes than its form allows; `asm`
 -- has one source, at place 0
-unfoldable pub too_long_source_line : ℕ → List ℕ
-too_long_source_line place = codes "bad source 0" ++ line_end_at_one place
+unfoldable pub source_too_long_line : ℕ → List ℕ
+source_too_long_line place = codes "bad source 0" ++ line_end_with_number place
 
 -- the printed line on a source file that breaks a rule: the rule, the place of the file among the
 -- sources, and the line in it
 unfoldable pub bad_source_line : ℕ → ℕ → ℕ → List ℕ
-bad_source_line place rule line = codes "bad source " ++ (decimal rule ++ line_end_at_two place line)
+bad_source_line place rule line = codes "bad source " ++ (decimal rule ++ line_end_with_two_numbers place line)
 
 -- the printed line of `asm` on an object that was written, with its size in bytes
 unfoldable pub assembled_object_line : ℕ → List ℕ
 assembled_object_line bytes = codes "object " ++ (decimal bytes ++ (codes " bytes" ++ 10 ∷ []))
 
 -- the printed line for a layout with more bytes than its form allows
-unfoldable pub too_long_layout_line : List ℕ
-too_long_layout_line = codes "bad layout 0" ++ 10 ∷ []
+unfoldable pub layout_too_long_line : List ℕ
+layout_too_long_line = codes "bad layout 0" ++ 10 ∷ []
 
 -- the printed line on why a file is no layout: the number of the fault, and its line
 unfoldable pub bad_layout_line : LayoutErr → List ℕ
-bad_layout_line (layout.BadLine n) = codes "bad layout 1" ++ line_end_at_one n
-bad_layout_line (layout.Twice n) = codes "bad layout 2" ++ line_end_at_one n
-bad_layout_line (layout.TooMany n) = codes "bad layout 3" ++ line_end_at_one n
-bad_layout_line (layout.Overlap n) = codes "bad layout 4" ++ line_end_at_one n
+bad_layout_line (layout.BadLine n) = codes "bad layout 1" ++ line_end_with_number n
+bad_layout_line (layout.Twice n) = codes "bad layout 2" ++ line_end_with_number n
+bad_layout_line (layout.TooMany n) = codes "bad layout 3" ++ line_end_with_number n
+bad_layout_line (layout.Overlap n) = codes "bad layout 4" ++ line_end_with_number n
 bad_layout_line layout.NoMemory = []
 
 -- the printed line for the object at this place, if it has more bytes than its form allows
-unfoldable pub too_long_object_line : ℕ → List ℕ
-too_long_object_line place = codes "bad object 0" ++ line_end_at_one place
+unfoldable pub object_too_long_line : ℕ → List ℕ
+object_too_long_line place = codes "bad object 0" ++ line_end_with_number place
 
 -- the printed line on why the file at this place is no object: the number of the fault, and its
 -- offset in the file
 unfoldable pub bad_object_line : ℕ → FormErr → List ℕ
-bad_object_line place e = codes "bad object " ++ (decimal e.kind ++ line_end_at_two place e.at)
+bad_object_line place e = codes "bad object " ++ (decimal e.kind ++ line_end_with_two_numbers place e.at)
 
 -- the number that a `bad link` line prints for why a relocation doesn't fit its field
 unfoldable pub reloc_fault_number : RelocErr → ℕ
@@ -164,16 +164,16 @@ reloc_fault_number FarOff = 2
 reloc_fault_number Segment = 3
 
 -- the end of a printed line that names a symbol or a section
-unfoldable pub line_end_at_name : List ℕ → List ℕ
-line_end_at_name name = codes " name " ++ (name ++ 10 ∷ [])
+unfoldable pub line_end_with_name : List ℕ → List ℕ
+line_end_with_name name = codes " name " ++ (name ++ 10 ∷ [])
 
 -- the printed line on why objects can't be linked; a relocation is named by its object, section and
 -- offset
 unfoldable pub bad_link_line : Refusal → List ℕ
-bad_link_line (twice name) = codes "bad link 1" ++ line_end_at_name name
-bad_link_line (missing name) = codes "bad link 2" ++ line_end_at_name name
-bad_link_line (no_place name) = codes "bad link 3" ++ line_end_at_name name
-bad_link_line (no_room name) = codes "bad link 4" ++ line_end_at_name name
+bad_link_line (twice name) = codes "bad link 1" ++ line_end_with_name name
+bad_link_line (missing name) = codes "bad link 2" ++ line_end_with_name name
+bad_link_line (no_place name) = codes "bad link 3" ++ line_end_with_name name
+bad_link_line (no_room name) = codes "bad link 4" ++ line_end_with_name name
 bad_link_line (reloc object section offset err) =
     codes "bad link 5 at " ++ (decimal object ++ (codes " " ++ (decimal section ++ (codes " " ++ (decimal offset ++ (codes " " ++ (decimal (reloc_fault_number err) ++ 10 ∷ [])))))))
 bad_link_line no_entry = codes "bad link 6" ++ 10 ∷ []
@@ -183,23 +183,23 @@ unfoldable pub linked_image_line : ℕ → List ℕ
 linked_image_line bytes = codes "image " ++ (decimal bytes ++ (codes " bytes" ++ 10 ∷ []))
 
 -- the printed line for a file of cells with more bytes than its form allows
-unfoldable pub too_long_cells_line : List ℕ
-too_long_cells_line = codes "bad cells 0" ++ 10 ∷ []
+unfoldable pub cells_too_long_line : List ℕ
+cells_too_long_line = codes "bad cells 0" ++ 10 ∷ []
 
 -- the printed line for a file of tasks with more bytes than its form allows
-unfoldable pub too_long_tasks_line : List ℕ
-too_long_tasks_line = codes "bad tasks 0" ++ 10 ∷ []
+unfoldable pub tasks_too_long_line : List ℕ
+tasks_too_long_line = codes "bad tasks 0" ++ 10 ∷ []
 
 -- ---- boot sequences, cells, tasks and generated images
 -- the printed line of `boot` on a certified boot sequence: its events, the needed CSAs, and those
 -- of the plan
-unfoldable pub boots_line : ℕ → ℕ → ℕ → List ℕ
-boots_line events need areas =
+unfoldable pub boot_line : ℕ → ℕ → ℕ → List ℕ
+boot_line events need areas =
     codes "boot " ++ (decimal events ++ (codes " events certified " ++ (decimal need ++ (codes " of " ++ (decimal areas ++ (codes " areas" ++ 10 ∷ []))))))
 
 -- the printed line of `bootgen` on a boot sequence that was written as a source
-unfoldable pub generated_boot_line : List ℕ
-generated_boot_line = codes "boot 56 instructions" ++ 10 ∷ []
+unfoldable pub bootgen_line : List ℕ
+bootgen_line = codes "boot 56 instructions" ++ 10 ∷ []
 
 -- the printed line of certified cells: the needed CSAs, those of the plan, and the number of cells
 -- that must keep their bounds
@@ -233,8 +233,8 @@ certified_tasks_line sum areas n =
 
 -- the printed line of `gen`: the image's functions, its certificate's nodes and points, the needed
 -- CSAs, and those of the plan
-unfoldable pub generated_line : ℕ → ℕ → ℕ → ℕ → ℕ → List ℕ
-generated_line functions nodes points need areas =
+unfoldable pub gen_line : ℕ → ℕ → ℕ → ℕ → ℕ → List ℕ
+gen_line functions nodes points need areas =
     codes "functions "
     ++ (decimal functions
     ++ (codes " nodes "

@@ -1,6 +1,6 @@
 // The printed lines on malformed files, and on objects that can't be linked.
 ghost use Rattle.std.specs.Prelude.{◌≡◌, ◌<◌, ◌++◌, length, IsErr, IfOk, IfSome, OnOk};
-ghost use Rattle.tcd_forms.specs.Lines.{too_long_elf_line, too_long_plan_line, too_long_cert_line, too_long_script_line, too_long_source_line, line_end_at_key, bad_elf_line, bad_plan_line, bad_cert_line, bad_script_line, bad_source_line, too_long_layout_line, too_long_cells_line, too_long_tasks_line, bad_layout_line, too_long_object_line, bad_object_line, reloc_fault_number, bad_link_line, line_end_at_name};
+ghost use Rattle.tcd_forms.specs.Lines.{elf_too_long_line, plan_too_long_line, cert_too_long_line, script_too_long_line, source_too_long_line, line_end_with_key, bad_elf_line, bad_plan_line, bad_cert_line, bad_script_line, bad_source_line, layout_too_long_line, cells_too_long_line, tasks_too_long_line, bad_layout_line, object_too_long_line, bad_object_line, reloc_fault_number, bad_link_line, line_end_with_name};
 ghost use Rattle.tcd_plan.specs.PlanReader.{HasPrintedKey};
 ghost use Rattle.tc_link.specs.Errors.{refusal_of};
 ghost use Rattle.tcd_plan.specs.Keys.{key_texts};
@@ -30,63 +30,63 @@ pub fn copy_printed_line(alloc: Global, text: &[u8]) -> Result<Vec<u8>, NoMemory
 }
 
 /// Returns the printed line for an executable with more bytes than its form allows.
-#[tactic(auto, unfolding(crate::specs::Lines::too_long_elf_line))]
+#[tactic(auto, unfolding(crate::specs::Lines::elf_too_long_line))]
 pub fn elf_too_long_line() -> &'static [u8]
-    ensures { result.now ≡ too_long_elf_line }
+    ensures { result.now ≡ elf_too_long_line }
 {
     b"bad elf 0\n"
 }
 
 /// Returns the printed line for a plan with more bytes than its form allows.
-#[tactic(auto, unfolding(crate::specs::Lines::too_long_plan_line))]
+#[tactic(auto, unfolding(crate::specs::Lines::plan_too_long_line))]
 pub fn plan_too_long_line() -> &'static [u8]
-    ensures { result.now ≡ too_long_plan_line }
+    ensures { result.now ≡ plan_too_long_line }
 {
     b"bad plan 0\n"
 }
 
 /// Returns the printed line for a certificate with more bytes than its form allows.
-#[tactic(auto, unfolding(crate::specs::Lines::too_long_cert_line))]
+#[tactic(auto, unfolding(crate::specs::Lines::cert_too_long_line))]
 pub fn cert_too_long_line() -> &'static [u8]
-    ensures { result.now ≡ too_long_cert_line }
+    ensures { result.now ≡ cert_too_long_line }
 {
     b"bad cert 0\n"
 }
 
 /// Returns the printed line for a turn script with more bytes than its form allows.
-#[tactic(auto, unfolding(crate::specs::Lines::too_long_script_line))]
+#[tactic(auto, unfolding(crate::specs::Lines::script_too_long_line))]
 pub fn script_too_long_line() -> &'static [u8]
-    ensures { result.now ≡ too_long_script_line }
+    ensures { result.now ≡ script_too_long_line }
 {
     b"bad script 0\n"
 }
 
 /// Returns the printed line for a layout with more bytes than its form allows.
-#[tactic(auto, unfolding(crate::specs::Lines::too_long_layout_line))]
+#[tactic(auto, unfolding(crate::specs::Lines::layout_too_long_line))]
 pub fn layout_too_long_line() -> &'static [u8]
-    ensures { result.now ≡ too_long_layout_line }
+    ensures { result.now ≡ layout_too_long_line }
 {
     b"bad layout 0\n"
 }
 
 /// Returns the printed line for a file of cells with more bytes than its form allows.
-#[tactic(auto, unfolding(crate::specs::Lines::too_long_cells_line))]
+#[tactic(auto, unfolding(crate::specs::Lines::cells_too_long_line))]
 pub fn cells_too_long_line() -> &'static [u8]
-    ensures { result.now ≡ too_long_cells_line }
+    ensures { result.now ≡ cells_too_long_line }
 {
     b"bad cells 0\n"
 }
 
 /// Returns the printed line for a file of tasks with more bytes than its form allows.
-#[tactic(auto, unfolding(crate::specs::Lines::too_long_tasks_line))]
+#[tactic(auto, unfolding(crate::specs::Lines::tasks_too_long_line))]
 pub fn tasks_too_long_line() -> &'static [u8]
-    ensures { result.now ≡ too_long_tasks_line }
+    ensures { result.now ≡ tasks_too_long_line }
 {
     b"bad tasks 0\n"
 }
 
 /// Returns the printed line on why a file is no executable. An error means that memory ran out.
-#[tactic(auto, unfolding(crate::specs::Lines::bad_elf_line, crate::specs::Lines::line_end_at_one, crate::specs::Lines::line_end_at_two))]
+#[tactic(auto, unfolding(crate::specs::Lines::bad_elf_line, crate::specs::Lines::line_end_with_number, crate::specs::Lines::line_end_with_two_numbers))]
 pub fn bad_elf_line(alloc: Global, e: ImageErr) -> Result<Vec<u8>, NoMemory>
     ensures line { IfOk result (λ line. line.items ≡ bad_elf_line e) }
     ensures memory { e ≡ ImageErr.NoMemory → IsErr result }
@@ -104,7 +104,7 @@ pub fn bad_elf_line(alloc: Global, e: ImageErr) -> Result<Vec<u8>, NoMemory>
 }
 
 /// Returns the printed line on why a file is no plan. An error means that memory ran out.
-#[tactic(auto, unfolding(crate::specs::Lines::bad_plan_line, crate::specs::Lines::line_end_at_two))]
+#[tactic(auto, unfolding(crate::specs::Lines::bad_plan_line, crate::specs::Lines::line_end_with_two_numbers))]
 pub fn bad_plan_line(alloc: Global, e: PlanErr) -> Result<Vec<u8>, NoMemory>
     requires { HasPrintedKey e }
     ensures line { IfOk result (λ line. line.items ≡ bad_plan_line e) }
@@ -125,7 +125,7 @@ pub fn bad_plan_line(alloc: Global, e: PlanErr) -> Result<Vec<u8>, NoMemory>
 
 /// Returns the printed line on why a file is no certificate: the number of the fault, and its
 /// offset.
-#[tactic(auto, unfolding(crate::specs::Lines::bad_cert_line, crate::specs::Lines::line_end_at_one))]
+#[tactic(auto, unfolding(crate::specs::Lines::bad_cert_line, crate::specs::Lines::line_end_with_number))]
 pub fn bad_cert_line(alloc: Global, e: FormErr) -> Result<Vec<u8>, NoMemory>
     ensures { IfOk result (λ line. line.items ≡ bad_cert_line e) }
 {
@@ -135,7 +135,7 @@ pub fn bad_cert_line(alloc: Global, e: FormErr) -> Result<Vec<u8>, NoMemory>
 }
 
 /// Returns the printed line on why a file is no turn script: the number of the fault, and its line.
-#[tactic(auto, unfolding(crate::specs::Lines::bad_script_line, crate::specs::Lines::line_end_at_one))]
+#[tactic(auto, unfolding(crate::specs::Lines::bad_script_line, crate::specs::Lines::line_end_with_number))]
 pub fn bad_script_line(alloc: Global, e: ScriptErr) -> Result<Vec<u8>, NoMemory>
     ensures line { IfOk result (λ line. line.items ≡ bad_script_line e) }
     ensures memory { e ≡ ScriptErr.NoMemory → IsErr result }
@@ -151,7 +151,7 @@ pub fn bad_script_line(alloc: Global, e: ScriptErr) -> Result<Vec<u8>, NoMemory>
 
 /// Returns the printed line on a source that breaks a rule: its place, the first bad line, and the
 /// least rule broken there.
-#[tactic(auto, unfolding(crate::specs::Lines::bad_source_line, crate::specs::Lines::line_end_at_two))]
+#[tactic(auto, unfolding(crate::specs::Lines::bad_source_line, crate::specs::Lines::line_end_with_two_numbers))]
 pub fn bad_source_line(alloc: Global, place: u32, rule: u8, line: u32) -> Result<Vec<u8>, NoMemory>
     ensures { IfOk result (λ text. text.items ≡ bad_source_line place rule line) }
 {
@@ -159,7 +159,7 @@ pub fn bad_source_line(alloc: Global, place: u32, rule: u8, line: u32) -> Result
 }
 
 /// Returns the printed line on why a file is no layout: the number of the fault, and its line.
-#[tactic(auto, unfolding(crate::specs::Lines::bad_layout_line, crate::specs::Lines::line_end_at_one))]
+#[tactic(auto, unfolding(crate::specs::Lines::bad_layout_line, crate::specs::Lines::line_end_with_number))]
 pub fn bad_layout_line(alloc: Global, e: LayoutErr) -> Result<Vec<u8>, NoMemory>
     ensures line { IfOk result (λ line. line.items ≡ bad_layout_line e) }
     ensures memory { e ≡ LayoutErr.NoMemory → IsErr result }
@@ -175,25 +175,25 @@ pub fn bad_layout_line(alloc: Global, e: LayoutErr) -> Result<Vec<u8>, NoMemory>
 
 /// Returns the printed line for the source at this place, if it has more bytes than its form
 /// allows.
-#[tactic(auto, unfolding(crate::specs::Lines::too_long_source_line, crate::specs::Lines::line_end_at_one))]
+#[tactic(auto, unfolding(crate::specs::Lines::source_too_long_line, crate::specs::Lines::line_end_with_number))]
 pub fn source_too_long_line(alloc: Global, place: u32) -> Result<Vec<u8>, NoMemory>
-    ensures { IfOk result (λ line. line.items ≡ too_long_source_line place) }
+    ensures { IfOk result (λ line. line.items ≡ source_too_long_line place) }
 {
     Ok(format!(in alloc; "bad source 0 at {place}\n")?.into_bytes())
 }
 
 /// Returns the printed line for the object at this place, if it has more bytes than its form
 /// allows.
-#[tactic(auto, unfolding(crate::specs::Lines::too_long_object_line, crate::specs::Lines::line_end_at_one))]
+#[tactic(auto, unfolding(crate::specs::Lines::object_too_long_line, crate::specs::Lines::line_end_with_number))]
 pub fn object_too_long_line(alloc: Global, place: u32) -> Result<Vec<u8>, NoMemory>
-    ensures { IfOk result (λ line. line.items ≡ too_long_object_line place) }
+    ensures { IfOk result (λ line. line.items ≡ object_too_long_line place) }
 {
     Ok(format!(in alloc; "bad object 0 at {place}\n")?.into_bytes())
 }
 
 /// Returns the printed line on why the file at this place is no object: the number of the fault,
 /// and its offset.
-#[tactic(auto, unfolding(crate::specs::Lines::bad_object_line, crate::specs::Lines::line_end_at_two))]
+#[tactic(auto, unfolding(crate::specs::Lines::bad_object_line, crate::specs::Lines::line_end_with_two_numbers))]
 pub fn bad_object_line(alloc: Global, place: u32, e: FormErr) -> Result<Vec<u8>, NoMemory>
     ensures { IfOk result (λ line. line.items ≡ bad_object_line place e) }
 {
@@ -231,19 +231,19 @@ pub fn bad_link_line(alloc: Global, e: LinkErr) -> Result<Vec<u8>, NoMemory>
 
 // Returns the printed line on why a file is no plan, if it names a key: the start of the line, then
 // the key.
-#[tactic(auto, unfolding(crate::specs::Lines::line_end_at_key))]
+#[tactic(auto, unfolding(crate::specs::Lines::line_end_with_key))]
 fn bad_plan_key_line(alloc: Global, front: &str, key: PlanKey) -> Result<Vec<u8>, NoMemory>
     requires { key.0 < length key_texts }
-    ensures { IfOk result (λ line. line.items ≡ front.now ++ line_end_at_key key) }
+    ensures { IfOk result (λ line. line.items ≡ front.now ++ line_end_with_key key) }
 {
     let text = key_text(key);
     Ok(format!(in alloc; "{front} key {text}\n")?.into_bytes())
 }
 
 // Returns the printed line on why objects can't be linked, if it names a symbol or a section.
-#[tactic(auto, unfolding(crate::specs::Lines::line_end_at_name))]
+#[tactic(auto, unfolding(crate::specs::Lines::line_end_with_name))]
 fn bad_link_name_line(alloc: Global, front: &str, name: &str) -> Result<Vec<u8>, NoMemory>
-    ensures { IfOk result (λ line. line.items ≡ front.now ++ line_end_at_name name.now) }
+    ensures { IfOk result (λ line. line.items ≡ front.now ++ line_end_with_name name.now) }
 {
     Ok(format!(in alloc; "{front} name {name}\n")?.into_bytes())
 }

@@ -205,11 +205,11 @@ pub struct PlacedSourceFile {
 }
 
 impl Form for PlacedSourceFile {
-    ghost use Rattle.tcd_forms.specs.Forms.{placed_source_form};
+    ghost use Rattle.tcd_forms.specs.Forms.{numbered_source_form};
 
     type Out = Source;
 
-    ghost form = { λ f. placed_source_form f.place };
+    ghost form = { λ f. numbered_source_form f.place };
 
     ghost Fits = { λ _ _. Unit {0} };
 

@@ -1,7 +1,7 @@
 // The printed lines on results: runs, files that were written, certified needs, and refusals.
 ghost use Rattle.std.specs.Prelude.{◌≡◌, length, IfOk, ◌<◌};
 ghost use Rattle.depth_cert.specs.Nodes.{count_points};
-ghost use Rattle.tcd_forms.specs.Lines.{boots_line, generated_boot_line, certified_cells_line, certified_tasks_line, generated_line, assembled_object_line, linked_image_line, death_cause_text, run_line, certified_line, refused_line, refused_switch_line, line_with_task, refused_task_line, refused_sum_line};
+ghost use Rattle.tcd_forms.specs.Lines.{boot_line, bootgen_line, certified_cells_line, certified_tasks_line, gen_line, assembled_object_line, linked_image_line, death_cause_text, run_line, certified_line, refused_line, refused_switch_line, line_with_task, refused_task_line, refused_sum_line};
 ghost use Rattle.tcd_text.specs.HexNumbers.{hex_word};
 
 use crate::error_lines::{append_to_printed_line, copy_printed_line};
@@ -14,18 +14,18 @@ use tcd_text::hex_word;
 
 /// Returns the printed line of `boot` on a certified boot sequence: its events, the needed CSAs,
 /// and those of the plan.
-#[tactic(auto, unfolding(crate::specs::Lines::boots_line))]
+#[tactic(auto, unfolding(crate::specs::Lines::boot_line))]
 pub fn boot_line(alloc: Global, events: u32, need: u32, areas: u32) -> Result<Vec<u8>, NoMemory>
-    ensures { IfOk result (λ line. line.items ≡ boots_line events need areas) }
+    ensures { IfOk result (λ line. line.items ≡ boot_line events need areas) }
 {
     let text = format!(in alloc; "boot {events} events certified {need} of {areas} areas\n")?;
     Ok(text.into_bytes())
 }
 
 /// Returns the printed line of `bootgen` on a boot sequence that was written as a source.
-#[tactic(auto, unfolding(crate::specs::Lines::generated_boot_line))]
+#[tactic(auto, unfolding(crate::specs::Lines::bootgen_line))]
 pub fn bootgen_line() -> &'static [u8]
-    ensures { result.now ≡ generated_boot_line }
+    ensures { result.now ≡ bootgen_line }
 {
     b"boot 56 instructions\n"
 }
@@ -63,7 +63,7 @@ pub fn certified_tasks_line(
 
 /// Returns the printed line of `gen`: the image's functions, its certificate's nodes and points,
 /// and the needed CSAs.
-#[tactic(auto, unfolding(crate::specs::Lines::generated_line))]
+#[tactic(auto, unfolding(crate::specs::Lines::gen_line))]
 pub fn gen_line(
     alloc: Global,
     functions: u32,
@@ -72,7 +72,7 @@ pub fn gen_line(
     areas: u32,
 ) -> Result<Vec<u8>, NoMemory>
     ensures { IfOk result (λ line. line.items ≡
-        generated_line functions (length cert.now.nodes) (count_points cert.now.nodes) need areas) }
+        gen_line functions (length cert.now.nodes) (count_points cert.now.nodes) need areas) }
 {
     let nodes = cert.len();
     let points = cert.count_points();
@@ -129,7 +129,7 @@ pub fn linked_image_line(alloc: Global, bytes: &[u8]) -> Result<Vec<u8>, NoMemor
 }
 
 /// Returns the printed line on a rule of certificates that fails, with the address and the frame.
-#[tactic(auto, unfolding(crate::specs::Lines::refused_line, crate::specs::Lines::line_end_at_frame))]
+#[tactic(auto, unfolding(crate::specs::Lines::refused_line, crate::specs::Lines::line_end_with_frame))]
 pub fn refused_line(alloc: Global, rule: u8, key: Key, addr: u32) -> Result<Vec<u8>, NoMemory>
     ensures { IfOk result (λ line. line.items ≡ refused_line rule key addr) }
 {

@@ -14,7 +14,7 @@ use Rattle.tc_object.specs.Spelling.{bytes_of_object}
 use Rattle.tc_object.proofs.BackLaws.{object_of-bytes_of}
 use Rattle.tcd_base.specs.Files.{FileMap}
 use Rattle.tc_disasm.specs.Listing.{listing_of}
-use Rattle.tcd_reading.specs.Reports.{Report, says}
+use Rattle.tcd_reading.specs.Reports.{Report, text_report}
 use Rattle.tcd_reading.specs.declared.status.Status.TheVariants.{Done}
 use Rattle.tcd_reading.specs.Inputs.{FormSeen, HoldsInput}
 use Rattle.tcd_forms.specs.Forms.{source_form, object_form, layout_form, elf_form}
@@ -129,7 +129,7 @@ build_in b m h =
     let good : IsImage b.image = links_give_images (objects_of_parts b.parts) b.rules b.image (objects_good m b.parts h.parts) (texts_give_layouts (h.layout).0 b.rules (h.layout).3) h.linked_is in
     let executable = input_same elf_form all b.elf (elf_file b.image) b.image h.short (image_of-file_of b.image good) in
     let commands : List Command = link (record { layout = b.layout; image = b.elf; objects = object_names b.parts }) ∷ dis b.elf ∷ [] in
-    let reports : List Report = image_report b.elf b.image ∷ says Done (listing_of b.image) ∷ [] in
+    let reports : List Report = image_report b.elf b.image ∷ text_report Done (listing_of b.image) ∷ [] in
     sure_parts b.parts m commands reports h.parts (h.apart).sources (
       sure_link all (record { layout = b.layout; image = b.elf; objects = object_names b.parts }) b.rules (objects_of_parts b.parts) b.image layout objects h.linked_is,
       (sure_dis (insert all b.elf (elf_file b.image)) b.elf b.image executable, tt),

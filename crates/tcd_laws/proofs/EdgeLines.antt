@@ -20,7 +20,7 @@ use Rattle.cfg_recover.specs.StepEdges.{EdgeWay, to, call, irq, sys, aln, ret, r
 use Rattle.depth_check.proofs.Sound.{accepted_is_safe}
 use Rattle.depth_check.proofs.Held.{edges_are_owed}
 use Rattle.tcd_text.specs.HexNumbers.{hex_digit, hex_byte, hex_word}
-use Rattle.tcd_report.specs.Texts.{key_kind_text, key_text}
+use Rattle.tcd_report.specs.Texts.{key_kind_text, frame_name}
 use Rattle.tcd_report.specs.Graphs.{Arrow, goes, back, key_front, line_front, line_end_to, way_end, arrow_end, graph_line, ArePointLines, AreLineParts, AreJoinedLines, AreNodeLines, AreGraphLines}
 use Rattle.tcd_report.specs.Graphs.EdgeLaws.{LinesHaveAllEdges}
 use Rattle.tcd_report.proofs.GraphLemmas.EdgeProofs.{edges_stand}
@@ -77,8 +77,8 @@ flag_passes : (b : Bool) → NoFeed (cond b 49 48 ∷ [])
 flag_passes true = record { none = refl }
 flag_passes false = record { none = refl }
 
-key_passes : (key : Key) → key.prio < 2 ^ 8 → NoFeed (key_text key)
-unfolding key_text
+key_passes : (key : Key) → key.prio < 2 ^ 8 → NoFeed (frame_name key)
+unfolding frame_name
 key_passes key small =
     joined _ _ (kind_passes key.kind)
     (joined _ _ (word_passes key.entry)
@@ -87,7 +87,7 @@ key_passes key small =
 
 front_passes : (key : Key) (p : ℕ) → key.prio < 2 ^ 8 → NoFeed (line_front key p)
 front_passes key p small =
-    joined (key_front key) (hex_word p ++ 32 ∷ []) (joined (key_text key) (codes ": ") (key_passes key small) (record { none = refl }))
+    joined (key_front key) (hex_word p ++ 32 ∷ []) (joined (frame_name key) (codes ": ") (key_passes key small) (record { none = refl }))
     (joined (hex_word p) (32 ∷ []) (word_passes p) (record { none = refl }))
 
 -- ---- lines

@@ -17,15 +17,15 @@ use Rattle.tc_link.specs.Layouts.{LayoutData}
 use Rattle.tcd_base.specs.Files.{FileMap, FilesSeen}
 use Rattle.tcd_base.specs.Sink.{SinkSeen}
 use Rattle.tcd_reading.specs.Reports.{Report, with_report_files}
-use Rattle.tcd_reading.specs.Inputs.{FormSeen, HoldsInput, Reading, each, ReadingSays}
+use Rattle.tcd_reading.specs.Inputs.{FormSeen, HoldsInput, Reading, input_files, ReadingSays}
 use Rattle.tcd_reading.specs.Endings.{PrintsWithStatus, whole, cut, IsEndingWithReport, HasEnded}
 use Rattle.tcd_reading.specs.Endings as ending
 use Rattle.tcd_reading.specs.declared.status.Status.TheVariants.{Done, BadInput, Fault, NoMemory}
 use Rattle.tcd_reading.proofs.Decided.{status_is}
 use Rattle.tcd_forms.specs.Forms.{IsSource, object_form, layout_form, elf_form}
 use Rattle.tcd_forms.proofs.FormLaws.{object_lawful, elf_lawful}
-use Rattle.tcd_driver.specs.Asm.{AsmNames, asm_reading}
-use Rattle.tcd_driver.specs.Link.{LinkNames, IsLinkReport, refused, image, link_reading}
+use Rattle.tcd_driver.specs.Asm.{AsmArgs, asm_reading}
+use Rattle.tcd_driver.specs.Link.{LinkArgs, IsLinkReport, refused, image, link_reading}
 use Rattle.tcd_laws.specs.LimitsKept.{IsByte, SectionHoldsBytes, IsObjectOfBytes}
 use Rattle.tcd_laws.specs.HandedFiles.{IsHandedExactly, HoldEachHanded, HandedFilesHoldBytes, IsObjectHandedOver, AsmHandsOver, IsImageHandedOver, LinkHandsOver}
 use Rattle.tcd_laws.proofs.SourceBytes.{sources_give_objects}
@@ -74,7 +74,7 @@ bytes_held m name bytes small =
     let Small : List ℕ → Type 0 = λ n. IfSome (get (insert m name bytes) n) (All IsByte) in
     All-cons Small name [] (subst (λ (x : Option (List ℕ)). IfSome x (All IsByte)) (sym (get_same m name bytes)) small) (All-nil Small)
 
-asm_from : (names : AsmNames) (held held' : Option FileMap) (r : Report) → IsSome held → ReadingSays (asm_reading names) held r → r.status ≡ Done → held' ≡ with_report_files held r.writes → IsObjectHandedOver names held held'
+asm_from : (names : AsmArgs) (held held' : Option FileMap) (r : Report) → IsSome held → ReadingSays (asm_reading names) held r → r.status ≡ Done → held' ≡ with_report_files held r.writes → IsObjectHandedOver names held held'
 asm_from names None held' r some says e w = absurd (nothing_told some)
 asm_from names (Some m) held' r some (inl b) e w = absurd (not_bad r b.status e)
 asm_from names (Some m) held' r some (inr s) e w =
@@ -139,7 +139,7 @@ objects_of_bytes place m (name ∷ names) (o ∷ os) h small =
     All-cons IsObjectOfBytes o os (read_object (h.0).0 o here (h.0).3) (objects_of_bytes (place + 1) m names os h.1 (All-tail Small name names small))
 
 -- ---- link
-each_said : {A : Type 0} (form : ℕ → FormSeen A) (place : ℕ) (m : FileMap) (names : List (List ℕ)) (next : List A → Reading) (r : Report) → r.status ≡ Done → ReadingSays (each A form place names next) (Some m) r →
+each_said : {A : Type 0} (form : ℕ → FormSeen A) (place : ℕ) (m : FileMap) (names : List (List ℕ)) (next : List A → Reading) (r : Report) → r.status ≡ Done → ReadingSays (input_files A form place names next) (Some m) r →
     (xs : List A) × HoldEachHanded form place (Some m) names xs × ReadingSays (next xs) (Some m) r
 each_said form place m [] next r e says = ([], tt, says)
 each_said form place m (name ∷ names) next r e (inl b) = absurd (not_bad r b.status e)
@@ -147,7 +147,7 @@ each_said form place m (name ∷ names) next r e (inr s) =
     let rest = each_said form (place + 1) m names (λ ys. next (s.0 ∷ ys)) r e s.2 in
     (s.0 ∷ rest.0, (s.1, rest.1), rest.2)
 
-linked_from : (names : LinkNames) (m : FileMap) (held' : Option FileMap) (r : Report) (l : LayoutData) (os : List ObjectData) → HoldEachHanded object_form 0 (Some m) names.objects os → HoldsInput layout_form (Some m) names.layout l → All IsObjectOfBytes os →
+linked_from : (names : LinkArgs) (m : FileMap) (held' : Option FileMap) (r : Report) (l : LayoutData) (os : List ObjectData) → HoldEachHanded object_form 0 (Some m) names.objects os → HoldsInput layout_form (Some m) names.layout l → All IsObjectOfBytes os →
     r.status ≡ Done → held' ≡ with_report_files (Some m) r.writes → IsLinkReport names.image l os r → IsImageHandedOver names (Some m) held'
 linked_from names m held' r l os are is_layout small e w (refused q f g) = absurd (not_bad r (status_is r _ g) e)
 linked_from names m held' r l os are is_layout small e w (image i f g) =
@@ -165,7 +165,7 @@ linked_from names m held' r l os are is_layout small e w (image i f g) =
           (exactly elf_form (insert m names.image (elf_file i)) names.image i elf_lawful (input_same elf_form m names.image (elf_file i) i short (image_of-file_of i good)));
     }
 
-link_from : (names : LinkNames) (held held' : Option FileMap) (r : Report) → IsSome held → HandedFilesHoldBytes held names.objects → ReadingSays (link_reading names) held r → r.status ≡ Done → held' ≡ with_report_files held r.writes → IsImageHandedOver names held held'
+link_from : (names : LinkArgs) (held held' : Option FileMap) (r : Report) → IsSome held → HandedFilesHoldBytes held names.objects → ReadingSays (link_reading names) held r → r.status ≡ Done → held' ≡ with_report_files held r.writes → IsImageHandedOver names held held'
 link_from names None held' r some small says e w = absurd (nothing_told some)
 link_from names (Some m) held' r some small (inl b) e w = absurd (not_bad r b.status e)
 link_from names (Some m) held' r some small (inr s) e w =

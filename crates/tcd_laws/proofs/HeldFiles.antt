@@ -8,7 +8,7 @@ use Rattle.std.proofs.lemmas.Map.Text.{is_eq-slice_cmp}
 use Rattle.std.proofs.lemmas.Slice.Eq.{bytes_eq-Decides}
 use Rattle.tcd_base.specs.Files.{FileMap}
 use Rattle.tcd_reading.specs.Reports.{Report}
-use Rattle.tcd_reading.specs.Inputs.{FormSeen, HoldsInput, Reading, input, each, answer, ReadingSays, HoldsNeededInputs}
+use Rattle.tcd_reading.specs.Inputs.{FormSeen, HoldsInput, Reading, input, input_files, answer, ReadingSays, HoldsNeededInputs}
 use Rattle.tcd_reading.specs.declared.status.Status.TheVariants.{Done}
 use Rattle.tcd_reading.proofs.Decided.{IsLawful, one_value, never_both}
 use Rattle.tcd_laws.specs.Sequences.{IsSureInSequence}
@@ -66,12 +66,12 @@ sure_input form m name x next q lawful h s = record {
 }
 
 pub sure_each : {A : Type 0} (form : ℕ → FormSeen A) (place : ℕ) (m : FileMap) (names : List (List ℕ)) (xs : List A) (next : List A → Reading) (q : Report) → ((n : ℕ) → IsLawful (form n)) → HoldEachHanded form place (Some m) names xs →
-    IsSureInSequence (next xs) (Some m) q → IsSureInSequence (each A form place names next) (Some m) q
+    IsSureInSequence (next xs) (Some m) q → IsSureInSequence (input_files A form place names next) (Some m) q
 sure_each form place m [] [] next q lawful h s = s
 sure_each form place m [] (x ∷ xs) next q lawful h s = absurd h
 sure_each form place m (name ∷ names) [] next q lawful h s = absurd h
 sure_each {A} form place m (name ∷ names) (x ∷ xs) next q lawful h s =
-    sure_input (form place) m name x (λ y. each A form (place + 1) names (λ ys. next (y ∷ ys))) q (lawful place) h.0 (sure_each form (place + 1) m names xs (λ ys. next (x ∷ ys)) q lawful h.1 s)
+    sure_input (form place) m name x (λ y. input_files A form (place + 1) names (λ ys. next (y ∷ ys))) q (lawful place) h.0 (sure_each form (place + 1) m names xs (λ ys. next (x ∷ ys)) q lawful h.1 s)
 
 pub sure_answer : (P : Report → Type 0) (held : Option FileMap) (q : Report) → P q → ((o : Report) → P o → o ≡ q) → q.status ≡ Done → IsSureInSequence (answer P) held q
 sure_answer P held q is only done = record { asked = tt; said = is; only = only; done = done }

@@ -12,12 +12,12 @@ use Rattle.std.proofs.lemmas.List.Elements.{All-nil, All-head, All-push, filter_
 use Rattle.tcd_text.specs.Lines.{line_words, text_lines}
 use Rattle.tcd_text.specs.HexNumbers.{hex_number_of, is_upper_hex}
 use Rattle.tc_object.specs.Names.{is_name_length, is_object_name, object_name_of}
-use Rattle.tc_object.specs.Objects.{InTurn}
-use Rattle.tc_link.specs.Layouts.{PlaceData, LayoutData, IsPlace, IsPlaceAfter, IsLayout, are_overlapping_places, is_placed}
-use Rattle.tc_link.specs.LayoutLines.{LayoutLineData, blank, entry, place, place_of_words, layout_line_of_words, layout_line_contents, entry_in_line, place_in_line, layout_entries, places_in_lines, IsGoodLayoutLine}
+use Rattle.tc_object.specs.Objects.{AllInTurn}
+use Rattle.tc_link.specs.Layouts.{PlaceData, LayoutData, IsPlace, IsPlaceAfter, IsLayout, are_overlapping_places, has_place_for}
+use Rattle.tc_link.specs.LayoutLines.{LayoutLineData, blank, entry, place, place_of_words, layout_line_of_words, layout_line_contents, entry_in_line, place_in_line, entries_in_lines, places_in_lines, IsGoodLayoutLine}
 use Rattle.tcd_base.specs.Refusing.{unless_refused}
-use Rattle.tc_link.specs.LayoutFaults.{line_fault, first_layout_fault}
-use Rattle.tc_link.specs.LayoutDrafts.{with_entry, LayoutDraftData, IsLayoutDraft, with_layout_line}
+use Rattle.tc_link.specs.LayoutFaults.{layout_line_fault, first_layout_fault}
+use Rattle.tc_link.specs.LayoutDrafts.{with_entry, LayoutDraftData, IsLayoutDraft, draft_with_line}
 use Rattle.tc_link.specs.declared.layout_errors.LayoutErr.{LayoutErr}
 use Rattle.tc_link.proofs.TurnLaws.{turn_push}
 use Rattle.tcd_laws.specs.LimitsKept.{TextsGiveLayouts}
@@ -93,7 +93,7 @@ line_good line l e = words_good (line_words line) l e
 
 -- ---- the lines
 abbrev draft_of : List (List ℕ) → LayoutDraftData
-draft_of lines = record { entries = layout_entries lines; places = places_in_lines lines }
+draft_of lines = record { entries = entries_in_lines lines; places = places_in_lines lines }
 
 as_list : {A : Type 0} (o : Option A) → cons_option o [] ≡ option_to_list o
 as_list None = refl
@@ -102,38 +102,38 @@ as_list (Some x) = refl
 pushed : {A : Type 0} (f : LayoutLineData → Option A) (lines : List (List ℕ)) (line : List ℕ) → filter_map (λ l. option_and_then f (layout_line_contents l)) (lines ++ line ∷ []) ≡ filter_map (λ l. option_and_then f (layout_line_contents l)) lines ++ option_to_list (option_and_then f (layout_line_contents line))
 pushed f lines line = filter_map-append (λ l. option_and_then f (layout_line_contents l)) lines (line ∷ []) ∙ ap (λ ys. filter_map (λ l. option_and_then f (layout_line_contents l)) lines ++ ys) (as_list (option_and_then f (layout_line_contents line)))
 
-draft_pushed : (lines : List (List ℕ)) (line : List ℕ) → draft_of (lines ++ line ∷ []) ≡ with_layout_line (draft_of lines) (layout_line_contents line)
-unfolding layout_entries places_in_lines
+draft_pushed : (lines : List (List ℕ)) (line : List ℕ) → draft_of (lines ++ line ∷ []) ≡ draft_with_line (draft_of lines) (layout_line_contents line)
+unfolding entries_in_lines places_in_lines
 draft_pushed lines line = λ i. record { entries = pushed entry_in_line lines line i; places = pushed place_in_line lines line i }
 
 -- a place that has no fault
-may_stand : (n : ℕ) (entries : List (List ℕ)) (places : List PlaceData) (p : PlaceData) → IsPlace p → line_fault n entries places (Some (place p)) ≡ None → IsPlaceAfter places p × (length places < 64)
-may_stand n entries places p is e = by_name (is_placed places p.section) refl e
+may_stand : (n : ℕ) (entries : List (List ℕ)) (places : List PlaceData) (p : PlaceData) → IsPlace p → layout_line_fault n entries places (Some (place p)) ≡ None → IsPlaceAfter places p × (length places < 64)
+may_stand n entries places p is e = by_name (has_place_for places p.section) refl e
   where
-    by_shares : is_placed places p.section ≡ false → length places < 64 → (c : Bool) → list_any (are_overlapping_places p) places ≡ c → then_some c (LayoutErr.Overlap n) ≡ None → IsPlaceAfter places p × (length places < 64)
+    by_shares : has_place_for places p.section ≡ false → length places < 64 → (c : Bool) → list_any (are_overlapping_places p) places ≡ c → then_some c (LayoutErr.Overlap n) ≡ None → IsPlaceAfter places p × (length places < 64)
     by_shares new few true s f = cc
     by_shares new few false s f = (record { place = is; new = new; apart = s }, few)
 
-    by_count : is_placed places p.section ≡ false → (b : Bool) → nat_le 64 (length places) ≡ b → cond b (Some (LayoutErr.TooMany n)) (then_some (list_any (are_overlapping_places p) places) (LayoutErr.Overlap n)) ≡ None → IsPlaceAfter places p × (length places < 64)
+    by_count : has_place_for places p.section ≡ false → (b : Bool) → nat_le 64 (length places) ≡ b → cond b (Some (LayoutErr.TooMany n)) (then_some (list_any (are_overlapping_places p) places) (LayoutErr.Overlap n)) ≡ None → IsPlaceAfter places p × (length places < 64)
     by_count new true c f = cc
     by_count new false c f = by_shares new (let most = leb-false 64 (length places) c in omega arith) (list_any (are_overlapping_places p) places) refl f
 
-    by_name : (a : Bool) → is_placed places p.section ≡ a → cond a (Some (LayoutErr.Twice n)) (cond (nat_le 64 (length places)) (Some (LayoutErr.TooMany n)) (then_some (list_any (are_overlapping_places p) places) (LayoutErr.Overlap n))) ≡ None → IsPlaceAfter places p × (length places < 64)
+    by_name : (a : Bool) → has_place_for places p.section ≡ a → cond a (Some (LayoutErr.Twice n)) (cond (nat_le 64 (length places)) (Some (LayoutErr.TooMany n)) (then_some (list_any (are_overlapping_places p) places) (LayoutErr.Overlap n))) ≡ None → IsPlaceAfter places p × (length places < 64)
     by_name true a f = cc
     by_name false a f = by_count a (nat_le 64 (length places)) refl f
 
 -- a draft with a line more that has no fault
-draft_more : (d : LayoutDraftData) (n : ℕ) (o : Option LayoutLineData) → ((l : LayoutLineData) → o ≡ Some l → IsGoodLayoutLine l) → IsLayoutDraft d → line_fault n d.entries d.places o ≡ None → IsLayoutDraft (with_layout_line d o)
+draft_more : (d : LayoutDraftData) (n : ℕ) (o : Option LayoutLineData) → ((l : LayoutLineData) → o ≡ Some l → IsGoodLayoutLine l) → IsLayoutDraft d → layout_line_fault n d.entries d.places o ≡ None → IsLayoutDraft (draft_with_line d o)
 draft_more d n None good h e = cc
 draft_more d n (Some blank) good h e = record {
   entries = subst (λ (xs : List (List ℕ)). All (λ x. object_name_of x ≡ Some x) xs) (sym (append-nil d.entries)) h.entries;
   few = subst (λ (ps : List PlaceData). length ps ≤ 64) (sym (append-nil d.places)) h.few;
-  places = subst (λ (ps : List PlaceData). InTurn IsPlaceAfter [] ps) (sym (append-nil d.places)) h.places;
+  places = subst (λ (ps : List PlaceData). AllInTurn IsPlaceAfter [] ps) (sym (append-nil d.places)) h.places;
 }
 draft_more d n (Some (entry name)) good h e = record {
   entries = All-push (λ x. object_name_of x ≡ Some x) d.entries name h.entries (good (entry name) refl);
   few = subst (λ (ps : List PlaceData). length ps ≤ 64) (sym (append-nil d.places)) h.few;
-  places = subst (λ (ps : List PlaceData). InTurn IsPlaceAfter [] ps) (sym (append-nil d.places)) h.places;
+  places = subst (λ (ps : List PlaceData). AllInTurn IsPlaceAfter [] ps) (sym (append-nil d.places)) h.places;
 }
 draft_more d n (Some (place p)) good h e =
     let stands = may_stand n d.entries d.places p (good (place p) refl) e in record {
@@ -155,7 +155,7 @@ all_good before (line ∷ lines) h e =
     subst (λ (ls : List (List ℕ)). IsLayoutDraft (draft_of ls)) (append_assoc before (line ∷ []) lines) (all_good (before ++ line ∷ []) lines more n.1)
 
 no_lines : IsLayoutDraft (draft_of [])
-unfolding layout_entries places_in_lines
+unfolding entries_in_lines places_in_lines
 no_lines = record { entries = All-nil (λ x. object_name_of x ≡ Some x); few = omega arith; places = tt }
 
 -- ---- the layout
@@ -168,6 +168,6 @@ with_entry_good n (name ∷ names) places l h e =
 pub texts_give_layouts : TextsGiveLayouts
 texts_give_layouts text layout e = by_fault (first_layout_fault [] (text_lines text)) refl e
   where
-    by_fault : (o : Option LayoutErr) → first_layout_fault [] (text_lines text) ≡ o → unless_refused o (with_entry (length (text_lines text)) (layout_entries (text_lines text)) (places_in_lines (text_lines text))) ≡ Ok layout → IsLayout layout
+    by_fault : (o : Option LayoutErr) → first_layout_fault [] (text_lines text) ≡ o → unless_refused o (with_entry (length (text_lines text)) (entries_in_lines (text_lines text)) (places_in_lines (text_lines text))) ≡ Ok layout → IsLayout layout
     by_fault (Some x) f g = cc
-    by_fault None f g = with_entry_good (length (text_lines text)) (layout_entries (text_lines text)) (places_in_lines (text_lines text)) layout (all_good [] (text_lines text) no_lines f) g
+    by_fault None f g = with_entry_good (length (text_lines text)) (entries_in_lines (text_lines text)) (places_in_lines (text_lines text)) layout (all_good [] (text_lines text) no_lines f) g

@@ -11,11 +11,11 @@ use Rattle.elf_image.specs.Images.{SegmentData, AreSegmentBytes, IsImage}
 use Rattle.tc_object.specs.declared.relocs.Reloc.{Reloc}
 use Rattle.tc_object.specs.Objects.{SectionData, SymbolData, ObjectData}
 use Rattle.tc_link.specs.Layouts.{PlaceData}
-use Rattle.tc_link.specs.Placing.{PlacedData, bases_after, placed_after, placed_of}
-use Rattle.tc_link.specs.GlobalSymbols.{GlobalData, is_global, global_data, globals_of, global_address}
-use Rattle.tc_link.specs.PlaceSizes.{round_up_place_size}
+use Rattle.tc_link.specs.Placing.{PlacedData, section_bases_after, placed_after, placed_in_layout}
+use Rattle.tc_link.specs.GlobalSymbols.{GlobalData, is_global, global_data, globals_of, first_global_address}
+use Rattle.tc_link.specs.PlaceSizes.{next_multiple_of_4}
 use Rattle.tc_reloc.specs.Fields.{reloc_field_number, reloc_field_bits, bits_outside_reloc_field, with_reloc_field}
-use Rattle.tc_link.specs.Relocated.{reloc_field_at, field_place, reloc_value, section_with_reloc, sections_with_reloc, relocated_sections, relocated_contents}
+use Rattle.tc_link.specs.Relocated.{reloc_field_at, reloc_field_address, reloc_value, section_with_reloc, sections_with_reloc, relocated_sections, all_relocated_sections}
 use Rattle.tc_link.specs.Segments.{with_segment_padding, with_section, joined_sections, segment_of, segments_of}
 use Rattle.tc_link.proofs.ImageLaws.{image_of_bytes}
 use Rattle.tc_link.proofs.LinkLaws.{linked_image}
@@ -28,7 +28,7 @@ module _ (g : List GlobalData) (p : PlacedData) where
   written_small : (r : Reloc) (s : SectionData) → SectionHoldsBytes s → SectionHoldsBytes (section_with_reloc g p r s)
   written_small r s h =
       let old : List ℕ = reloc_field_at s.bytes r.offset in
-      let content : ℕ = reloc_field_number r.kind (field_place p r) (reloc_value g p r) in
+      let content : ℕ = reloc_field_number r.kind (reloc_field_address p r) (reloc_value g p r) in
       let new : List ℕ = with_reloc_field r.kind old content in
       let rest : List ℕ = drop (r.offset + 4) s.bytes in
       All-append IsByte (take r.offset s.bytes) (new ++ rest) (All-take IsByte r.offset s.bytes h)
@@ -55,7 +55,7 @@ contents_small : (g : List GlobalData) (places : List PlaceData) (before : List 
 unfolding placed_after
 contents_small g places before [] h = All-nil SectionHoldsBytes
 contents_small g places before (o ∷ os) h =
-    let here : PlacedData = record { object = o; bases = bases_after places before o.sections } in
+    let here : PlacedData = record { object = o; bases = section_bases_after places before o.sections } in
     All-append SectionHoldsBytes (relocated_sections g here) (flat_map (relocated_sections g) (placed_after places (before ++ o.sections) os)) (relocated_small g here (All-head IsObjectOfBytes o os h).bytes) (contents_small g places (before ++ o.sections) os (All-tail IsObjectOfBytes o os h))
 
 -- ---- segments
@@ -64,7 +64,7 @@ zero_small = lit< tt
 
 padded_small : (bs : List ℕ) → All IsByte bs → All IsByte (with_segment_padding bs)
 padded_small bs h =
-    let n : ℕ = round_up_place_size (length bs) - length bs in
+    let n : ℕ = next_multiple_of_4 (length bs) - length bs in
     All-append IsByte bs (replicate n 0) h (All-replicate IsByte n 0 zero_small)
 
 section_small : (name bs : List ℕ) (s : SectionData) → All IsByte bs → SectionHoldsBytes s → (b : Bool) → All IsByte (cond b (with_segment_padding bs ++ s.bytes) bs)
@@ -106,21 +106,21 @@ globals_low (p ∷ ps) =
     let globals : List SymbolData = filter is_global (p.object).symbols in
     All-append IsLow (map (global_data p.bases) globals) (globals_of ps) (All-map IsLow (global_data p.bases) globals (λ k d less. symbol_low p.bases (get_or globals k d))) (globals_low ps)
 
-global_low : (gs : List GlobalData) (name : List ℕ) (a : ℕ) → All IsLow gs → global_address gs name ≡ Some a → a < 2 ^ 32
+global_low : (gs : List GlobalData) (name : List ℕ) (a : ℕ) → All IsLow gs → first_global_address gs name ≡ Some a → a < 2 ^ 32
 global_low [] name a h e = cc
 global_low (g ∷ gs) name a h e = by_name (bytes_eq name g.name) (global_low gs name a (All-tail IsLow g gs h)) e
   where
-    by_name : (b : Bool) → (global_address gs name ≡ Some a → a < 2 ^ 32) → option_map (λ x. x.address) (cond b (Some g) (find (λ x. bytes_eq name x.name) gs)) ≡ Some a → a < 2 ^ 32
+    by_name : (b : Bool) → (first_global_address gs name ≡ Some a → a < 2 ^ 32) → option_map (λ x. x.address) (cond b (Some g) (find (λ x. bytes_eq name x.name) gs)) ≡ Some a → a < 2 ^ 32
     by_name true rest f = let same : g.address ≡ a = cc in subst (λ n. n < 2 ^ 32) same (All-head IsLow g gs h)
     by_name false rest f = rest f
 
 -- ---- the image
 pub links_give_images : LinksGiveImages
-unfolding relocated_contents
+unfolding all_relocated_sections
 links_give_images objects layout image good is_layout e =
     let parts = parts_of objects layout image e in
-    let placed = placed_of layout objects in
+    let placed = placed_in_layout layout objects in
     let entry : image.entry < 2 ^ 32 = global_low (globals_of placed) layout.entry image.entry (globals_low placed) parts.entry in
     let limits = linked_image objects layout placed is_layout (λ k d less. (good k d less).object) parts.early refl image.entry entry in
-    let small : AreSegmentBytes (segments_of layout.places (relocated_contents placed)) = segments_small layout.places (relocated_contents placed) (contents_small (globals_of placed) layout.places [] objects good) in
+    let small : AreSegmentBytes (segments_of layout.places (all_relocated_sections placed)) = segments_small layout.places (all_relocated_sections placed) (contents_small (globals_of placed) layout.places [] objects good) in
     subst (λ (ss : List SegmentData). IsImage (record { entry = image.entry; segments = ss })) (sym parts.segments) (image_of_bytes _ limits small)

@@ -6,9 +6,9 @@ use Rattle.std.proofs.lemmas.Bool.{and_parts, leb-true, eqb-true}
 use Rattle.std.proofs.lemmas.List.Elements.{All-nil, All-cons, All-head, All-tail, All-append}
 use Rattle.tcd_base.specs.Bytes.{bytes_of_half, bytes_of_word}
 use Rattle.tc_object.specs.declared.relocs.Reloc.{Reloc}
-use Rattle.tcd_base.specs.NameBytes.{is_name_byte, is_name_first}
+use Rattle.tcd_base.specs.NameBytes.{is_name_byte, is_name_start}
 use Rattle.tc_object.specs.Names.{IsNewObjectName}
-use Rattle.tc_object.specs.Objects.{SectionData, SymbolData, ObjectData, InTurn, IsSection, IsSymbol, IsReloc, is_section_name, is_symbol_name}
+use Rattle.tc_object.specs.Objects.{SectionData, SymbolData, ObjectData, AllInTurn, IsSection, IsSymbol, IsReloc, is_section_name, is_symbol_name}
 use Rattle.tc_object.specs.Spelling.{bytes_of_name, bytes_of_section, bytes_of_symbol, bytes_of_reloc, bytes_of_header, bytes_of_object}
 use Rattle.tc_asm.proofs.ListLaws.{all_from_each}
 use Rattle.tcd_laws.specs.LimitsKept.{IsByte, SectionHoldsBytes, ObjectsSpellBytes}
@@ -39,14 +39,14 @@ between low high n small e = let most : n ≤ high = leb-true n high (and_parts 
 equal : (n k : ℕ) → k < 2 ^ 8 → (n == k) ≡ true → n < 2 ^ 8
 equal n k small e = let same : n ≡ k = eqb-true n k e in omega arith
 
-first_small : (c : ℕ) → is_name_first c ≡ true → c < 2 ^ 8
-unfolding is_name_first
+first_small : (c : ℕ) → is_name_start c ≡ true → c < 2 ^ 8
+unfolding is_name_start
 first_small c =
     either _ _ c (either _ _ c (either _ _ c (either _ _ c (between 65 90 c (omega arith)) (between 97 122 c (omega arith))) (equal c 95 (omega arith))) (equal c 46 (omega arith))) (equal c 36 (omega arith))
 
 further_small : (c : ℕ) → is_name_byte c ≡ true → c < 2 ^ 8
 unfolding is_name_byte
-further_small c = either (is_name_first c) _ c (first_small c) (between 48 57 c (omega arith))
+further_small c = either (is_name_start c) _ c (first_small c) (between 48 57 c (omega arith))
 
 all_further : (cs : List ℕ) → list_all is_name_byte cs ≡ true → All IsByte cs
 all_further [] e = All-nil IsByte
@@ -57,8 +57,8 @@ unfolding bytes_of_name
 name_small used name is =
     let few = is.few in
     let long : length name < 2 ^ 8 = omega arith in
-    let written = and_parts (not (length name == 0)) (is_name_first (slice_index name 0) && list_all is_name_byte name) is.written in
-    All-cons IsByte (length name) name long (all_further name (and_parts (is_name_first (slice_index name 0)) (list_all is_name_byte name) written.1).1)
+    let written = and_parts (not (length name == 0)) (is_name_start (slice_index name 0) && list_all is_name_byte name) is.written in
+    All-cons IsByte (length name) name long (all_further name (and_parts (is_name_start (slice_index name 0)) (list_all is_name_byte name) written.1).1)
 
 -- ---- sections, symbols and relocations
 section_small : (before : List SectionData) (s : SectionData) → IsSection before s → SectionHoldsBytes s → All IsByte (bytes_of_section s)
@@ -87,16 +87,16 @@ reloc_small sections symbols before r is =
     (All-cons IsByte r.kind rest kind (All-append IsByte (bytes_of_half r.symbol) (bytes_of_word r.addend) (half_small r.symbol) (word_small r.addend))))
 
 -- ---- all of them
-sections_small : (before ss : List SectionData) → InTurn IsSection before ss → All SectionHoldsBytes ss → All IsByte (flat_map bytes_of_section ss)
+sections_small : (before ss : List SectionData) → AllInTurn IsSection before ss → All SectionHoldsBytes ss → All IsByte (flat_map bytes_of_section ss)
 sections_small before [] are small = All-nil IsByte
 sections_small before (s ∷ ss) are small =
     All-append IsByte (bytes_of_section s) (flat_map bytes_of_section ss) (section_small before s are.0 (All-head SectionHoldsBytes s ss small)) (sections_small (before ++ s ∷ []) ss are.1 (All-tail SectionHoldsBytes s ss small))
 
-symbols_small : (sections : List SectionData) (before ss : List SymbolData) → InTurn (IsSymbol sections) before ss → All IsByte (flat_map bytes_of_symbol ss)
+symbols_small : (sections : List SectionData) (before ss : List SymbolData) → AllInTurn (IsSymbol sections) before ss → All IsByte (flat_map bytes_of_symbol ss)
 symbols_small sections before [] are = All-nil IsByte
 symbols_small sections before (s ∷ ss) are = All-append IsByte (bytes_of_symbol s) (flat_map bytes_of_symbol ss) (symbol_small sections before s are.0) (symbols_small sections (before ++ s ∷ []) ss are.1)
 
-relocs_small : (sections : List SectionData) (symbols : ℕ) (before rs : List Reloc) → InTurn (IsReloc sections symbols) before rs → All IsByte (flat_map bytes_of_reloc rs)
+relocs_small : (sections : List SectionData) (symbols : ℕ) (before rs : List Reloc) → AllInTurn (IsReloc sections symbols) before rs → All IsByte (flat_map bytes_of_reloc rs)
 relocs_small sections symbols before [] are = All-nil IsByte
 relocs_small sections symbols before (r ∷ rs) are =
     All-append IsByte (bytes_of_reloc r) (flat_map bytes_of_reloc rs) (reloc_small sections symbols before r are.0) (relocs_small sections symbols (before ++ r ∷ []) rs are.1)

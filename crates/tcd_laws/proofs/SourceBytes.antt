@@ -8,14 +8,14 @@ use Rattle.std.proofs.lemmas.List.Elements.{All-nil, All-cons, All-append, All-r
 use Rattle.tc_lex.specs.declared.kinds.Token.{Token}
 use Rattle.tc_lex.specs.Cut.{tokens_of}
 use Rattle.tc_isa.specs.declared.fields.Fields.{Fields}
-use Rattle.tc_isa.specs.Rows.{RowData, listed, is_long}
-use Rattle.tc_isa.specs.Forms.{bounds}
+use Rattle.tc_isa.specs.Rows.{RowData, table_rows, is_32_bit_row}
+use Rattle.tc_isa.specs.Forms.{field_bounds}
 use Rattle.tc_isa.specs.ValidRowFields.{IsRow}
-use Rattle.tc_isa.specs.Spelling.{word_of, spelling_of, spelling}
+use Rattle.tc_isa.specs.Spelling.{row_word, four_or_two_bytes, spelling}
 use Rattle.tcd_base.specs.Bytes.{four_bytes, two_bytes}
 use Rattle.tc_isa.proofs.TableFacts.{row_at}
 use Rattle.tc_encode.proofs.Bytes.{word-lt, short-lt}
-use Rattle.tc_encode.specs.Decoding.{are_fitting_fields}
+use Rattle.tc_encode.specs.Decoding.{decoded_fields_fit}
 use Rattle.tc_encode.proofs.Spelled.{below_from}
 use Rattle.tc_lex.specs.Pieces.{PieceData, token_text}
 use Rattle.tc_lex.specs.Operands.{OperandData, operands}
@@ -28,8 +28,8 @@ use Rattle.tc_stmt.specs.DataValues.{is_value_within_width, value_rule, value_it
 use Rattle.tc_stmt.specs.StatementRow.{statement}
 use Rattle.tc_stmt.specs.Lines.{LineData, line_data, only_operand_name as name_operand, named_line, space_line, values_line, code_line, statement_line, line_from, has_label, line_with_label, tokens_line, line_token_with_text, label_of, label_before, meaning_of_cut_line, line_in, lines_in, items_in}
 use Rattle.tc_asm.specs.Symbols.{SymbolData}
-use Rattle.tc_asm.specs.Drafts.{PartData, DraftData, empty_draft, has_section, has_room, assembled_row_code, row_fields_with_target, code_bytes, draft_after_item, bytes_at}
-use Rattle.tc_asm.specs.DraftedSources.{symbols_of, draft_in}
+use Rattle.tc_asm.specs.Drafts.{DraftSectionData, DraftData, empty_draft, has_current_section, has_room, assembled_row_code, row_fields_with_target, code_bytes, draft_after_item, draft_section_bytes_at}
+use Rattle.tc_asm.specs.DraftedSources.{symbols_of_lines, draft_in}
 use Rattle.tc_asm.specs.Objects.{section_of}
 use Rattle.tc_asm.specs.DraftInvariants.{EachInDraft}
 use Rattle.tc_asm.specs.Statements.{StatementData, statement_of_item, statement_with_room, statements_from, section_bytes}
@@ -65,25 +65,25 @@ no_word = all_from_each IsByte (0 ∷ 0 ∷ 0 ∷ 0 ∷ []) (zero_small, (zero_s
 -- ---- instructions
 spelled_small : (row : RowData) (f : Fields) → IsRow row → All IsByte (assembled_row_code row f)
 unfolding assembled_row_code
-spelled_small row f is = by_fit (are_fitting_fields row f) refl
+spelled_small row f is = by_fit (decoded_fields_fit row f) refl
   where
-    by_size : are_fitting_fields row f ≡ true → (b : Bool) → is_long row ≡ b → All IsByte (spelling_of b (word_of row f))
-    by_size fit true e = four_small (word_of row f) (word-lt row.form row.op1 row.op2 f is.first is.second (below_from f (bounds row.form) (and_parts _ _ (and_parts _ _ fit).0).0))
+    by_size : decoded_fields_fit row f ≡ true → (b : Bool) → is_32_bit_row row ≡ b → All IsByte (four_or_two_bytes b (row_word row f))
+    by_size fit true e = four_small (row_word row f) (word-lt row.form row.op1 row.op2 f is.first is.second (below_from f (field_bounds row.form) (and_parts _ _ (and_parts _ _ fit).0).0))
     by_size fit false e =
-        two_small (word_of row f)
-        (short-lt row.form row.op1 row.op2 f is.first is.second (below_from f (bounds row.form) (and_parts _ _ (and_parts _ _ fit).0).0) (sym is.size ∙ e))
+        two_small (row_word row f)
+        (short-lt row.form row.op1 row.op2 f is.first is.second (below_from f (field_bounds row.form) (and_parts _ _ (and_parts _ _ fit).0).0) (sym is.size ∙ e))
 
-    by_fit : (b : Bool) → are_fitting_fields row f ≡ b → All IsByte (cond b (spelling row f) [])
-    by_fit true fit = by_size fit (is_long row) refl
+    by_fit : (b : Bool) → decoded_fields_fit row f ≡ b → All IsByte (cond b (spelling row f) [])
+    by_fit true fit = by_size fit (is_32_bit_row row) refl
     by_fit false fit = All-nil IsByte
 
-row_small : (o : Option RowData) (k : ℕ) (f : Fields) → slice_get listed k ≡ o → All IsByte (option_map_or (λ row. assembled_row_code row f) o [])
+row_small : (o : Option RowData) (k : ℕ) (f : Fields) → slice_get table_rows k ≡ o → All IsByte (option_map_or (λ row. assembled_row_code row f) o [])
 row_small None k f e = All-nil IsByte
 row_small (Some row) k f e = spelled_small row f (row_at k row e)
 
 code_small : (labels : List SymbolData) (d : DraftData) (k : ℕ) (f : Fields) (r : Option ReferenceData) → All IsByte (code_bytes labels d k f r)
 unfolding code_bytes
-code_small labels d k f r = row_small (slice_get listed k) k (row_fields_with_target labels d k f r).fields refl
+code_small labels d k f r = row_small (slice_get table_rows k) k (row_fields_with_target labels d k f r).fields refl
 
 -- ---- what lines add
 -- a thing that adds bytes
@@ -230,7 +230,7 @@ content_good labels d _ h = tt
 
 standing_good : (d : DraftData) (o : Option StatementData) → IfSome o GoodStatement → EachInDraft GoodStatement (statement_with_room d o)
 standing_good d None h = tt
-standing_good d (Some t) h = by_room (has_section d && has_room d (length t.bytes))
+standing_good d (Some t) h = by_room (has_current_section d && has_room d (length t.bytes))
   where
     by_room : (b : Bool) → EachInDraft GoodStatement (cond b (t ∷ []) [])
     by_room true = (h, tt)
@@ -251,13 +251,13 @@ section_small s (t ∷ ts) h = All-append IsByte (cond (t.section == s) t.bytes 
     by_section false = All-nil IsByte
 
 -- ---- sections
-parts_small : (ps : List PartData) → ((s : ℕ) → All IsByte (bytes_at ps s)) → All SectionHoldsBytes (map section_of ps)
+parts_small : (ps : List DraftSectionData) → ((s : ℕ) → All IsByte (draft_section_bytes_at ps s)) → All SectionHoldsBytes (map section_of ps)
 parts_small [] h = All-nil SectionHoldsBytes
 parts_small (p ∷ ps) h = All-cons SectionHoldsBytes (section_of p) (map section_of ps) (h 0) (parts_small ps (λ s. h (suc s)))
 
-source_bytes : (source : List ℕ) (s : ℕ) → All IsByte (bytes_at (draft_in source).parts s)
+source_bytes : (source : List ℕ) (s : ℕ) → All IsByte (draft_section_bytes_at (draft_in source).parts s)
 source_bytes source s =
-    let labels : List SymbolData = symbols_of (lines_in source) in
+    let labels : List SymbolData = symbols_of_lines (lines_in source) in
     subst (λ (bs : List ℕ). All IsByte bs) (sym (drafted-bytes labels (lines_in source) s))
     (section_small s (statements_from labels empty_draft (items_in (lines_in source))) (statements_good labels empty_draft (items_in (lines_in source)) (lines_good (slice_split (λ c. c == 10) source))))
 

@@ -9,20 +9,20 @@ use Rattle.tc_link.specs.Linked.{image_of_objects}
 use Rattle.tc_disasm.specs.Listing.{listing_of}
 use Rattle.tcd_base.specs.Files.{FileMap, FilesSeen}
 use Rattle.tcd_base.specs.Sink.{SinkSeen, HasRoomFor}
-use Rattle.tcd_reading.specs.Reports.{Report, says, report_with_file}
+use Rattle.tcd_reading.specs.Reports.{Report, text_report, report_with_file}
 use Rattle.tcd_laws.specs.Sequences.{all_report_texts, EndInSequence, AreSureInSequence, SequenceEndsSurely}
 use Rattle.tcd_reading.specs.Inputs.{HoldsInput}
 use Rattle.tcd_reading.specs.declared.status.Status.{Status}
 use Rattle.tcd_reading.specs.declared.status.Status.TheVariants.{Done}
 use Rattle.tcd_forms.specs.Forms.{source_form, layout_form}
 use Rattle.tcd_forms.specs.Lines.{assembled_object_line, linked_image_line}
-use Rattle.tcd_driver.specs.Asm.{AsmNames}
+use Rattle.tcd_driver.specs.Asm.{AsmArgs}
 use Rattle.tcd_driver.specs.Commands.{Command, asm, link, dis}
 use Rattle.tcd_driver.specs.DistinctNames.{are_distinct_names}
 
 -- a part of a build: the names of a source and its object, and what it is assembled to
 pub record BuildPartData : Type 0 where
-  pub names : AsmNames
+  pub names : AsmArgs
   pub object : ObjectData
 
 -- the parts, the name of the layout and what it says, and the name of the executable and its image
@@ -59,7 +59,7 @@ asm_report p = report_with_file (p.names).object (bytes_of_object p.object) (ass
 -- the objects, the executable and the listing, in this order
 abbrev pub build_reports : BuildData → List Report
 build_reports b =
-    map asm_report b.parts ++ report_with_file b.elf (elf_file b.image) (linked_image_line (length (elf_file b.image))) ∷ says Done (listing_of b.image) ∷ []
+    map asm_report b.parts ++ report_with_file b.elf (elf_file b.image) (linked_image_line (length (elf_file b.image))) ∷ text_report Done (listing_of b.image) ∷ []
 
 -- ---- what is asked of them
 -- the source is held and breaks no rule, and its object isn't longer than what `link` reads

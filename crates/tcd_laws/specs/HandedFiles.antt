@@ -13,8 +13,8 @@ use Rattle.tcd_reading.specs.Inputs.{FormSeen, HoldsInput, IsInputRejection}
 use Rattle.tcd_reading.specs.Endings.{Ends}
 use Rattle.tcd_reading.specs.declared.status.Status.TheVariants.{Done}
 use Rattle.tcd_forms.specs.Forms.{source_form, object_form, layout_form, elf_form}
-use Rattle.tcd_driver.specs.Asm.{AsmNames, asm_reading}
-use Rattle.tcd_driver.specs.Link.{LinkNames, link_reading}
+use Rattle.tcd_driver.specs.Asm.{AsmArgs, asm_reading}
+use Rattle.tcd_driver.specs.Link.{LinkArgs, link_reading}
 use Rattle.tcd_laws.specs.LimitsKept.{IsByte}
 
 -- the file of this name is exactly this value: it is it, it is no other, and it isn't rejected
@@ -38,7 +38,7 @@ HandedFilesHoldBytes held names = IfSome held (λ m. All (λ name. IfSome (get m
 -- ---- an object
 -- the source's object was written, which holds bytes, and is read as exactly this object, unless it
 -- is too long to be read
-pub record IsObjectHandedOver (names : AsmNames) (held held' : Option FileMap) : Type 0 where
+pub record IsObjectHandedOver (names : AsmArgs) (held held' : Option FileMap) : Type 0 where
   pub object : ObjectData
   pub source : HoldsInput source_form held names.source object
   pub written : held' ≡ files_after_write held names.object (bytes_of_object object)
@@ -48,13 +48,13 @@ pub record IsObjectHandedOver (names : AsmNames) (held held' : Option FileMap) :
 -- what each `asm` that is done hands to `link`, over files that tell what they hold
 abbrev pub AsmHandsOver : Type 0
 AsmHandsOver =
-    (names : AsmNames) (files files' : FilesSeen) (sink sink' : SinkSeen) → IsSome files.held
+    (names : AsmArgs) (files files' : FilesSeen) (sink sink' : SinkSeen) → IsSome files.held
     → Ends (asm_reading names) files files' sink sink' Done → IsObjectHandedOver names files.held files'.held
 
 -- ---- an executable
 -- the image of the objects by the layout was written, and is read as exactly this image, unless it
 -- is too long to be read
-pub record IsImageHandedOver (names : LinkNames) (held held' : Option FileMap) : Type 0 where
+pub record IsImageHandedOver (names : LinkArgs) (held held' : Option FileMap) : Type 0 where
   pub layout : LayoutData
   pub layout_is : HoldsInput layout_form held names.layout layout
   pub objects : List ObjectData
@@ -68,5 +68,5 @@ pub record IsImageHandedOver (names : LinkNames) (held held' : Option FileMap) :
 -- bytes: those that `asm` wrote are, and so is all that a file system holds.
 abbrev pub LinkHandsOver : Type 0
 LinkHandsOver =
-    (names : LinkNames) (files files' : FilesSeen) (sink sink' : SinkSeen) → IsSome files.held → HandedFilesHoldBytes files.held names.objects
+    (names : LinkArgs) (files files' : FilesSeen) (sink sink' : SinkSeen) → IsSome files.held → HandedFilesHoldBytes files.held names.objects
     → Ends (link_reading names) files files' sink sink' Done → IsImageHandedOver names files.held files'.held

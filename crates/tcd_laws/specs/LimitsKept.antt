@@ -6,7 +6,7 @@ use Rattle.tc_object.specs.Objects.{SectionData, ObjectData, IsObject}
 use Rattle.tc_object.specs.Spelling.{bytes_of_object}
 use Rattle.tc_stmt.specs.Lines.{lines_in}
 use Rattle.tc_asm.specs.DraftedSources.{draft_in}
-use Rattle.tc_asm.specs.Rules.{KeepsRules}
+use Rattle.tc_asm.specs.Rules.{LinesKeepRules}
 use Rattle.tc_asm.specs.Objects.{object_of_draft}
 use Rattle.tc_link.specs.Layouts.{LayoutData, IsLayout}
 use Rattle.tc_link.specs.LayoutFaults.{layout_of}
@@ -29,7 +29,7 @@ pub record IsObjectOfBytes (o : ObjectData) : Type 0 where
 -- assembling keeps limits: the object of a source that breaks no rule is an object, whose sections
 -- hold bytes
 abbrev pub SourcesGiveObjects : Type 0
-SourcesGiveObjects = (source : List ℕ) → KeepsRules (lines_in source) (length (lines_in source)) → IsObjectOfBytes (object_of_draft (draft_in source))
+SourcesGiveObjects = (source : List ℕ) → LinesKeepRules (lines_in source) (length (lines_in source)) → IsObjectOfBytes (object_of_draft (draft_in source))
 
 -- writing objects keeps limits: the file of an object whose sections hold bytes holds bytes
 abbrev pub ObjectsSpellBytes : Type 0

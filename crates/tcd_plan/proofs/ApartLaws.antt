@@ -7,7 +7,7 @@ use Rattle.tcd_base.specs.declared.range.Range.{Range}
 use Rattle.tcd_base.specs.Ranges.{IsWithinRange, IsInOneRange}
 use Rattle.tcd_base.proofs.RangeLaws.{IsInOne-front}
 use Rattle.tcd_plan.specs.declared.plans.Device.{Device}
-use Rattle.tcd_plan.specs.PlanData.{PlanData, IsPlan, is_plan_range, is_plan_device, are_ranges_apart, are_all_ranges_apart, areas_range}
+use Rattle.tcd_plan.specs.PlanData.{PlanData, IsPlan, is_plan_range, is_plan_device, are_ranges_disjoint, are_all_ranges_disjoint, areas_range}
 use Rattle.tcd_plan.specs.MappedAddresses.{IsInAreas}
 
 -- ---- ranges of whole words
@@ -49,37 +49,37 @@ IsInOne-fits x n [] all h = absurd h
 IsInOne-fits x n (r ∷ rs) all (inl h) = let fits = (range_parts r (and_parts _ _ all).0).3 in omega arith
 IsInOne-fits x n (r ∷ rs) all (inr h) = IsInOne-fits x n rs (and_parts _ _ all).1 h
 
-apart_one : (x : ℕ) (r s : Range) → are_ranges_apart r s ≡ true → IsWithinRange x 1 r → IsWithinRange x 1 s → ⊥
+apart_one : (x : ℕ) (r s : Range) → are_ranges_disjoint r s ≡ true → IsWithinRange x 1 r → IsWithinRange x 1 s → ⊥
 apart_one x r s e h g =
     elim (or_cases (nat_le (r.at + r.len) s.at) (nat_le (s.at + s.len) r.at) e) [
       | inl a ↦ let le = leb-true (r.at + r.len) s.at a in absurd (omega arith)
       | inr b ↦ let le = leb-true (s.at + s.len) r.at b in absurd (omega arith)
     ]
 
-apart_each : (x : ℕ) (r : Range) (ss : List Range) → list_all (are_ranges_apart r) ss ≡ true → IsWithinRange x 1 r → IsInOneRange x 1 ss → ⊥
+apart_each : (x : ℕ) (r : Range) (ss : List Range) → list_all (are_ranges_disjoint r) ss ≡ true → IsWithinRange x 1 r → IsInOneRange x 1 ss → ⊥
 apart_each x r [] e h g = g
 apart_each x r (s ∷ ss) e h (inl g) = apart_one x r s (and_parts _ _ e).0 h g
 apart_each x r (s ∷ ss) e h (inr g) = apart_each x r ss (and_parts _ _ e).1 h g
 
 -- no address is inside a range and inside a later one
-pub all_apart-before : (x : ℕ) (rs ss : List Range) → are_all_ranges_apart (rs ++ ss) ≡ true → IsInOneRange x 1 rs → IsInOneRange x 1 ss → ⊥
+pub all_apart-before : (x : ℕ) (rs ss : List Range) → are_all_ranges_disjoint (rs ++ ss) ≡ true → IsInOneRange x 1 rs → IsInOneRange x 1 ss → ⊥
 all_apart-before x [] ss e h g = h
 all_apart-before x (r ∷ rs) ss e (inl h) g =
     let each = (and_parts _ _ e).0 in
-    apart_each x r ss (and_parts _ _ (sym (list_all-append (are_ranges_apart r) rs ss) ∙ each)).1 h g
+    apart_each x r ss (and_parts _ _ (sym (list_all-append (are_ranges_disjoint r) rs ss) ∙ each)).1 h g
 all_apart-before x (r ∷ rs) ss e (inr h) g = all_apart-before x rs ss (and_parts _ _ e).1 h g
 
-pub all_apart-behind : (rs ss : List Range) → are_all_ranges_apart (rs ++ ss) ≡ true → are_all_ranges_apart ss ≡ true
+pub all_apart-behind : (rs ss : List Range) → are_all_ranges_disjoint (rs ++ ss) ≡ true → are_all_ranges_disjoint ss ≡ true
 all_apart-behind [] ss e = e
 all_apart-behind (r ∷ rs) ss e = all_apart-behind rs ss (and_parts _ _ e).1
 
-pub all_apart-front : (rs ss : List Range) → are_all_ranges_apart (rs ++ ss) ≡ true → are_all_ranges_apart rs ≡ true
+pub all_apart-front : (rs ss : List Range) → are_all_ranges_disjoint (rs ++ ss) ≡ true → are_all_ranges_disjoint rs ≡ true
 all_apart-front [] ss e = refl
 all_apart-front (r ∷ rs) ss e =
-    let p = and_parts (list_all (are_ranges_apart r) (rs ++ ss)) (are_all_ranges_apart (rs ++ ss)) e in
-    and_from _ _ (and_parts _ _ (sym (list_all-append (are_ranges_apart r) rs ss) ∙ p.0)).0 (all_apart-front rs ss p.1)
+    let p = and_parts (list_all (are_ranges_disjoint r) (rs ++ ss)) (are_all_ranges_disjoint (rs ++ ss)) e in
+    and_from _ _ (and_parts _ _ (sym (list_all-append (are_ranges_disjoint r) rs ss) ∙ p.0)).0 (all_apart-front rs ss p.1)
 
-apart_from : (r s : Range) → 0 < r.len → 0 < s.len → ((x : ℕ) → IsWithinRange x 1 r → IsWithinRange x 1 s → ⊥) → are_ranges_apart r s ≡ true
+apart_from : (r s : Range) → 0 < r.len → 0 < s.len → ((x : ℕ) → IsWithinRange x 1 r → IsWithinRange x 1 s → ⊥) → are_ranges_disjoint r s ≡ true
 apart_from r s some other none =
     elim (cases_lt s.at (r.at + r.len)) [
       | inr before ↦ ap (λ t. t || nat_le (s.at + s.len) r.at) (le-leb (r.at + r.len) s.at before)
@@ -89,17 +89,17 @@ apart_from r s some other none =
       ]
     ]
 
-pub each_apart : (r : Range) (ss : List Range) → 0 < r.len → HaveBytes ss → ((x : ℕ) → IsWithinRange x 1 r → IsInOneRange x 1 ss → ⊥) → list_all (are_ranges_apart r) ss ≡ true
+pub each_apart : (r : Range) (ss : List Range) → 0 < r.len → HaveBytes ss → ((x : ℕ) → IsWithinRange x 1 r → IsInOneRange x 1 ss → ⊥) → list_all (are_ranges_disjoint r) ss ≡ true
 each_apart r [] some have none = refl
 each_apart r (s ∷ ss) some have none =
     and_from _ _ (apart_from r s some have.0 (λ x a b. none x a (inl b))) (each_apart r ss some have.1 (λ x a b. none x a (inr b)))
 
 -- two lists of ranges that are apart, and share no byte
-pub all_apart-append : (rs ss : List Range) → HaveBytes rs → HaveBytes ss → are_all_ranges_apart rs ≡ true → are_all_ranges_apart ss ≡ true → ((x : ℕ) → IsInOneRange x 1 rs → IsInOneRange x 1 ss → ⊥) → are_all_ranges_apart (rs ++ ss) ≡ true
+pub all_apart-append : (rs ss : List Range) → HaveBytes rs → HaveBytes ss → are_all_ranges_disjoint rs ≡ true → are_all_ranges_disjoint ss ≡ true → ((x : ℕ) → IsInOneRange x 1 rs → IsInOneRange x 1 ss → ⊥) → are_all_ranges_disjoint (rs ++ ss) ≡ true
 all_apart-append [] ss have have2 a b none = b
 all_apart-append (r ∷ rs) ss have have2 a b none =
-    let p = and_parts (list_all (are_ranges_apart r) rs) (are_all_ranges_apart rs) a in
-    and_from _ _ (list_all-append (are_ranges_apart r) rs ss ∙ and_from _ _ p.0 (each_apart r ss have.0 have2 (λ x h g. none x (inl h) g))) (all_apart-append rs ss have.1 have2 p.1 b (λ x h g. none x (inr h) g))
+    let p = and_parts (list_all (are_ranges_disjoint r) rs) (are_all_ranges_disjoint rs) a in
+    and_from _ _ (list_all-append (are_ranges_disjoint r) rs ss ∙ and_from _ _ p.0 (each_apart r ss have.0 have2 (λ x h g. none x (inl h) g))) (all_apart-append rs ss have.1 have2 p.1 b (λ x h g. none x (inr h) g))
 
 -- ---- rom
 pub rom_fits : {plan : PlanData} → IsPlan plan → (x n : ℕ) → IsInOneRange x n plan.rom → x + n ≤ 2 ^ 32

@@ -10,7 +10,7 @@ use Rattle.tcd_base.specs.declared.range.Range.{Range}
 use Rattle.tcd_base.specs.Ranges.{IsWithinRange, IsInOneRange}
 use Rattle.tcd_plan.specs.Cutting.{range_between, cut_range_parts, cut_plan_ranges}
 use Rattle.tcd_base.proofs.RangeLaws.{IsInOne-front, IsInOne-behind}
-use Rattle.tcd_plan.specs.PlanData.{is_plan_range, are_ranges_apart, are_all_ranges_apart}
+use Rattle.tcd_plan.specs.PlanData.{is_plan_range, are_ranges_disjoint, are_all_ranges_disjoint}
 use Rattle.tcd_plan.proofs.ApartLaws.{range_parts, is_range-from, HaveBytes-ranges, all_apart-before, all_apart-append}
 
 -- what is inside one of two lists of ranges
@@ -49,10 +49,10 @@ between_range from upto a b fits = by_test (nat_lt from upto) refl
     by_test true lt = let less = ltb-true from upto lt in and_from _ true (is_range-from (record { at = from; len = upto - from }) a (omega arith) (omega arith) (omega arith)) refl
     by_test false lt = refl
 
-between_apart : (from upto : ℕ) → are_all_ranges_apart (range_between from upto) ≡ true
+between_apart : (from upto : ℕ) → are_all_ranges_disjoint (range_between from upto) ≡ true
 between_apart from upto = by_test (nat_lt from upto)
   where
-    by_test : (t : Bool) → are_all_ranges_apart (cond t (record { at = from; len = upto - from } ∷ []) []) ≡ true
+    by_test : (t : Bool) → are_all_ranges_disjoint (cond t (record { at = from; len = upto - from } ∷ []) []) ≡ true
     by_test true = refl
     by_test false = refl
 
@@ -185,7 +185,7 @@ module _ (x n : ℕ) (first : x % 4 ≡ 0) (whole : n % 4 ≡ 0) where
       let p = and_parts (is_plan_range r) (list_all is_plan_range rs) h in
       list_all-append is_plan_range (cut_range_parts x n r) (cut_plan_ranges x n rs) ∙ and_from _ _ (parts_range r p.0) (ranges_without_ranges rs p.1)
 
-  parts_apart : (r : Range) → is_plan_range r ≡ true → are_all_ranges_apart (cut_range_parts x n r) ≡ true
+  parts_apart : (r : Range) → is_plan_range r ≡ true → are_all_ranges_disjoint (cut_range_parts x n r) ≡ true
   parts_apart r is =
       let split = and_parts _ _ (sym (list_all-append is_plan_range (below x n r) (above x n r)) ∙ parts_range r is) in
       all_apart-append (below x n r) (above x n r) (HaveBytes-ranges _ split.0) (HaveBytes-ranges _ split.1) (between_apart _ _) (between_apart _ _)
@@ -197,10 +197,10 @@ module _ (x n : ℕ) (first : x % 4 ≡ 0) (whole : n % 4 ≡ 0) where
       absurd (omega arith))
 
   -- the parts are apart from each other
-  pub ranges_without_apart : (rs : List Range) → list_all is_plan_range rs ≡ true → are_all_ranges_apart rs ≡ true → are_all_ranges_apart (cut_plan_ranges x n rs) ≡ true
+  pub ranges_without_apart : (rs : List Range) → list_all is_plan_range rs ≡ true → are_all_ranges_disjoint rs ≡ true → are_all_ranges_disjoint (cut_plan_ranges x n rs) ≡ true
   ranges_without_apart [] h a = refl
   ranges_without_apart (r ∷ rs) h a =
       let p = and_parts (is_plan_range r) (list_all is_plan_range rs) h in
-      let q = and_parts (list_all (are_ranges_apart r) rs) (are_all_ranges_apart rs) a in
+      let q = and_parts (list_all (are_ranges_disjoint r) rs) (are_all_ranges_disjoint rs) a in
       all_apart-append (cut_range_parts x n r) (cut_plan_ranges x n rs) (HaveBytes-ranges _ (parts_range r p.0)) (HaveBytes-ranges _ (ranges_without_ranges rs p.1)) (parts_apart r p.0) (ranges_without_apart rs p.1 q.1)
       (λ y here there. all_apart-before y (r ∷ []) rs a (inl (in_part x n r y 1 here).0) (in_ranges_without x n rs y 1 there).0)

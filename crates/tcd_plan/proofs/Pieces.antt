@@ -5,7 +5,7 @@ use Rattle.std.specs.List.Sorted.{IsStrictlyIncreasing}
 use Rattle.std.proofs.lemmas.Bool.{and_from, and_parts, ltb-true, lt-ltb}
 use Rattle.std.proofs.lemmas.List.Elements.{All-nil, All-cons}
 use Rattle.serde_json.specs.Data.{Data}
-use Rattle.tcd_plan.specs.ValueForms.{are_irqs_above, has_value_form, is_range_len, is_present_and_passing}
+use Rattle.tcd_plan.specs.ValueForms.{are_irqs_above, has_value_form, is_range_len, is_some_and}
 use Rattle.tcd_plan.specs.PlanData.{is_plan_device, is_plan_range}
 use Rattle.tcd_plan.specs.PlanReader.{plan_device_of, irq_of, plan_range_of}
 use Rattle.tcd_plan.specs.JsonValues.{is_object, json_number_at, json_number_of, json_word_at}
@@ -41,7 +41,7 @@ devices_are (o ∷ os) at len hi =
     and_from _ _ (device_is o here_at.0 here_len.0 here_hi.0) (devices_are os here_at.1 here_len.1 here_hi.1)
 
 -- an array of at least one object has all of its objects
-pub some_objects : (o : Option (List Data)) → is_present_and_passing (λ ds. nat_lt 0 (length ds) && list_all is_object ds) o ≡ true → 0 < length (cond (is_present_and_passing (list_all is_object) o) (unwrap_or o []) [])
+pub some_objects : (o : Option (List Data)) → is_some_and (λ ds. nat_lt 0 (length ds) && list_all is_object ds) o ≡ true → 0 < length (cond (is_some_and (list_all is_object) o) (unwrap_or o []) [])
 some_objects None e = cc
 some_objects (Some ds) e =
     let parts = and_parts (nat_lt 0 (length ds)) (list_all is_object ds) e in
@@ -49,12 +49,12 @@ some_objects (Some ds) e =
     subst P (sym parts.1) (ltb-true 0 (length ds) parts.0)
 
 -- the number at a key of the object at a key passes the test of each such object
-pub inner_word : (test : ℕ → Bool) (name : List ℕ) (o : Option Data) → is_present_and_passing is_object o ≡ true → list_all (λ x. is_present_and_passing test (json_number_at name x)) (cond (is_present_and_passing is_object o) (option_to_list o) []) ≡ true
+pub inner_word : (test : ℕ → Bool) (name : List ℕ) (o : Option Data) → is_some_and is_object o ≡ true → list_all (λ x. is_some_and test (json_number_at name x)) (cond (is_some_and is_object o) (option_to_list o) []) ≡ true
     → test (unwrap_or (option_and_then (json_number_at name) o) 0) ≡ true
 inner_word test name None e h = cc
 inner_word test name (Some x) e h =
-    let P : Bool → Type 0 = λ b. list_all (λ y. is_present_and_passing test (json_number_at name y)) (cond b (x ∷ []) []) ≡ true in
-    passes-unwrap_or test (json_number_at name x) 0 (and_parts (is_present_and_passing test (json_number_at name x)) true (subst P e h)).0
+    let P : Bool → Type 0 = λ b. list_all (λ y. is_some_and test (json_number_at name y)) (cond b (x ∷ []) []) ≡ true in
+    passes-unwrap_or test (json_number_at name x) 0 (and_parts (is_some_and test (json_number_at name x)) true (subst P e h)).0
 
 -- the first number is above `low`, and the rest ascend above it
 ascends : (low : ℕ) (d : Data) (ds : List Data) → are_irqs_above low (d ∷ ds) ≡ true → (low < irq_of d) × (irq_of d < 2 ^ 8) × (are_irqs_above (irq_of d) ds ≡ true)

@@ -3,8 +3,8 @@ use Rattle.std.proofs.Common.{◌≡◌, ℕ, suc, zero, ◌+◌, ◌<◌, ◌�
 use Rattle.std.specs.List.{find, list_all, list_any, position, prefix_len}
 use Rattle.std.specs.Option.{option_or}
 use Rattle.std.proofs.lemmas.Bool.{and_from, or_parts, ltb-false}
-use Rattle.tcd_plan.specs.ValueForms.{is_present_and_passing}
-use Rattle.tcd_plan.specs.PlanData.{first_given_refusal, key_unless}
+use Rattle.tcd_plan.specs.ValueForms.{is_some_and}
+use Rattle.tcd_plan.specs.PlanData.{first_some, key_unless}
 use Rattle.tcd_plan.specs.PlanReader.{refusal_if}
 use Rattle.tcd_plan.specs.declared.plans.PlanErr.{PlanErr}
 
@@ -12,10 +12,10 @@ pub option_or_none : {T : Type 0} (a b : Option T) → option_or a b ≡ None �
 option_or_none None b e = (refl, e)
 option_or_none (Some x) b e = cc
 
-pub first_some_none : {T : Type 0} (os : List (Option T)) (i : ℕ) → first_given_refusal os ≡ None → i < length os → get_or os i None ≡ None
+pub first_some_none : {T : Type 0} (os : List (Option T)) (i : ℕ) → first_some os ≡ None → i < length os → get_or os i None ≡ None
 first_some_none [] i e within = absurd (omega arith)
-first_some_none (o ∷ os) zero e within = (option_or_none o (first_given_refusal os) e).0
-first_some_none (o ∷ os) (suc i) e within = first_some_none os i (option_or_none o (first_given_refusal os) e).1 (omega arith)
+first_some_none (o ∷ os) zero e within = (option_or_none o (first_some os) e).0
+first_some_none (o ∷ os) (suc i) e within = first_some_none os i (option_or_none o (first_some os) e).1 (omega arith)
 
 pub option_map_none : {X Y : Type 0} (f : X → Y) (o : Option X) → option_map f o ≡ None → o ≡ None
 option_map_none f None e = refl
@@ -30,7 +30,7 @@ key_none true key e = refl
 key_none false key e = cc
 
 -- a value that passes is there, or the default
-pub passes-unwrap_or : {T : Type 0} (test : T → Bool) (o : Option T) (d : T) → is_present_and_passing test o ≡ true → test (unwrap_or o d) ≡ true
+pub passes-unwrap_or : {T : Type 0} (test : T → Bool) (o : Option T) (d : T) → is_some_and test o ≡ true → test (unwrap_or o d) ≡ true
 passes-unwrap_or test None d e = cc
 passes-unwrap_or test (Some x) d e = e
 

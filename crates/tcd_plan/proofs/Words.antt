@@ -7,7 +7,7 @@ use Rattle.std.proofs.lemmas.Int.Digits.{digits_value-lt}
 use Rattle.std.proofs.Math.Nat.{pow-le-pow_right}
 use Rattle.serde_json.specs.Data.{unsigned, negative, float, Data, null, boolean, number, string, array, object}
 use Rattle.serde_json.specs.Find.{get}
-use Rattle.tcd_plan.specs.JsonValues.{json_hex_word, is_json_hex, json_number_at, json_number_of, json_text_word, json_word, json_word_at, json_word_in}
+use Rattle.tcd_plan.specs.JsonValues.{json_hex_number, is_json_hex, json_number_at, json_number_of, json_text_number, json_number_if_word, json_word_at, json_nested_number}
 
 abbrev IsSmall : Option ℕ → Type 0
 IsSmall None = Unit {0}
@@ -33,7 +33,7 @@ digits_of : (cs : List ℕ) → list_all is_json_hex cs ≡ true → AllDigits 1
 digits_of [] e = tt
 digits_of (c ∷ cs) e = let parts = and_parts (is_json_hex c) (list_all is_json_hex cs) e in (ltb-true _ _ parts.0, digits_of cs parts.1)
 
-hex_word-small : (digits : List ℕ) → IsSmall (json_hex_word digits)
+hex_word-small : (digits : List ℕ) → IsSmall (json_hex_number digits)
 hex_word-small digits =
     small_where _ (digits_value 16 digits) (λ e.
     let parts = and_parts (nat_le 1 (length digits) && nat_le (length digits) 8) (list_all is_json_hex digits) e in
@@ -42,12 +42,12 @@ hex_word-small digits =
     let bound : 16 ^ length digits ≤ 16 ^ 8 = pow-le-pow_right (omega arith) few in
     omega arith)
 
-text_word-small : (text : List ℕ) → IsSmall (json_text_word text)
+text_word-small : (text : List ℕ) → IsSmall (json_text_number text)
 text_word-small [] = tt
 text_word-small (a ∷ []) = tt
-text_word-small (a ∷ b ∷ digits) = small_if (a == 48 && b == 120) (json_hex_word digits) (hex_word-small digits)
+text_word-small (a ∷ b ∷ digits) = small_if (a == 48 && b == 120) (json_hex_number digits) (hex_word-small digits)
 
-word-small : (n : ℕ) → IsSmall (json_word n)
+word-small : (n : ℕ) → IsSmall (json_number_if_word n)
 word-small n = small_where (nat_lt n (2 ^ 32)) n (ltb-true n (2 ^ 32))
 
 number_of-small : (d : Data) → IsSmall (json_number_of d)
@@ -66,5 +66,5 @@ number_at-small name d = small_then json_number_of (get name d) number_of-small
 pub word_at-lt : (name : List ℕ) (d : Data) → json_word_at name d < 2 ^ 32
 word_at-lt name d = small_or (json_number_at name d) (number_at-small name d)
 
-pub word_in-lt : (outer name : List ℕ) (d : Data) → json_word_in outer name d < 2 ^ 32
+pub word_in-lt : (outer name : List ℕ) (d : Data) → json_nested_number outer name d < 2 ^ 32
 word_in-lt outer name d = small_or _ (small_then (json_number_at name) (get outer d) (number_at-small name))

@@ -14,17 +14,17 @@ json_array_elements no_items = []
 json_array_elements (item d ds) = d ∷ json_array_elements ds
 
 -- the keys of the members of an object in a document, in order
-abbrev pub json_member_names : Members → List (List ℕ)
-json_member_names no_members = []
-json_member_names (member name d ms) = name ∷ json_member_names ms
+abbrev pub json_member_keys : Members → List (List ℕ)
+json_member_keys no_members = []
+json_member_keys (member name d ms) = name ∷ json_member_keys ms
 
 -- the value is an object
 abbrev pub is_object : Data → Bool
 is_object d = is_some (as_object d)
 
 -- the keys of an object
-abbrev pub json_names_in : Data → List (List ℕ)
-json_names_in d = option_map_or json_member_names (as_object d) []
+abbrev pub json_object_keys : Data → List (List ℕ)
+json_object_keys d = option_map_or json_member_keys (as_object d) []
 
 -- the elements of the array at a key
 abbrev pub json_elements_at : List ℕ → Data → Option (List Data)
@@ -35,28 +35,28 @@ abbrev pub is_json_text : List ℕ → Data → Bool
 is_json_text text d = option_map_or (λ s. bytes_eq s text) (as_str d) false
 
 -- the number, if it is a word: below 2 ^ 32
-abbrev pub json_word : ℕ → Option ℕ
-json_word n = if nat_lt n (2 ^ 32) then Some n else None
+abbrev pub json_number_if_word : ℕ → Option ℕ
+json_number_if_word n = if nat_lt n (2 ^ 32) then Some n else None
 
 -- a hex digit of either case, in a JSON text that is read as a number
 abbrev pub is_json_hex : ℕ → Bool
 is_json_hex c = nat_lt (digit_value c) 16
 
 -- the number in a JSON text after its `0x`: 1 to 8 hex digits of either case
-abbrev pub json_hex_word : List ℕ → Option ℕ
-json_hex_word digits = if nat_le 1 (length digits) && nat_le (length digits) 8 && list_all is_json_hex digits then Some (digits_value 16 digits) else None
+abbrev pub json_hex_number : List ℕ → Option ℕ
+json_hex_number digits = if nat_le 1 (length digits) && nat_le (length digits) 8 && list_all is_json_hex digits then Some (digits_value 16 digits) else None
 
 -- the number that a JSON text spells: `0x` and 1 to 8 hex digits
-abbrev pub json_text_word : List ℕ → Option ℕ
-json_text_word (a ∷ b ∷ digits) = if a == 48 && b == 120 then json_hex_word digits else None
-json_text_word cs = None
+abbrev pub json_text_number : List ℕ → Option ℕ
+json_text_number (a ∷ b ∷ digits) = if a == 48 && b == 120 then json_hex_number digits else None
+json_text_number cs = None
 
 -- a number of 32 bits: a JSON number that is an unsigned integer, or a text of hex digits
 abbrev pub json_number_of : Data → Option ℕ
 json_number_of null = None
 json_number_of (boolean b) = None
-json_number_of (number n) = option_and_then json_word (as_u64 n)
-json_number_of (string s) = json_text_word s
+json_number_of (number n) = option_and_then json_number_if_word (as_u64 n)
+json_number_of (string s) = json_text_number s
 json_number_of (array ds) = None
 json_number_of (object ms) = None
 
@@ -69,9 +69,9 @@ abbrev pub json_word_at : List ℕ → Data → ℕ
 json_word_at name d = unwrap_or (json_number_at name d) 0
 
 -- the number at a key of the object at another key, 0 if there is none
-abbrev pub json_word_in : List ℕ → List ℕ → Data → ℕ
-json_word_in outer name d = unwrap_or (option_and_then (json_number_at name) (get outer d)) 0
+abbrev pub json_nested_number : List ℕ → List ℕ → Data → ℕ
+json_nested_number outer name d = unwrap_or (option_and_then (json_number_at name) (get outer d)) 0
 
 -- the elements of the array with this key in the document
-abbrev pub json_elements_of : List ℕ → Data → List Data
-json_elements_of name d = unwrap_or (json_elements_at name d) []
+abbrev pub json_elements_or_empty : List ℕ → Data → List Data
+json_elements_or_empty name d = unwrap_or (json_elements_at name d) []

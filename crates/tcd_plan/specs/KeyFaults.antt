@@ -3,8 +3,8 @@ use Rattle.std.specs.Prelude.{ℕ, ◌&&◌, List, Bool, not, is_none, Option, o
 use Rattle.std.specs.List.{list_all, list_any, find}
 use Rattle.serde_json.specs.Data.{Data}
 use Rattle.serde_json.specs.Find.{get}
-use Rattle.tcd_plan.specs.KeyRows.{KeyRow, key_rows, holder_key, holders, is_row_of_key}
-use Rattle.tcd_plan.specs.JsonValues.{json_names_in}
+use Rattle.tcd_plan.specs.KeyRows.{KeyRow, key_rows, parent_key, key_parents, is_row_of_key}
+use Rattle.tcd_plan.specs.JsonValues.{json_object_keys}
 use Rattle.tcd_plan.specs.declared.key_table.KeyParent.{KeyParent}
 use Rattle.tcd_plan.specs.ValueForms.{has_value_form}
 use Rattle.tcd_plan.specs.Objects.{plan_objects_of}
@@ -32,24 +32,24 @@ is_known_key h name = list_any (is_row_of_key h name) key_rows
 
 -- an object has a key that isn't one of its own
 abbrev pub has_unknown_key : KeyParent → Data → Bool
-has_unknown_key h o = not (list_all (is_known_key h) (json_names_in o))
+has_unknown_key h o = not (list_all (is_known_key h) (json_object_keys o))
 
 -- the key with this number, as a fault of a document names it
-abbrev pub refused_key : ℕ → PlanKey
-refused_key key = record { 0 = key }
+abbrev pub plan_key_of : ℕ → PlanKey
+plan_key_of key = record { 0 = key }
 
 -- the first key of the list for which an object that it is in meets the test
-abbrev pub first_key : (KeyRow → Data → Bool) → Data → Option PlanKey
-first_key test d = option_map (λ r. refused_key r.key) (find (λ r. list_any (test r) (plan_objects_of r.parent d)) key_rows)
+abbrev pub first_key_where : (KeyRow → Data → Bool) → Data → Option PlanKey
+first_key_where test d = option_map (λ r. plan_key_of r.key) (find (λ r. list_any (test r) (plan_objects_of r.parent d)) key_rows)
 
 -- the first key that an object lacks
 unfoldable pub first_missing_key : Data → Option PlanKey
-first_missing_key d = first_key lacks_key d
+first_missing_key d = first_key_where lacks_key d
 
 -- the first object, or array of objects, with a key that isn't one of its own
-unfoldable pub first_unknown_key : Data → Option PlanKey
-first_unknown_key d = option_map (λ h. refused_key (holder_key h)) (find (λ h. list_any (has_unknown_key h) (plan_objects_of h d)) holders)
+unfoldable pub first_object_with_unknown_key : Data → Option PlanKey
+first_object_with_unknown_key d = option_map (λ h. plan_key_of (parent_key h)) (find (λ h. list_any (has_unknown_key h) (plan_objects_of h d)) key_parents)
 
 -- the first key whose value doesn't have its form
 unfoldable pub first_bad_key : Data → Option PlanKey
-first_bad_key d = first_key is_key_value_bad d
+first_bad_key d = first_key_where is_key_value_bad d

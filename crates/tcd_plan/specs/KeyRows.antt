@@ -62,24 +62,24 @@ key_rows =
 
 -- the objects that the rows of the table of keys are in, in the order in which their keys are
 -- printed
-abbrev pub holders : List KeyParent
-holders = Root ∷ Rom ∷ Ram ∷ Devices ∷ Csa ∷ Start ∷ Globals ∷ []
+abbrev pub key_parents : List KeyParent
+key_parents = Root ∷ Rom ∷ Ram ∷ Devices ∷ Csa ∷ Start ∷ Globals ∷ []
 
 -- for the rows of the table of keys: the number of the key that an object has in the document
-abbrev pub holder_key : KeyParent → ℕ
-holder_key Root = 0
-holder_key Rom = 1
-holder_key Ram = 4
-holder_key Devices = 7
-holder_key Csa = 12
-holder_key Start = 22
-holder_key Globals = 26
+abbrev pub parent_key : KeyParent → ℕ
+parent_key Root = 0
+parent_key Rom = 1
+parent_key Ram = 4
+parent_key Devices = 7
+parent_key Csa = 12
+parent_key Start = 22
+parent_key Globals = 26
 
 -- a row of the table of keys has the printed key of its number: its name, with the key of its
 -- objects and a dot before it unless it is in the root object
 abbrev pub has_matching_key_text : KeyRow → Bool
-has_matching_key_text r = bytes_eq (key_text_of r.key) (if holder_key r.parent == 0 then r.name else key_text_of (holder_key r.parent) ++ codes "." ++ r.name)
+has_matching_key_text r = bytes_eq (key_text_of r.key) (if parent_key r.parent == 0 then r.name else key_text_of (parent_key r.parent) ++ codes "." ++ r.name)
 
 -- a row is of this key of the object
 abbrev pub is_row_of_key : KeyParent → List ℕ → KeyRow → Bool
-is_row_of_key h name r = (holder_key r.parent == holder_key h) && bytes_eq r.name name
+is_row_of_key h name r = (parent_key r.parent == parent_key h) && bytes_eq r.name name

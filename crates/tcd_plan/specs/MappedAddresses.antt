@@ -19,13 +19,13 @@ IsMappedBy plan x = IsInOneRange x 1 plan.rom ⊎ IsInOneRange x 1 plan.ram ⊎ 
 
 -- the input is one that the peripheral regions of a plan can answer: it is within the bounds of
 -- each peripheral that has the four bytes at x
-abbrev pub AnswersAt : ℕ → ℕ → List Device → Type 0
-AnswersAt x input ds = All (λ d. IsWithinRange x 4 d.range → (d.lo ≤ input) × (input ≤ d.hi)) ds
+abbrev pub MayAnswerAt : ℕ → ℕ → List Device → Type 0
+MayAnswerAt x input ds = All (λ d. IsWithinRange x 4 d.range → (d.lo ≤ input) × (input ≤ d.hi)) ds
 
 -- the input is one that the peripheral regions of a plan can answer to this load: a word that is
 -- loaded from a peripheral is within the peripheral's bounds
-abbrev pub AnswersLoad : PlanData → ℕ → Option (ℕ × ℕ) → Type 0
-AnswersLoad plan input load = IfSome load (λ l. l.1 ≡ 4 → AnswersAt l.0 input plan.devices)
+abbrev pub MayAnswerLoad : PlanData → ℕ → Option (ℕ × ℕ) → Type 0
+MayAnswerLoad plan input load = IfSome load (λ l. l.1 ≡ 4 → MayAnswerAt l.0 input plan.devices)
 
 -- a store is in the regions where a plan allows it: not past 2^32, and wholly in one ram range or
 -- one peripheral range

@@ -6,7 +6,7 @@ use Rattle.tcd_base.specs.declared.range.Range.{Range}
 use Rattle.tcd_base.specs.declared.core_version.Core.{Core}
 use Rattle.tcd_plan.specs.declared.plans.Device.{Device}
 use Rattle.tcd_plan.specs.declared.plans.Plan.TheInside.{Inside}
-use Rattle.tcd_plan.specs.KeyFaults.{refused_key}
+use Rattle.tcd_plan.specs.KeyFaults.{plan_key_of}
 use Rattle.tcd_plan.specs.declared.plans.PlanKey.{PlanKey}
 use Rattle.std.specs.Option.{option_map_or, option_or}
 use Rattle.tcd_plan.specs.declared.plans.PlanErr.{PlanErr}
@@ -78,13 +78,13 @@ abbrev pub all_ranges : PlanData → List Range
 all_ranges p = p.rom ++ p.ram ++ map (λ d. d.range) p.devices ++ areas_range p ∷ []
 
 -- what holds of every two ranges in a plan's data: they share no byte
-abbrev pub are_ranges_apart : Range → Range → Bool
-are_ranges_apart r s = nat_le (r.at + r.len) s.at || nat_le (s.at + s.len) r.at
+abbrev pub are_ranges_disjoint : Range → Range → Bool
+are_ranges_disjoint r s = nat_le (r.at + r.len) s.at || nat_le (s.at + s.len) r.at
 
 -- what holds of every plan's ranges: no two of them share a byte
-abbrev pub are_all_ranges_apart : List Range → Bool
-are_all_ranges_apart [] = true
-are_all_ranges_apart (r ∷ rs) = list_all (are_ranges_apart r) rs && are_all_ranges_apart rs
+abbrev pub are_all_ranges_disjoint : List Range → Bool
+are_all_ranges_disjoint [] = true
+are_all_ranges_disjoint (r ∷ rs) = list_all (are_ranges_disjoint r) rs && are_all_ranges_disjoint rs
 
 -- what holds of every plan's rom, ram and peripherals: how many they are, how large, and that each
 -- is a range
@@ -137,7 +137,7 @@ pub record IsPlan (p : PlanData) : Type 0 where
   pub areas : ArePlanAreas p
   pub words : ArePlanWords p
   pub irqs : ArePlanIrqs p.irqs
-  pub apart : IsTrue (are_all_ranges_apart (all_ranges p))
+  pub apart : IsTrue (are_all_ranges_disjoint (all_ranges p))
 
 -- the interrupt is one of those in a plan's data
 abbrev pub is_plan_irq : PlanData → ℕ → Bool
@@ -148,24 +148,24 @@ abbrev pub global_of : PlanData → ℕ → ℕ
 global_of p r = slice_index p.globals (if r == 16 then 0 else if r == 17 then 1 else if r == 24 then 2 else 3)
 
 -- what holds of every plan's rom and ram: at most 16 ranges, with at most 2^22 bytes together
-abbrev pub are_ranges_few : List Range → Bool
-are_ranges_few rs = nat_le (length rs) 16 && nat_le (sum_by (λ r. r.len) rs) (2 ^ 22)
+abbrev pub are_ranges_within_limits : List Range → Bool
+are_ranges_within_limits rs = nat_le (length rs) 16 && nat_le (sum_by (λ r. r.len) rs) (2 ^ 22)
 
 -- of several refusals of a plan, the first that is there
-abbrev pub first_given_refusal : {T : Type 0} → List (Option T) → Option T
-first_given_refusal [] = None
-first_given_refusal (o ∷ os) = option_or o (first_given_refusal os)
+abbrev pub first_some : {T : Type 0} → List (Option T) → Option T
+first_some [] = None
+first_some (o ∷ os) = option_or o (first_some os)
 
 -- the key with this number, of an array in a plan's data that isn't within its limits
 abbrev pub key_unless : Bool → ℕ → Option PlanKey
-key_unless few key = if few then None else Some (refused_key key)
+key_unless few key = if few then None else Some (plan_key_of key)
 
 -- for each array in a plan's data its key, if the array has too many elements, or too many bytes in
 -- its ranges
-abbrev pub exceeded_limits : PlanData → List (Option PlanKey)
-exceeded_limits p =
-    key_unless (are_ranges_few p.rom) 1 ∷
-    key_unless (are_ranges_few p.ram) 4 ∷
+abbrev pub keys_over_limit : PlanData → List (Option PlanKey)
+keys_over_limit p =
+    key_unless (are_ranges_within_limits p.rom) 1 ∷
+    key_unless (are_ranges_within_limits p.ram) 4 ∷
     key_unless (nat_le (length p.devices) 16) 7 ∷
     key_unless (nat_le (length p.irqs) 32) 20 ∷
     []
@@ -173,7 +173,7 @@ exceeded_limits p =
 -- the key of the first array in a plan's data with too many elements, or with too many bytes in its
 -- ranges
 unfoldable pub first_oversized_array : PlanData → Option PlanKey
-first_oversized_array p = first_given_refusal (exceeded_limits p)
+first_oversized_array p = first_some (keys_over_limit p)
 
 -- what holds of every plan's save areas: 1 to 4096 from `at` on in a segment of 2^22 bytes, first
 -- link not 0, 1 or more in reserve (TriCore 1 Architecture Manual V1.3, volume 1, contexts)
@@ -189,11 +189,11 @@ unfoldable pub has_even_vectors : PlanData → Bool
 has_even_vectors p = (p.biv % 2 == 0) && (p.btv % 2 == 0)
 
 -- the first pair in a list of a plan's ranges that shares a byte; the ranges are numbered from i on
-abbrev pub overlap_from : ℕ → List Range → Option PlanErr
-overlap_from i [] = None
-overlap_from i (r ∷ rs) = option_map_or (λ k. Some (Overlap i (i + 1 + k))) (position (λ s. not (are_ranges_apart r s)) rs) (overlap_from (i + 1) rs)
+abbrev pub first_overlap_from : ℕ → List Range → Option PlanErr
+first_overlap_from i [] = None
+first_overlap_from i (r ∷ rs) = option_map_or (λ k. Some (Overlap i (i + 1 + k))) (position (λ s. not (are_ranges_disjoint r s)) rs) (first_overlap_from (i + 1) rs)
 
 -- the refusal of a plan's data if two of its ranges overlap: the numbers of the first pair that
 -- shares a byte
 unfoldable pub plan_range_overlap : PlanData → Option PlanErr
-plan_range_overlap p = overlap_from 0 (all_ranges p)
+plan_range_overlap p = first_overlap_from 0 (all_ranges p)

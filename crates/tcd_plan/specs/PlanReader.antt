@@ -10,10 +10,10 @@ use Rattle.tcd_base.specs.declared.core_version.Core.{Core}
 use Rattle.tcd_base.specs.declared.core_version.Core.TheVariants.{V13, V16}
 use Rattle.tcd_plan.specs.Keys.{key_texts}
 use Rattle.tcd_plan.specs.Objects.{plan_objects_of}
-use Rattle.tcd_plan.specs.JsonValues.{json_elements_of, is_object, is_json_text, json_number_of, json_word_at, json_word_in}
-use Rattle.tcd_plan.specs.KeyFaults.{first_bad_key, first_missing_key, first_unknown_key}
-use Rattle.tcd_plan.specs.ValueForms.{is_present_and_passing}
-use Rattle.tcd_plan.specs.PlanData.{PlanData, first_given_refusal, has_valid_areas, has_even_vectors, first_oversized_array, plan_range_overlap}
+use Rattle.tcd_plan.specs.JsonValues.{json_elements_or_empty, is_object, is_json_text, json_number_of, json_word_at, json_nested_number}
+use Rattle.tcd_plan.specs.KeyFaults.{first_bad_key, first_missing_key, first_object_with_unknown_key}
+use Rattle.tcd_plan.specs.ValueForms.{is_some_and}
+use Rattle.tcd_plan.specs.PlanData.{PlanData, first_some, has_valid_areas, has_even_vectors, first_oversized_array, plan_range_overlap}
 use Rattle.tcd_plan.specs.declared.plans.Device.{Device}
 use Rattle.tcd_plan.specs.declared.plans.PlanErr.{PlanErr}
 use Rattle.tcd_plan.specs.declared.plans.PlanErr.TheVariants.{NotJson, Missing, Unknown, BadValue, TooMany, BadCsa, BadVector, Overlap, NoMemory}
@@ -34,31 +34,31 @@ irq_of q = unwrap_or (json_number_of q) 0
 
 -- the version of the core in a plan's document; V13 if the key is absent
 abbrev pub core_of : Data → Core
-core_of d = if is_present_and_passing (is_json_text (codes "1.6")) (get (codes "core") d) then V16 else V13
+core_of d = if is_some_and (is_json_text (codes "1.6")) (get (codes "core") d) then V16 else V13
 
 -- the words of A0, A1, A8 and A9 at the start, in a plan's document
 abbrev pub plan_globals_of : Data → List ℕ
-plan_globals_of d = map (λ name. json_word_in (codes "globals") name d) (codes "a0" ∷ codes "a1" ∷ codes "a8" ∷ codes "a9" ∷ [])
+plan_globals_of d = map (λ name. json_nested_number (codes "globals") name d) (codes "a0" ∷ codes "a1" ∷ codes "a8" ∷ codes "a9" ∷ [])
 
 -- the plan in a document that isn't refused
-unfoldable pub plan_in : Data → PlanData
-plan_in d = record {
+unfoldable pub unchecked_plan_of : Data → PlanData
+unchecked_plan_of d = record {
   rom = map plan_range_of (plan_objects_of Rom d);
   ram = map plan_range_of (plan_objects_of Ram d);
   devices = map plan_device_of (plan_objects_of Devices d);
-  csa_at = json_word_in (codes "csa") (codes "at") d;
-  areas = json_word_in (codes "csa") (codes "areas") d;
-  reserve = json_word_in (codes "csa") (codes "reserve") d;
+  csa_at = json_nested_number (codes "csa") (codes "at") d;
+  areas = json_nested_number (codes "csa") (codes "areas") d;
+  reserve = json_nested_number (codes "csa") (codes "reserve") d;
   sp = json_word_at (codes "sp") d;
   isp = json_word_at (codes "isp") d;
   biv = json_word_at (codes "biv") d;
   btv = json_word_at (codes "btv") d;
-  irqs = map irq_of (json_elements_of (codes "irqs") d);
-  sys = list_any (is_json_text (codes "sys")) (json_elements_of (codes "traps") d);
-  aln = list_any (is_json_text (codes "aln")) (json_elements_of (codes "traps") d);
-  start_ie = json_word_in (codes "start") (codes "ie") d == 1;
-  start_ccpn = json_word_in (codes "start") (codes "ccpn") d;
-  start_is = json_word_in (codes "start") (codes "is") d == 1;
+  irqs = map irq_of (json_elements_or_empty (codes "irqs") d);
+  sys = list_any (is_json_text (codes "sys")) (json_elements_or_empty (codes "traps") d);
+  aln = list_any (is_json_text (codes "aln")) (json_elements_or_empty (codes "traps") d);
+  start_ie = json_nested_number (codes "start") (codes "ie") d == 1;
+  start_ccpn = json_nested_number (codes "start") (codes "ccpn") d;
+  start_is = json_nested_number (codes "start") (codes "is") d == 1;
   globals = plan_globals_of d;
   core = core_of d;
 }
@@ -68,25 +68,25 @@ abbrev pub refusal_if : Bool → PlanErr → Option PlanErr
 refusal_if b e = if b then Some e else None
 
 -- the refusals of a plan's document that apply, in the order of their numbers
-abbrev pub refusals : Data → List (Option PlanErr)
-refusals d =
+abbrev pub plan_refusals : Data → List (Option PlanErr)
+plan_refusals d =
     refusal_if (not (is_object d)) NotJson ∷
     option_map Missing (first_missing_key d) ∷
-    option_map Unknown (first_unknown_key d) ∷
+    option_map Unknown (first_object_with_unknown_key d) ∷
     option_map BadValue (first_bad_key d) ∷
-    option_map TooMany (first_oversized_array (plan_in d)) ∷
-    refusal_if (not (has_valid_areas (plan_in d))) BadCsa ∷
-    refusal_if (not (has_even_vectors (plan_in d))) BadVector ∷
-    plan_range_overlap (plan_in d) ∷
+    option_map TooMany (first_oversized_array (unchecked_plan_of d)) ∷
+    refusal_if (not (has_valid_areas (unchecked_plan_of d))) BadCsa ∷
+    refusal_if (not (has_even_vectors (unchecked_plan_of d))) BadVector ∷
+    plan_range_overlap (unchecked_plan_of d) ∷
     []
 
 -- the first refusal of a plan's document, if there is one
 unfoldable pub plan_refusal : Data → Option PlanErr
-plan_refusal d = first_given_refusal (refusals d)
+plan_refusal d = first_some (plan_refusals d)
 
 -- the plan in a document, or the first refusal
 abbrev pub plan_of : Data → Result PlanData PlanErr
-plan_of d = option_map_or Err (plan_refusal d) (Ok (plan_in d))
+plan_of d = option_map_or Err (plan_refusal d) (Ok (unchecked_plan_of d))
 
 -- the bytes are the text of a document, as serde_json reads it, that gives the answer
 abbrev pub GivesPlan : List ℕ → Result PlanData PlanErr → Type 0
@@ -94,17 +94,17 @@ GivesPlan bytes r = (d : Data) × IsUtf8 bytes × (read bytes ≡ Some d) × (pl
 
 -- an answer for a file's bytes: NotJson if they are not the text of a JSON object, else the
 -- document's answer; out of memory is always possible
-abbrev pub AnswersPlan : List ℕ → Result PlanData PlanErr → Type 0
-AnswersPlan bytes (Err NoMemory) = Unit {0}
-AnswersPlan bytes (Err NotJson) = (d : Data) → IsUtf8 bytes → read bytes ≡ Some d → plan_of d ≡ Err NotJson
-AnswersPlan bytes (Err (Missing key)) = GivesPlan bytes (Err (Missing key))
-AnswersPlan bytes (Err (Unknown key)) = GivesPlan bytes (Err (Unknown key))
-AnswersPlan bytes (Err (BadValue key)) = GivesPlan bytes (Err (BadValue key))
-AnswersPlan bytes (Err (TooMany key)) = GivesPlan bytes (Err (TooMany key))
-AnswersPlan bytes (Err BadCsa) = GivesPlan bytes (Err BadCsa)
-AnswersPlan bytes (Err BadVector) = GivesPlan bytes (Err BadVector)
-AnswersPlan bytes (Err (Overlap i j)) = GivesPlan bytes (Err (Overlap i j))
-AnswersPlan bytes (Ok p) = GivesPlan bytes (Ok p)
+abbrev pub IsPlanResult : List ℕ → Result PlanData PlanErr → Type 0
+IsPlanResult bytes (Err NoMemory) = Unit {0}
+IsPlanResult bytes (Err NotJson) = (d : Data) → IsUtf8 bytes → read bytes ≡ Some d → plan_of d ≡ Err NotJson
+IsPlanResult bytes (Err (Missing key)) = GivesPlan bytes (Err (Missing key))
+IsPlanResult bytes (Err (Unknown key)) = GivesPlan bytes (Err (Unknown key))
+IsPlanResult bytes (Err (BadValue key)) = GivesPlan bytes (Err (BadValue key))
+IsPlanResult bytes (Err (TooMany key)) = GivesPlan bytes (Err (TooMany key))
+IsPlanResult bytes (Err BadCsa) = GivesPlan bytes (Err BadCsa)
+IsPlanResult bytes (Err BadVector) = GivesPlan bytes (Err BadVector)
+IsPlanResult bytes (Err (Overlap i j)) = GivesPlan bytes (Err (Overlap i j))
+IsPlanResult bytes (Ok p) = GivesPlan bytes (Ok p)
 
 -- a refusal by the reader of plans names no key, or a key that has a text to print
 abbrev pub HasPrintedKey : PlanErr → Type 0
@@ -119,5 +119,5 @@ pub record HasShortPlanArrays (d : Data) : Type 0 where
   pub rom : length (plan_objects_of Rom d) ≤ 16
   pub ram : length (plan_objects_of Ram d) ≤ 16
   pub devices : length (plan_objects_of Devices d) ≤ 16
-  pub irqs : length (json_elements_of (codes "irqs") d) ≤ 32
-  pub areas : json_word_in (codes "csa") (codes "areas") d ≤ 4096
+  pub irqs : length (json_elements_or_empty (codes "irqs") d) ≤ 32
+  pub areas : json_nested_number (codes "csa") (codes "areas") d ≤ 4096

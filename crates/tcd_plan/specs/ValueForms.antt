@@ -9,13 +9,13 @@ use Rattle.tcd_plan.specs.declared.key_table.ValueForm.{ValueForm}
 use Rattle.tcd_plan.specs.declared.key_table.ValueForm.TheVariants.{Ranges, Objects, Object, At, Len, Hi, Word, Byte, Truth, Irqs, Traps, CoreText}
 
 -- a value has its form: it is there, and passes the test of the form
-abbrev pub is_present_and_passing : {T : Type 0} → (T → Bool) → Option T → Bool
-is_present_and_passing test o = option_map_or test o false
+abbrev pub is_some_and : {T : Type 0} → (T → Bool) → Option T → Bool
+is_some_and test o = option_map_or test o false
 
 -- the form of the value of a plan's key `irqs`: ascending numbers above `low`, up to 255
 abbrev pub are_irqs_above : ℕ → List Data → Bool
 are_irqs_above low [] = true
-are_irqs_above low (d ∷ ds) = is_present_and_passing (λ q. nat_lt low q && nat_lt q 256 && are_irqs_above q ds) (json_number_of d)
+are_irqs_above low (d ∷ ds) = is_some_and (λ q. nat_lt low q && nat_lt q 256 && are_irqs_above q ds) (json_number_of d)
 
 -- the text of a trap that a plan may state
 abbrev pub is_trap_text : Data → Bool
@@ -35,15 +35,15 @@ is_core_text o = option_map_or (λ d. is_json_text (codes "1.3") d || is_json_te
 
 -- the value of a key in an object has the form
 abbrev pub has_value_form : ValueForm → List ℕ → Data → Bool
-has_value_form Ranges name o = is_present_and_passing (λ ds. nat_lt 0 (length ds) && list_all is_object ds) (json_elements_at name o)
-has_value_form Objects name o = is_present_and_passing (list_all is_object) (json_elements_at name o)
-has_value_form Object name o = is_present_and_passing is_object (get name o)
-has_value_form At name o = is_present_and_passing (λ n. n % 4 == 0) (json_number_at name o)
-has_value_form Len name o = is_present_and_passing (is_range_len (json_word_at (codes "at") o)) (json_number_at name o)
-has_value_form Hi name o = is_present_and_passing (λ n. nat_le (json_word_at (codes "lo") o) n) (json_number_at name o)
+has_value_form Ranges name o = is_some_and (λ ds. nat_lt 0 (length ds) && list_all is_object ds) (json_elements_at name o)
+has_value_form Objects name o = is_some_and (list_all is_object) (json_elements_at name o)
+has_value_form Object name o = is_some_and is_object (get name o)
+has_value_form At name o = is_some_and (λ n. n % 4 == 0) (json_number_at name o)
+has_value_form Len name o = is_some_and (is_range_len (json_word_at (codes "at") o)) (json_number_at name o)
+has_value_form Hi name o = is_some_and (λ n. nat_le (json_word_at (codes "lo") o) n) (json_number_at name o)
 has_value_form Word name o = is_some (json_number_at name o)
-has_value_form Byte name o = is_present_and_passing (λ n. nat_lt n 256) (json_number_at name o)
-has_value_form Truth name o = is_present_and_passing (λ n. nat_lt n 2) (json_number_at name o)
-has_value_form Irqs name o = is_present_and_passing (are_irqs_above 0) (json_elements_at name o)
-has_value_form Traps name o = is_present_and_passing are_traps (json_elements_at name o)
+has_value_form Byte name o = is_some_and (λ n. nat_lt n 256) (json_number_at name o)
+has_value_form Truth name o = is_some_and (λ n. nat_lt n 2) (json_number_at name o)
+has_value_form Irqs name o = is_some_and (are_irqs_above 0) (json_elements_at name o)
+has_value_form Traps name o = is_some_and are_traps (json_elements_at name o)
 has_value_form CoreText name o = is_core_text (get name o)

@@ -3,7 +3,7 @@ ghost use Rattle.std.specs.Prelude.{◌≡◌, ◌<◌, ◌≤◌, ◌^◌, Some
 ghost use Rattle.std.specs.List.{list_all, list_any};
 ghost use Rattle.std.specs.Str.Parse.{digits_value};
 ghost use Rattle.serde_json.specs.View.{view};
-ghost use Rattle.tcd_plan.specs.JsonValues.{is_json_hex, is_json_text, json_number_of, json_number_at, json_elements_at, json_text_word, json_word_at, json_word_in, json_elements_of};
+ghost use Rattle.tcd_plan.specs.JsonValues.{is_json_hex, is_json_text, json_number_of, json_number_at, json_elements_at, json_text_number, json_word_at, json_nested_number, json_elements_or_empty};
 
 use serde_json::Value;
 
@@ -35,7 +35,7 @@ pub fn json_word_at(value: &Value, name: &str) -> u32
 
 /// Returns the number at a key of the object at another key, or 0 if there is none.
 pub fn json_nested_number(value: &Value, outer: &str, name: &str) -> u32
-    ensures { result ≡ json_word_in outer.now name.now (view value.now) }
+    ensures { result ≡ json_nested_number outer.now name.now (view value.now) }
 {
     match value.get(outer) {
         Some(inner) => json_word_at(inner, name),
@@ -64,7 +64,7 @@ pub fn json_number_of(value: &Value) -> Option<u32>
 
 /// Returns the elements of the array with this key in the document.
 pub fn json_elements_or_empty<'a>(value: &'a Value, name: &str) -> &'a [Value]
-    ensures { map view result.now ≡ json_elements_of name.now (view value.now) }
+    ensures { map view result.now ≡ json_elements_or_empty name.now (view value.now) }
 {
     json_elements_at(value, name).unwrap_or(&[])
 }
@@ -78,15 +78,15 @@ pub fn has_json_text(places: &[Value], text: &str) -> bool
 
 /// Reads a number below 256 at a key of an object in the document.
 pub fn json_nested_byte(value: &Value, outer: &str, name: &str) -> u8
-    requires { json_word_in outer.now name.now (view value.now) < 2 ^ 8 }
-    ensures { result ≡ json_word_in outer.now name.now (view value.now) }
+    requires { json_nested_number outer.now name.now (view value.now) < 2 ^ 8 }
+    ensures { result ≡ json_nested_number outer.now name.now (view value.now) }
 {
     json_nested_number(value, outer, name) as u8
 }
 
 /// Returns the number that a JSON text spells: `0x` with 1 to 8 hex digits.
 fn json_text_number(text: &[u8]) -> Option<u32>
-    ensures { result ≡ json_text_word text.now }
+    ensures { result ≡ json_text_number text.now }
 {
     match text {
         [b'0', b'x', digits @ ..] if !digits.is_empty() && digits.len() <= 8 => json_hex_value(

@@ -3,8 +3,8 @@ ghost use Rattle.std.specs.Prelude.{◌≡◌, map, option_map, string_bytes};
 ghost use Rattle.std.specs.List.{find, list_all, list_any};
 ghost use Rattle.std.specs.BTreeMap.{keys};
 ghost use Rattle.serde_json.specs.View.{view};
-ghost use Rattle.tcd_plan.specs.KeyRows.{holder_key, row_of, is_row_of_key};
-ghost use Rattle.tcd_plan.specs.KeyFaults.{may_key_be_absent, has_unknown_key, is_key_value_bad, is_known_key, lacks_key, first_bad_key, first_missing_key, refused_key, first_unknown_key};
+ghost use Rattle.tcd_plan.specs.KeyRows.{parent_key, row_of, is_row_of_key};
+ghost use Rattle.tcd_plan.specs.KeyFaults.{may_key_be_absent, has_unknown_key, is_key_value_bad, is_known_key, lacks_key, first_bad_key, first_missing_key, plan_key_of, first_object_with_unknown_key};
 ghost use Rattle.tcd_plan.specs.Objects.{plan_objects_of};
 ghost use Rattle.tcd_plan.specs.ValueForms.{has_value_form};
 
@@ -39,7 +39,7 @@ pub fn first_bad_key(value: &Value) -> Option<PlanKey>
 
 /// Returns the first object, or array of objects, with a key that isn't one of its own.
 pub fn first_object_with_unknown_key(value: &Value) -> Option<PlanKey>
-    ensures { result ≡ first_unknown_key (view value.now) }
+    ensures { result ≡ first_object_with_unknown_key (view value.now) }
 {
     key_of_parent(
         key_parents()
@@ -65,7 +65,7 @@ pub(crate) fn may_key_be_absent(form: ValueForm) -> bool
 /// Returns the key that a refusal names: that of the first row of the table that has the fault, if
 /// there is such a row.
 fn key_of_refused_row(row: Option<&Row>) -> Option<PlanKey>
-    ensures { result ≡ option_map (λ r. refused_key r.now.key) row.entry }
+    ensures { result ≡ option_map (λ r. plan_key_of r.now.key) row.entry }
 {
     row.map(|row| PlanKey(row.key))
 }
@@ -92,7 +92,7 @@ fn has_object_with_bad_value(row: &Row, value: &Value) -> bool
 
 /// Returns the key of a parent, if there is one.
 fn key_of_parent(parent: Option<&KeyParent>) -> Option<PlanKey>
-    ensures { result ≡ option_map (λ h. refused_key (holder_key h.now)) parent.entry }
+    ensures { result ≡ option_map (λ h. plan_key_of (parent_key h.now)) parent.entry }
 {
     parent.map(|parent| PlanKey(parent_key(*parent)))
 }

@@ -1,7 +1,7 @@
 // The table of keys: the object that each key is in, and the form of its value.
 ghost use Rattle.std.specs.Prelude.{◌≡◌, map, true};
 ghost use Rattle.std.specs.List.{list_all, range_with_len};
-ghost use Rattle.tcd_plan.specs.KeyRows.{holder_key, holders, has_matching_key_text, key_rows, row_of, is_row_of_key};
+ghost use Rattle.tcd_plan.specs.KeyRows.{parent_key, key_parents, has_matching_key_text, key_rows, row_of, is_row_of_key};
 
 /// The number of the key `root`, which is the whole document.
 const ROOT: u8 = 0;
@@ -288,14 +288,14 @@ pub fn key_table_rows() -> &'static [Row]
 
 /// Returns the objects of a document, in the order in which their keys are printed.
 pub fn key_parents() -> &'static [KeyParent]
-    ensures { result.now ≡ holders }
+    ensures { result.now ≡ key_parents }
 {
     &KEY_PARENTS
 }
 
 /// Returns the number of the key that an object has in the document.
 pub fn parent_key(parent: KeyParent) -> u8
-    ensures { result ≡ holder_key parent }
+    ensures { result ≡ parent_key parent }
 {
     match parent {
         KeyParent::Root => ROOT,

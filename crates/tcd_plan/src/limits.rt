@@ -1,8 +1,8 @@
 // Refusals by values: arrays that are too long, save areas, vectors, and ranges that overlap.
 ghost use Rattle.std.specs.Prelude.{◌≡◌, ◌<◌, ◌≤◌, ◌+◌, IfSome, None, length, map, not, position, sum_by};
 ghost use Rattle.serde_json.specs.View.{view};
-ghost use Rattle.tcd_plan.specs.PlanData.{areas_range, are_ranges_apart, are_valid_areas, are_ranges_few, has_valid_areas, has_even_vectors, first_oversized_array, overlap_from, plan_range_overlap};
-ghost use Rattle.tcd_plan.specs.PlanReader.{HasShortPlanArrays, plan_range_of, plan_in};
+ghost use Rattle.tcd_plan.specs.PlanData.{areas_range, are_ranges_disjoint, are_valid_areas, are_ranges_within_limits, has_valid_areas, has_even_vectors, first_oversized_array, first_overlap_from, plan_range_overlap};
+ghost use Rattle.tcd_plan.specs.PlanReader.{HasShortPlanArrays, plan_range_of, unchecked_plan_of};
 
 use crate::json_values::{json_elements_or_empty, json_word_at, json_nested_number};
 use crate::key_table::{DEVICES, KeyParent, IRQS, RAM, ROM};
@@ -15,9 +15,9 @@ use tcd_base::Range;
 
 /// Returns the key of a plan's first array with too many elements, or with too many bytes in its
 /// ranges.
-#[tactic(auto, unfolding(crate::specs::PlanReader::plan_in, crate::specs::PlanData::first_oversized_array))]
+#[tactic(auto, unfolding(crate::specs::PlanReader::unchecked_plan_of, crate::specs::PlanData::first_oversized_array))]
 pub fn first_oversized_array(value: &Value) -> Option<PlanKey>
-    ensures { result ≡ first_oversized_array (plan_in (view value.now)) }
+    ensures { result ≡ first_oversized_array (unchecked_plan_of (view value.now)) }
 {
     if !are_ranges_within_limits(plan_objects_of(KeyParent::Rom, value)) {
         return Some(PlanKey(ROM));
@@ -35,9 +35,9 @@ pub fn first_oversized_array(value: &Value) -> Option<PlanKey>
 }
 
 /// Returns true if the save areas are within their limits.
-#[tactic(auto, unfolding(crate::specs::PlanReader::plan_in, crate::specs::PlanData::has_valid_areas))]
+#[tactic(auto, unfolding(crate::specs::PlanReader::unchecked_plan_of, crate::specs::PlanData::has_valid_areas))]
 pub fn has_valid_areas(value: &Value) -> bool
-    ensures { result ≡ has_valid_areas (plan_in (view value.now)) }
+    ensures { result ≡ has_valid_areas (unchecked_plan_of (view value.now)) }
 {
     are_valid_areas(
         json_nested_number(value, "csa", "at"),
@@ -47,9 +47,9 @@ pub fn has_valid_areas(value: &Value) -> bool
 }
 
 /// Returns true if BIV and BTV are even.
-#[tactic(auto, unfolding(crate::specs::PlanReader::plan_in, crate::specs::PlanData::has_even_vectors))]
+#[tactic(auto, unfolding(crate::specs::PlanReader::unchecked_plan_of, crate::specs::PlanData::has_even_vectors))]
 pub fn has_even_vectors(value: &Value) -> bool
-    ensures { result ≡ has_even_vectors (plan_in (view value.now)) }
+    ensures { result ≡ has_even_vectors (unchecked_plan_of (view value.now)) }
 {
     json_word_at(value, "biv") % 2 == 0 && json_word_at(value, "btv") % 2 == 0
 }
@@ -58,7 +58,7 @@ pub fn has_even_vectors(value: &Value) -> bool
 /// save areas.
 pub fn plan_range_overlap(value: &Value) -> Option<PlanErr>
     requires { HasShortPlanArrays (view value.now) }
-    ensures { result ≡ plan_range_overlap (plan_in (view value.now)) }
+    ensures { result ≡ plan_range_overlap (unchecked_plan_of (view value.now)) }
 {
     let mut ranges: ArrayVec<Range, 49> = ArrayVec::new();
     push_ranges(&mut ranges, plan_objects_of(KeyParent::Rom, value));
@@ -71,7 +71,7 @@ pub fn plan_range_overlap(value: &Value) -> Option<PlanErr>
 /// Returns true if a plan's rom or ram is within its limits: there are at most 16 ranges, with at
 /// most 2^22 bytes together.
 fn are_ranges_within_limits(objects: &[Value]) -> bool
-    ensures { result ≡ are_ranges_few (map plan_range_of (map view objects.now)) }
+    ensures { result ≡ are_ranges_within_limits (map plan_range_of (map view objects.now)) }
 {
     objects.len() <= 16 && total_len(objects) <= 1 << 22
 }
@@ -107,7 +107,7 @@ fn are_valid_areas(at: u32, areas: u32, reserve: u32) -> bool
 /// that shares a byte, by their numbers.
 fn first_overlap(ranges: &[Range]) -> Option<PlanErr>
     requires { length ranges.now ≤ 49 }
-    ensures { result ≡ overlap_from 0 ranges.now }
+    ensures { result ≡ first_overlap_from 0 ranges.now }
 {
     for i in 0..ranges.len() {
         let range = ranges[i];
@@ -120,7 +120,7 @@ fn first_overlap(ranges: &[Range]) -> Option<PlanErr>
 
 /// Returns the place of the first of the others that shares a byte with a range.
 fn first_overlapping_range(range: Range, others: &[Range]) -> Option<usize>
-    ensures value { result ≡ position (λ other. not (are_ranges_apart range other)) others.now }
+    ensures value { result ≡ position (λ other. not (are_ranges_disjoint range other)) others.now }
     ensures within { IfSome result (λ k. k < length others.now) }
 {
     others
@@ -130,7 +130,7 @@ fn first_overlapping_range(range: Range, others: &[Range]) -> Option<usize>
 
 /// Returns true if two ranges of a plan share no byte.
 fn are_ranges_disjoint(range: &Range, other: &Range) -> bool
-    ensures { result ≡ are_ranges_apart range.now other.now }
+    ensures { result ≡ are_ranges_disjoint range.now other.now }
 {
     range.end() <= u64::from(other.at) || other.end() <= u64::from(range.at)
 }

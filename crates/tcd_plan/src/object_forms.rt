@@ -2,7 +2,7 @@
 ghost use Rattle.std.specs.Prelude.{◌≡◌, [], map, count_by, option_map};
 ghost use Rattle.std.specs.List.{list_all};
 ghost use Rattle.serde_json.specs.View.{view};
-ghost use Rattle.tcd_plan.specs.Objects.{plan_objects_at, plan_object_at, plan_objects_of};
+ghost use Rattle.tcd_plan.specs.Objects.{array_objects_at, single_object_at, plan_objects_of};
 ghost use Rattle.tcd_plan.specs.ValueForms.{are_traps, are_irqs_above, has_value_form, is_core_text, is_range_len, is_trap_text};
 ghost use Rattle.tcd_plan.specs.JsonValues.{is_object, is_json_text, json_number_of};
 
@@ -57,7 +57,7 @@ pub fn has_value_form(form: ValueForm, name: &str, object: &Value) -> bool
 /// Returns the objects of a document in the array at a key, so that their values can be tested;
 /// none unless the value is an array of objects alone.
 fn array_objects_at<'a>(value: &'a Value, name: &str) -> &'a [Value]
-    ensures { map view result.now ≡ plan_objects_at name.now (view value.now) }
+    ensures { map view result.now ≡ array_objects_at name.now (view value.now) }
 {
     match json_elements_at(value, name) {
         Some(places) if are_objects(places) => places,
@@ -68,7 +68,7 @@ fn array_objects_at<'a>(value: &'a Value, name: &str) -> &'a [Value]
 /// Returns the object of a document at one key, as a list of one, so that its values can be tested;
 /// the list is empty if no object is there.
 fn single_object_at<'a>(value: &'a Value, name: &str) -> &'a [Value]
-    ensures { map view result.now ≡ plan_object_at name.now (view value.now) }
+    ensures { map view result.now ≡ single_object_at name.now (view value.now) }
 {
     match value.get(name) {
         Some(inner) if inner.is_object() => slice::from_ref(inner),

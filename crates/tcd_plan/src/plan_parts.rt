@@ -1,8 +1,8 @@
 // Reads the parts of a plan from its document.
 ghost use Rattle.std.specs.Prelude.{◌≡◌, ◌<◌, ◌≤◌, ◌+◌, ◌^◌, ◌++◌, All, length, map};
 ghost use Rattle.serde_json.specs.View.{view};
-ghost use Rattle.tcd_plan.specs.PlanReader.{core_of, plan_device_of, plan_globals_of, irq_of, plan_range_of, HasShortPlanArrays, plan_in};
-ghost use Rattle.tcd_plan.specs.JsonValues.{is_json_text, json_word_in};
+ghost use Rattle.tcd_plan.specs.PlanReader.{core_of, plan_device_of, plan_globals_of, irq_of, plan_range_of, HasShortPlanArrays, unchecked_plan_of};
+ghost use Rattle.tcd_plan.specs.JsonValues.{is_json_text, json_nested_number};
 ghost use Rattle.tcd_plan.specs.PlanData.{areas_range};
 
 use crate::Device;
@@ -89,10 +89,10 @@ pub fn plan_globals_of(value: &Value) -> [u32; 4]
 }
 
 /// Reads the range of the save areas, of 64 bytes each, from a plan's document.
-#[tactic(auto, unfolding(crate::specs::PlanReader::plan_in))]
+#[tactic(auto, unfolding(crate::specs::PlanReader::unchecked_plan_of))]
 pub(crate) fn areas_range(value: &Value) -> Range
     requires { HasShortPlanArrays (view value.now) }
-    ensures { result ≡ areas_range (plan_in (view value.now)) }
+    ensures { result ≡ areas_range (unchecked_plan_of (view value.now)) }
 {
     Range {
         at: json_nested_number(value, "csa", "at"),

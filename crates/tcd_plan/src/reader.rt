@@ -2,7 +2,7 @@
 ghost use Rattle.std.specs.Prelude.{◌≡◌, ◌≤◌, ◌^◌, ◌⊎◌, IfErr, None, length};
 ghost use Rattle.serde_json.specs.Errors.{IsMemory};
 ghost use Rattle.serde_json.specs.View.{view};
-ghost use Rattle.tcd_plan.specs.PlanReader.{AnswersPlan, HasPrintedKey, plan_of, plan_refusal, plan_in};
+ghost use Rattle.tcd_plan.specs.PlanReader.{IsPlanResult, HasPrintedKey, plan_of, plan_refusal, unchecked_plan_of};
 
 use crate::json_values::{
     has_json_text, json_nested_byte, json_elements_or_empty, json_word_at, json_nested_number,
@@ -20,7 +20,7 @@ impl Plan {
     /// Reads a plan from the bytes of a file. Only the reader of JSON allocates.
     pub fn read(alloc: Global, bytes: &[u8]) -> Result<Plan, PlanErr>
         requires { length bytes.now ≤ 2 ^ 30 }
-        ensures answer { AnswersPlan bytes.now result }
+        ensures answer { IsPlanResult bytes.now result }
         ensures keys { IfErr result HasPrintedKey }
     {
         match Value::from_slice(alloc, bytes) {
@@ -83,10 +83,10 @@ fn plan_refusal(value: &Value) -> Option<PlanErr>
 }
 
 /// Reads the whole plan from a document that isn't refused.
-#[tactic(auto, unfolding(crate::specs::PlanReader::plan_in))]
+#[tactic(auto, unfolding(crate::specs::PlanReader::unchecked_plan_of))]
 fn unchecked_plan_of(value: &Value) -> Plan
     requires { plan_refusal (view value.now) ≡ None }
-    ensures { result ≡ plan_in (view value.now) }
+    ensures { result ≡ unchecked_plan_of (view value.now) }
 {
     Plan {
         rom: ranges_of(plan_objects_of(KeyParent::Rom, value)),

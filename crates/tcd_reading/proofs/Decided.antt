@@ -4,7 +4,7 @@ use Rattle.std.specs.Prelude.{IsSomeAnd}
 use Rattle.std.specs.FinMap.{get}
 use Rattle.tcd_base.specs.Files.{FileMap}
 use Rattle.tcd_reading.specs.Reports.{Report, IsReportStatus}
-use Rattle.tcd_reading.specs.Inputs.{FormSeen, HoldsInput, IsInputRejection, long, bad, Reading, answer, input, each, ReadingSays, HoldsNeededInputs}
+use Rattle.tcd_reading.specs.Inputs.{FormSeen, HoldsInput, IsInputRejection, long, bad, Reading, answer, input, input_files, ReadingSays, HoldsNeededInputs}
 use Rattle.tcd_reading.specs.declared.status.Status.{Status}
 use Rattle.tcd_reading.specs.declared.status.Status.TheVariants.{Done, Refused, BadInput, Fault, BadWords}
 
@@ -56,7 +56,7 @@ pub decided_answer : (P : Report → Type 0) → AreAlike P → IsDecided (answe
 unfolding IsDecided
 decided_answer P h = h
 
-pub decided_each : (A : Type 0) (form : ℕ → FormSeen A) (place : ℕ) (names : List (List ℕ)) (next : List A → Reading) → ((n : ℕ) → IsLawful (form n)) → ((xs : List A) → IsDecided (next xs)) → IsDecided (each A form place names next)
+pub decided_each : (A : Type 0) (form : ℕ → FormSeen A) (place : ℕ) (names : List (List ℕ)) (next : List A → Reading) → ((n : ℕ) → IsLawful (form n)) → ((xs : List A) → IsDecided (next xs)) → IsDecided (input_files A form place names next)
 unfolding IsDecided
 decided_each A form place [] next lawful rest = rest []
 decided_each A form place (name ∷ names) next lawful rest = (lawful place, λ x. decided_each A form (place + 1) names (λ xs. next (x ∷ xs)) lawful (λ xs. rest (x ∷ xs)))

@@ -8,7 +8,7 @@ use Rattle.std.specs.Cmp.Lexicographic.{nat_list_cmp_total}
 use Rattle.std.proofs.lemmas.Bool.{cases_lt}
 use Rattle.std.proofs.lemmas.Map.Text.{is_eq-slice_cmp}
 use Rattle.std.proofs.lemmas.Slice.Eq.{bytes_eq-Decides}
-use Rattle.tcd_base.specs.Files.{FileMap, FilesSeen, OthersStay}
+use Rattle.tcd_base.specs.Files.{FileMap, FilesSeen, OtherFilesStay}
 use Rattle.tcd_base.specs.Sink.{SinkSeen, HasRoomFor}
 use Rattle.tcd_reading.specs.Reports.{ReportFile, Report, IsReportStatus, with_report_files, RejectsInput}
 use Rattle.tcd_reading.specs.Endings.{ReportWritingStopped, whole, cut, IsEndingWithReport, printed, unwritten, no_memory, HasEnded, Ends}
@@ -17,7 +17,7 @@ use Rattle.tcd_reading.specs.Inputs as inputs
 use Rattle.tcd_reading.proofs.Decided.{never_fault}
 use Rattle.tcd_reading.specs.Endings as ending
 use Rattle.tcd_reading.specs.EndingLaws.{HoldsLastWritten, WritingBreaksOff, HasEndedByLaw, EndsByLaw, EndingLaw, EndsInAllCasesByLaw, EndingLawInAllCases}
-use Rattle.tcd_base.specs.FailingCalls.{FaultCounted}
+use Rattle.tcd_base.specs.FailingCalls.{IsFaultCounted}
 use Rattle.tcd_reading.specs.ReportLaws.{ReportLaw, NeededInputsLaw}
 use Rattle.tcd_reading.specs.EndingLaws as so
 use Rattle.tcd_reading.specs.declared.status.Status.{Status}
@@ -73,7 +73,7 @@ some_of (Some n) P h = (n, refl, h)
 
 breaks_off : (m : FileMap) (held' : Option FileMap) (ws : List ReportFile) → ReportWritingStopped (Some m) held' ws → (n : FileMap) × (held' ≡ Some n) × WritingBreaksOff m n ws
 breaks_off m held' ws h =
-    let others : OthersStay h.at.name (Some (map_after m h.front)) held' = subst (λ (o : Option FileMap). OthersStay h.at.name o held') (after_is m h.front) h.others in
+    let others : OtherFilesStay h.at.name (Some (map_after m h.front)) held' = subst (λ (o : Option FileMap). OtherFilesStay h.at.name o held') (after_is m h.front) h.others in
     let p = some_of held' (λ n. (q : List ℕ) → q ≢ h.at.name → get n q ≡ get (map_after m h.front) q) others in (
       p.0,
       p.1,
@@ -92,7 +92,7 @@ none_written (w ∷ ws) = none_written ws
 
 none_stopped : (ws : List ReportFile) (held held' : Option FileMap) → held ≡ None → ReportWritingStopped held held' ws → held' ≡ None
 none_stopped ws held held' none h =
-    subst (λ (o : Option FileMap). OthersStay h.at.name o held') (ap (λ (o : Option FileMap). with_report_files o h.front) none ∙ none_written h.front) h.others
+    subst (λ (o : Option FileMap). OtherFilesStay h.at.name o held') (ap (λ (o : Option FileMap). with_report_files o h.front) none ∙ none_written h.front) h.others
 
 -- ---- the sink
 room_for : (sink : SinkSeen) (text : List ℕ) (n : ℕ) → sink.room ≡ Some n → length text ≤ n → HasRoomFor sink text
@@ -204,7 +204,7 @@ module _ (reading : Reading) (files files' : FilesSeen) (sink sink' : SinkSeen) 
   status_of (ending.no_memory e held quiet) fault memory = absurd (memory e)
 
   fault_of : ((report : Report) → ReadingSays reading files.held report → IsReportStatus report.status) → HasEnded reading files files' sink sink' result → result ≡ Fault
-      → FaultCounted files.faults files'.faults ⊎ FaultCounted sink.faults sink'.faults
+      → IsFaultCounted files.faults files'.faults ⊎ IsFaultCounted sink.faults sink'.faults
   fault_of statuses (ending.reported report says (printed is (whole e p))) f = absurd (never_fault report.status (statuses report says) (sym e ∙ f))
   fault_of statuses (ending.reported report says (printed is (cut e front counted full))) f = inr counted
   fault_of statuses (ending.reported report says (unwritten e quiet stopped counted unsteady)) f = inl counted

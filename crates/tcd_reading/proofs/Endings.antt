@@ -1,11 +1,11 @@
 -- How a command ends, from its outcome.
 use Rattle.std.proofs.Common.{◌≡◌, ◌≢◌, ◌≤◌, ◌⊎◌, ℕ, inl, inr, List, [], Option, Ok, Err, sym, ap, subst, ◌∙◌, arith}
 use Rattle.std.specs.Prelude.{IsTrue}
-use Rattle.tcd_base.specs.Files.{FileMap, FilesSeen, LeavesFaults}
+use Rattle.tcd_base.specs.Files.{FileMap, FilesSeen, KeepsFaultsIfSteady}
 use Rattle.tcd_base.specs.Sink.{SinkSeen}
-use Rattle.tcd_reading.specs.Reports.{ReportFile, Report, with_report_files, says}
+use Rattle.tcd_reading.specs.Reports.{ReportFile, Report, with_report_files, text_report}
 use Rattle.tcd_reading.specs.Endings.{ReportWritingStopped, FilesAndSinkStay, whole, cut, IsEndingWithReport, printed, unwritten, no_memory, FinishesOutcome, HasRoomForReports, Ends}
-use Rattle.tcd_reading.specs.Inputs.{Reading, ReadingSays, HasAllInputs, HasNotRead}
+use Rattle.tcd_reading.specs.Inputs.{Reading, ReadingSays, HasAllInputs, HasFailedToReadInput}
 use Rattle.tcd_reading.specs.Outcomes.{Outcome, IsCommandOutcome}
 use Rattle.tcd_reading.specs.Endings as ending
 use Rattle.tcd_reading.specs.declared.status.Status.{Status}
@@ -70,7 +70,7 @@ quiet_sink mid new sink sink' quiet = same_count sink.faults sink'.faults (ap (�
 
 -- ---- by the outcome
 reported_ends : (reading : Reading) (old mid new : FilesSeen) (sink sink' : SinkSeen) (o : Outcome) (r : Report) (result : Status) → IsDecided reading → IsCommandOutcome reading old mid o → ReadingSays reading old.held r →
-    IsEndingWithReport r mid new sink sink' result → LeavesFaults mid new → mid.faults ≤ new.faults → sink.faults ≤ sink'.faults → Ends reading old new sink sink' result
+    IsEndingWithReport r mid new sink sink' result → KeepsFaultsIfSteady mid new → mid.faults ≤ new.faults → sink.faults ≤ sink'.faults → Ends reading old new sink sink' result
 reported_ends reading old mid new sink sink' o r result decided comes said h leaves files_later sink_later =
     let here : IsEndingWithReport r old new sink sink' result = reported_since r reading old mid new sink sink' o result comes h in
     record {
@@ -87,11 +87,11 @@ reported_ends reading old mid new sink sink' o r result decided comes said h lea
       complete = complete_here reading decided r old new sink sink' result said here;
     }
 
-unread_ends : (reading : Reading) (old mid new : FilesSeen) (sink sink' : SinkSeen) (o : Outcome) (result : Status) → IsDecided reading → IsCommandOutcome reading old mid o → HasNotRead reading old mid → FilesAndSinkStay mid new sink sink' → result ≡ Fault → Ends reading old new sink sink' result
+unread_ends : (reading : Reading) (old mid new : FilesSeen) (sink sink' : SinkSeen) (o : Outcome) (result : Status) → IsDecided reading → IsCommandOutcome reading old mid o → HasFailedToReadInput reading old mid → FilesAndSinkStay mid new sink sink' → result ≡ Fault → Ends reading old new sink sink' result
 unread_ends reading old mid new sink sink' o result decided comes failed quiet e =
     let held : new.held ≡ old.held = ap (λ (f : FilesSeen). f.held) quiet.files_stay ∙ comes.held in
     record {
-      ended = ending.unread e held quiet.sink_stays (subst (λ (f : FilesSeen). HasNotRead reading old f) (sym quiet.files_stay) failed).counted failed.unsure;
+      ended = ending.unread e held quiet.sink_stays (subst (λ (f : FilesSeen). HasFailedToReadInput reading old f) (sym quiet.files_stay) failed).counted failed.unsure;
       no_bad_words = λ f. cc;
       statuses = λ q says. said_told reading old.held q decided says;
       only_done = only_done_by reading old.held decided;
@@ -124,6 +124,6 @@ memory_ends reading old mid new sink sink' o result decided comes quiet e =
 pub ends : (reading : Reading) (old mid new : FilesSeen) (sink sink' : SinkSeen) (o : Outcome) (result : Status) → IsDecided reading → IsCommandOutcome reading old mid o → FinishesOutcome o mid new sink sink' result → Ends reading old new sink sink' result
 ends reading old mid new sink sink' (Ok r) result decided comes f = reported_ends reading old mid new sink sink' (Ok r) r result decided comes comes.told f.0 f.1 f.2 f.3
 ends reading old mid new sink sink' (Err (stop.BadInput line)) result decided comes f =
-    reported_ends reading old mid new sink sink' (Err (stop.BadInput line)) (says BadInput line.items) result decided comes comes.told f.0 f.1 f.2 f.3
+    reported_ends reading old mid new sink sink' (Err (stop.BadInput line)) (text_report BadInput line.items) result decided comes comes.told f.0 f.1 f.2 f.3
 ends reading old mid new sink sink' (Err stop.Unread) result decided comes f = unread_ends reading old mid new sink sink' (Err stop.Unread) result decided comes comes.told f.0 f.1
 ends reading old mid new sink sink' (Err stop.NoMemory) result decided comes f = memory_ends reading old mid new sink sink' (Err stop.NoMemory) result decided comes f.0 f.1

@@ -9,7 +9,7 @@ use Rattle.tcd_reading.specs.Inputs.{Reading, ReadingSays, HoldsNeededInputs}
 use Rattle.tcd_reading.specs.Endings.{Ends}
 use Rattle.tcd_reading.specs.declared.status.Status.{Status}
 use Rattle.tcd_reading.specs.declared.status.Status.TheVariants.{Done, Refused, BadInput, Fault, NoMemory, BadWords}
-use Rattle.tcd_base.specs.FailingCalls.{FaultCounted}
+use Rattle.tcd_base.specs.FailingCalls.{IsFaultCounted}
 
 -- ---- files and faults
 -- a law of endings says this of a name: it holds the bytes of the last of these files with that
@@ -51,16 +51,16 @@ pub data HasEndedByLaw (reading : Reading) (files files' : FilesSeen) (sink sink
       → HasEndedByLaw reading files files' sink sink' m m' text text' result
   cut :
       (report : Report) → ReadingSays reading (Some m) report → result ≡ Fault → ((name : List ℕ) → HoldsLastWritten m m' report.writes name)
-      → (front rest : List ℕ) → report.text ≡ front ++ rest → text' ≡ text ++ front → FaultCounted sink.faults sink'.faults
+      → (front rest : List ℕ) → report.text ≡ front ++ rest → text' ≡ text ++ front → IsFaultCounted sink.faults sink'.faults
       → ((n : ℕ) → sink.room ≡ Some n → n < length report.text) → HasEndedByLaw reading files files' sink sink' m m' text text' result
   unwritten :
       (report : Report) → ReadingSays reading (Some m) report → result ≡ Fault → WritingBreaksOff m m' report.writes → text' ≡ text
-      → FaultCounted files.faults files'.faults → files.steady ≡ false → HasEndedByLaw reading files files' sink sink' m m' text text' result
+      → IsFaultCounted files.faults files'.faults → files.steady ≡ false → HasEndedByLaw reading files files' sink sink' m m' text text' result
   unfinished :
       (report : Report) → ReadingSays reading (Some m) report → result ≡ NoMemory → WritingBreaksOff m m' report.writes → text' ≡ text
       → HasEndedByLaw reading files files' sink sink' m m' text text' result
   unread :
-      result ≡ Fault → AllFilesStay m m' → text' ≡ text → FaultCounted files.faults files'.faults → (files.steady ≡ true → HoldsNeededInputs reading (Some m) → ⊥)
+      result ≡ Fault → AllFilesStay m m' → text' ≡ text → IsFaultCounted files.faults files'.faults → (files.steady ≡ true → HoldsNeededInputs reading (Some m) → ⊥)
       → HasEndedByLaw reading files files' sink sink' m m' text text' result
   no_memory : result ≡ NoMemory → AllFilesStay m m' → text' ≡ text → HasEndedByLaw reading files files' sink sink' m m' text text' result
 
@@ -99,7 +99,7 @@ pub record EndsInAllCasesByLaw (reading : Reading) (files files' : FilesSeen) (s
   pub status : result ≢ Fault → result ≢ NoMemory → (report : Report) × ReadingSays reading files.held report × (result ≡ report.status)
   pub fault :
       result ≡ Fault
-      → FaultCounted files.faults files'.faults ⊎ FaultCounted sink.faults sink'.faults
+      → IsFaultCounted files.faults files'.faults ⊎ IsFaultCounted sink.faults sink'.faults
   pub untold : files.held ≡ None → files'.held ≡ None
   pub unseen : sink.written ≡ None → sink'.written ≡ None
   pub only_done : (report : Report) → ReadingSays reading files.held report → report.status ≢ Done → report.writes ≡ []

@@ -1,9 +1,9 @@
 -- How a command ends, in terms of the views of the files and of the sink.
 use Rattle.std.specs.Prelude.{◌≡◌, ◌≢◌, ◌⊎◌, Option, ◌≤◌, ℕ, List, IsTrue, ◌∷◌, ◌++◌, [], Ok, Err}
-use Rattle.tcd_base.specs.Files.{FileMap, FilesSeen, LeavesFaults, OthersStay}
-use Rattle.tcd_base.specs.FailingCalls.{FaultCounted}
-use Rattle.tcd_base.specs.Sink.{SinkSeen, HasRoomFor, AppendsFront, IsPrinted}
-use Rattle.tcd_reading.specs.Reports.{Report, IsReportStatus, with_report_files, ReportFile, says}
+use Rattle.tcd_base.specs.Files.{FileMap, FilesSeen, KeepsFaultsIfSteady, OtherFilesStay}
+use Rattle.tcd_base.specs.FailingCalls.{IsFaultCounted}
+use Rattle.tcd_base.specs.Sink.{SinkSeen, HasRoomFor, AppendsPrefix, IsPrinted}
+use Rattle.tcd_reading.specs.Reports.{Report, IsReportStatus, with_report_files, ReportFile, text_report}
 use Rattle.tcd_reading.specs.Inputs.{Reading, ReadingSays, HasAllInputs}
 use Rattle.tcd_reading.specs.declared.status.Status.{Status}
 use Rattle.tcd_reading.specs.declared.status.Status.TheVariants.{Done, Refused, BadInput, Fault, NoMemory, BadWords}
@@ -21,7 +21,7 @@ HasRoomForReports reading held sink = (report : Report) → ReadingSays reading 
 pub data PrintsWithStatus (s : Status) (text : List ℕ) (old new : SinkSeen) (result : Status) : Type 0 where
   whole : result ≡ s → IsPrinted text old new → PrintsWithStatus s text old new result
   cut :
-      result ≡ status.Fault → AppendsFront old.written new.written text → FaultCounted old.faults new.faults → (HasRoomFor old text → ⊥)
+      result ≡ status.Fault → AppendsPrefix old.written new.written text → IsFaultCounted old.faults new.faults → (HasRoomFor old text → ⊥)
       → PrintsWithStatus s text old new result
 
 -- An ending in which writing a file failed: the files before it are written, its own contents are
@@ -31,14 +31,14 @@ pub record ReportWritingStopped (held held' : Option FileMap) (writes : List Rep
   pub at : ReportFile
   pub rest : List ReportFile
   pub are : writes ≡ front ++ at ∷ rest
-  pub others : OthersStay at.name (with_report_files held front) held'
+  pub others : OtherFilesStay at.name (with_report_files held front) held'
 
 -- how a command that has a report ends: its files are written and its text goes to the sink; or a
 -- write failed, over files that aren't steady, or ran out of memory, and nothing is printed
 pub data IsEndingWithReport (report : Report) (files files' : FilesSeen) (sink sink' : SinkSeen) (result : Status) : Type 0 where
   printed : files'.held ≡ with_report_files files.held report.writes → PrintsWithStatus report.status report.text sink sink' result → IsEndingWithReport report files files' sink sink' result
   unwritten :
-      result ≡ status.Fault → sink' ≡ sink → ReportWritingStopped files.held files'.held report.writes → FaultCounted files.faults files'.faults
+      result ≡ status.Fault → sink' ≡ sink → ReportWritingStopped files.held files'.held report.writes → IsFaultCounted files.faults files'.faults
       → (IsTrue files.steady → ⊥) → IsEndingWithReport report files files' sink sink' result
   no_memory : result ≡ status.NoMemory → sink' ≡ sink → ReportWritingStopped files.held files'.held report.writes → IsEndingWithReport report files files' sink sink' result
 
@@ -50,12 +50,12 @@ pub record FilesAndSinkStay (files files' : FilesSeen) (sink sink' : SinkSeen) :
 -- how a command that has a report ends, with the counts of faults
 abbrev pub FinishesReport : Report → FilesSeen → FilesSeen → SinkSeen → SinkSeen → Status → Type 0
 FinishesReport report files files' sink sink' result =
-    IsEndingWithReport report files files' sink sink' result × LeavesFaults files files' × (files.faults ≤ files'.faults) × (sink.faults ≤ sink'.faults)
+    IsEndingWithReport report files files' sink sink' result × KeepsFaultsIfSteady files files' × (files.faults ≤ files'.faults) × (sink.faults ≤ sink'.faults)
 
 -- how a command with this outcome ends, by the views of the files and of the sink before and after
 abbrev pub FinishesOutcome : Outcome → FilesSeen → FilesSeen → SinkSeen → SinkSeen → Status → Type 0
 FinishesOutcome (Ok report) files files' sink sink' result = FinishesReport report files files' sink sink' result
-FinishesOutcome (Err (stop.BadInput line)) files files' sink sink' result = FinishesReport (says BadInput line.items) files files' sink sink' result
+FinishesOutcome (Err (stop.BadInput line)) files files' sink sink' result = FinishesReport (text_report BadInput line.items) files files' sink sink' result
 FinishesOutcome (Err stop.Unread) files files' sink sink' result = FilesAndSinkStay files files' sink sink' × (result ≡ status.Fault)
 FinishesOutcome (Err stop.NoMemory) files files' sink sink' result = FilesAndSinkStay files files' sink sink' × (result ≡ status.NoMemory)
 
@@ -64,7 +64,7 @@ FinishesOutcome (Err stop.NoMemory) files files' sink sink' result = FilesAndSin
 pub data HasEnded (reading : Reading) (files files' : FilesSeen) (sink sink' : SinkSeen) (result : Status) : Type 0 where
   reported : (report : Report) → ReadingSays reading files.held report → IsEndingWithReport report files files' sink sink' result → HasEnded reading files files' sink sink' result
   unread :
-      result ≡ Fault → files'.held ≡ files.held → sink' ≡ sink → FaultCounted files.faults files'.faults → (HasAllInputs reading files → ⊥)
+      result ≡ Fault → files'.held ≡ files.held → sink' ≡ sink → IsFaultCounted files.faults files'.faults → (HasAllInputs reading files → ⊥)
       → HasEnded reading files files' sink sink' result
   no_memory : result ≡ NoMemory → files'.held ≡ files.held → sink' ≡ sink → HasEnded reading files files' sink sink' result
 

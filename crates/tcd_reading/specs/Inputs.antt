@@ -3,7 +3,7 @@ use Rattle.std.specs.Prelude.{◌≡◌, ◌≤◌, ◌+◌, ◌⊎◌, ℕ, Lis
 use Rattle.tcd_base.specs.Files.{FileMap, FilesSeen, ReadsFile, IsFileTooLong, HasFileOfName}
 use Rattle.tcd_reading.specs.Reports.{Report, RejectsInput}
 use Rattle.std.specs.FinMap.{get}
-use Rattle.tcd_base.specs.FailingCalls.{FaultCounted}
+use Rattle.tcd_base.specs.FailingCalls.{IsFaultCounted}
 
 -- ---- one input
 -- A form of input files: the most bytes, the line for a larger file, the value of bytes, and the
@@ -47,9 +47,9 @@ pub data Reading : Type 1 where
 
 -- the input files of these names are read in order, each in the form for its place, and then the
 -- rest is read
-abbrev pub each : (A : Type 0) → (ℕ → FormSeen A) → ℕ → List (List ℕ) → (List A → Reading) → Reading
-each A form place [] next = next []
-each A form place (name ∷ names) next = input A (form place) name (λ x. each A form (place + 1) names (λ xs. next (x ∷ xs)))
+abbrev pub input_files : (A : Type 0) → (ℕ → FormSeen A) → ℕ → List (List ℕ) → (List A → Reading) → Reading
+input_files A form place [] next = next []
+input_files A form place (name ∷ names) next = input A (form place) name (λ x. input_files A form (place + 1) names (λ xs. next (x ∷ xs)))
 
 -- what reading the inputs of a command leads to: the report on the first input that isn't in its
 -- form, or else on all inputs
@@ -72,6 +72,6 @@ pub record HasAllInputs (reading : Reading) (files : FilesSeen) : Type 0 where
 
 -- an input of a command couldn't be read: a fault was counted, and the files weren't steady or
 -- lacked an input that it needs
-pub record HasNotRead (reading : Reading) (old new : FilesSeen) : Type 0 where
-  pub counted : FaultCounted old.faults new.faults
+pub record HasFailedToReadInput (reading : Reading) (old new : FilesSeen) : Type 0 where
+  pub counted : IsFaultCounted old.faults new.faults
   pub unsure : HasAllInputs reading old → ⊥

@@ -1,9 +1,9 @@
 -- The outcome of a command.
 use Rattle.std.specs.Prelude.{◌≡◌, ◌≤◌, ℕ, List, Result, Ok, Err}
 use Rattle.tcd_base.specs.Files.{FilesSeen, IsReadSure}
-use Rattle.tcd_base.specs.FailingCalls.{FaultCounted}
-use Rattle.tcd_reading.specs.Reports.{Report, says}
-use Rattle.tcd_reading.specs.Inputs.{Reading, ReadingSays, HasAllInputs, HasNotRead}
+use Rattle.tcd_base.specs.FailingCalls.{IsFaultCounted}
+use Rattle.tcd_reading.specs.Reports.{Report, text_report}
+use Rattle.tcd_reading.specs.Inputs.{Reading, ReadingSays, HasAllInputs, HasFailedToReadInput}
 use Rattle.tcd_reading.specs.declared.outcome.Stop.{Stop}
 use Rattle.tcd_reading.specs.declared.outcome.Stop.TheVariants as stop
 use Rattle.tcd_reading.specs.declared.status.Status.TheVariants.{BadInput}
@@ -15,7 +15,7 @@ Outcome = Result Report Stop
 -- the outcome is such a report; or a file wasn't read, if that can happen; or memory ran out
 abbrev pub IsReportOutcome : (Report → Type 0) → Type 0 → Outcome → Type 0
 IsReportOutcome IsReport MayFail (Ok report) = IsReport report
-IsReportOutcome IsReport MayFail (Err (stop.BadInput line)) = IsReport (says BadInput line.items)
+IsReportOutcome IsReport MayFail (Err (stop.BadInput line)) = IsReport (text_report BadInput line.items)
 IsReportOutcome IsReport MayFail (Err stop.Unread) = MayFail
 IsReportOutcome IsReport MayFail (Err stop.NoMemory) = Unit {0}
 
@@ -27,8 +27,8 @@ IsBadInputStop IsLine MayFail stop.NoMemory = Unit {0}
 
 -- why an outcome has no report: a file couldn't be read, so that a fault was counted, and the files
 -- weren't sure of that file
-pub record HasFailedToRead (name : List ℕ) (old new : FilesSeen) : Type 0 where
-  pub counted : FaultCounted old.faults new.faults
+pub record HasFailedToReadFile (name : List ℕ) (old new : FilesSeen) : Type 0 where
+  pub counted : IsFaultCounted old.faults new.faults
   pub unsure : IsReadSure old name → ⊥
 
 -- the outcome of a command with this reading, and the files after its inputs were read
@@ -37,4 +37,4 @@ pub record IsCommandOutcome (reading : Reading) (old new : FilesSeen) (o : Outco
   pub steady : new.steady ≡ old.steady
   pub later : old.faults ≤ new.faults
   pub sure : HasAllInputs reading old → new.faults ≡ old.faults
-  pub told : IsReportOutcome (ReadingSays reading old.held) (HasNotRead reading old new) o
+  pub told : IsReportOutcome (ReadingSays reading old.held) (HasFailedToReadInput reading old new) o

@@ -21,8 +21,8 @@ abbrev pub IsReportStatus : Status → Type 0
 IsReportStatus s = (s ≡ Done) ⊎ ((s ≡ Refused) ⊎ (s ≡ BadInput))
 
 -- a command's report that writes nothing: a status and a text to print
-abbrev pub says : Status → List ℕ → Report
-says status text = record { status = status; text = text; writes = [] }
+abbrev pub text_report : Status → List ℕ → Report
+text_report status text = record { status = status; text = text; writes = [] }
 
 -- a command's report that is done, with one file to write
 abbrev pub report_with_file : List ℕ → List ℕ → List ℕ → Report

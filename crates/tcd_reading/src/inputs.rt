@@ -1,8 +1,8 @@
 // Reads the input files of commands, and turns each into a value.
 ghost use Rattle.std.specs.Prelude.{◌≡◌, ◌≤◌, length, IfOk, IfErr};
-ghost use Rattle.tcd_base.specs.Files.{LeavesFiles};
+ghost use Rattle.tcd_base.specs.Files.{ReadKeepsFiles};
 ghost use Rattle.tcd_reading.specs.Inputs.{FormSeen, HoldsInput, IsInputRejection};
-ghost use Rattle.tcd_reading.specs.Outcomes.{HasFailedToRead, IsBadInputStop};
+ghost use Rattle.tcd_reading.specs.Outcomes.{HasFailedToReadFile, IsBadInputStop};
 
 use crate::outcome::{Stop, bad_input_stop};
 use std::alloc::Global;
@@ -44,13 +44,13 @@ pub fn read_input<I: Form, F: Files>(
     name: &str,
     files: &mut F,
 ) -> Result<I::Out, Stop>
-    ensures leaves { LeavesFiles name.now (F.seen files.old) (F.seen files.new) }
+    ensures leaves { ReadKeepsFiles name.now (F.seen files.old) (F.seen files.new) }
     ensures later { (F.seen files.old).faults ≤ (F.seen files.new).faults }
     ensures found { IfOk result (HoldsInput (I.form form.now) (F.seen files.old).held name.now) }
     ensures fits { IfOk result (I.Fits form.now) }
     ensures stops { IfErr result
         (IsBadInputStop (IsInputRejection (I.form form.now) (F.seen files.old).held name.now)
-        (HasFailedToRead name.now (F.seen files.old) (F.seen files.new))) }
+        (HasFailedToReadFile name.now (F.seen files.old) (F.seen files.new))) }
 {
     match files.read(alloc, name, form.limit()) {
         Ok(bytes) => form.value(alloc, bytes),

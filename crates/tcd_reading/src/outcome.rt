@@ -1,8 +1,8 @@
 // The outcome of a command, and the end of a command with this outcome.
 ghost use Rattle.std.specs.Prelude.{◌≡◌, ◌≢◌, ◌≤◌, IsTrue, IfOk, OnOk, IfErr, IsOk, IsOkAnd};
-ghost use Rattle.tcd_base.specs.Files.{LeavesFaults};
-ghost use Rattle.tcd_base.specs.FailingCalls.{FaultCounted};
-ghost use Rattle.tcd_reading.specs.Reports.{says, report_with_file, report_with_two_files, with_report_files};
+ghost use Rattle.tcd_base.specs.Files.{KeepsFaultsIfSteady};
+ghost use Rattle.tcd_base.specs.FailingCalls.{IsFaultCounted};
+ghost use Rattle.tcd_reading.specs.Reports.{text_report, report_with_file, report_with_two_files, with_report_files};
 ghost use Rattle.tcd_reading.specs.Endings.{ReportWritingStopped, FinishesOutcome};
 ghost use Rattle.tcd_reading.specs.Outcomes.{IsBadInputStop};
 
@@ -62,7 +62,7 @@ impl Model for Report {
 impl Report {
     /// Makes a report with nothing to write.
     pub fn of(alloc: Global, status: Status, text: Vec<u8>) -> Report
-        ensures { result ≡ says status text.items }
+        ensures { result ≡ text_report status text.items }
     {
         Report {
             status,
@@ -180,8 +180,8 @@ fn write_report_files<F: Files>(
     ensures stopped { IfErr result
         (λ e. ReportWritingStopped (F.seen files.old).held (F.seen files.new).held writes.now) }
     ensures counted { IfErr result (λ e. e ≢ FileErr.NoMemory →
-        FaultCounted (F.seen files.old).faults (F.seen files.new).faults) }
-    ensures leaves { LeavesFaults (F.seen files.old) (F.seen files.new) }
+        IsFaultCounted (F.seen files.old).faults (F.seen files.new).faults) }
+    ensures leaves { KeepsFaultsIfSteady (F.seen files.old) (F.seen files.new) }
     ensures later { (F.seen files.old).faults ≤ (F.seen files.new).faults }
     ensures never { IsTrue (F.seen files.old).steady → IfErr result (λ e. e ≡ FileErr.NoMemory) }
 {

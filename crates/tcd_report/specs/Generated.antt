@@ -9,14 +9,14 @@ use Rattle.std.specs.Str.{bytes_eq}
 use Rattle.tcd_base.specs.Bytes.{bytes_of_word}
 use Rattle.tc_isa.specs.declared.fields.Fields.{Fields}
 use Rattle.tc_isa.specs.Forms.{fields}
-use Rattle.tc_isa.specs.Rows.{listed}
+use Rattle.tc_isa.specs.Rows.{table_rows}
 use Rattle.tc_isa.specs.Spelling.{spelling}
 use Rattle.elf_image.specs.Images.{ImageData, SegmentData}
 
 -- ---- instructions
 -- the bytes of the instruction with this name and these fields c, s1, s2, n and k
 unfoldable pub generated_code : List ℕ → Fields → List ℕ
-generated_code name f = option_map_or (λ r. spelling r f) (find (λ r. bytes_eq r.name name) listed) []
+generated_code name f = option_map_or (λ r. spelling r f) (find (λ r. bytes_eq r.name name) table_rows) []
 
 -- the address of function i of a generated image: each function has 32 bytes
 abbrev pub generated_function_address : ℕ → ℕ
@@ -71,8 +71,8 @@ generated_system_call_handler = generated_code (codes "rfe16") (fields 0 0 0 0 0
 
 -- ---- functions
 -- in a generated image of n functions, a call of function i, if i is below n
-abbrev pub call_if_below : ℕ → ℕ → ℕ → List ℕ
-call_if_below n at i = if nat_lt i n then call_from at (generated_function_address i) else []
+abbrev pub call_if_any : ℕ → ℕ → ℕ → List ℕ
+call_if_any n at i = if nat_lt i n then call_from at (generated_function_address i) else []
 
 -- function i of a generated image: reserves stack, stores a word there, and calls functions 2i + 1
 -- and 2i + 2, if any
@@ -80,8 +80,8 @@ unfoldable pub generated_function_code : ℕ → ℕ → List ℕ
 generated_function_code n i =
     generated_code (codes "sub16.a") (fields 0 0 0 0 8)
     ++ (generated_code (codes "st16.w") (fields 0 15 10 0 0)
-    ++ (call_if_below n (generated_function_address i + 4) (2 * i + 1)
-    ++ (call_if_below n (generated_function_address i + 8) (2 * i + 2) ++ generated_code (codes "ret16") (fields 0 0 0 0 0))))
+    ++ (call_if_any n (generated_function_address i + 4) (2 * i + 1)
+    ++ (call_if_any n (generated_function_address i + 8) (2 * i + 2) ++ generated_code (codes "ret16") (fields 0 0 0 0 0))))
 
 -- the functions of a generated image, each except the last with zeros up to 32 bytes
 unfoldable pub generated_functions : ℕ → List ℕ

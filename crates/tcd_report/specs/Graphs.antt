@@ -16,10 +16,10 @@ use Rattle.depth_cert.specs.Nodes.{NodeData, find_node}
 use Rattle.depth_cert.specs.Certs.{CertData}
 use Rattle.cfg_recover.specs.Code.{IsCode}
 use Rattle.cfg_recover.specs.Duties.{Duty, jump, enter, resume, Owed, duties_of, successor_duties_of}
-use Rattle.cfg_recover.specs.RulesHoldOrFail.{limits_in}
+use Rattle.cfg_recover.specs.RulesHoldOrFail.{limits_of_cert}
 use Rattle.cfg_recover.specs.StepEdges.{EdgeWay, to, call, irq, sys, aln, ret, rfe}
 use Rattle.tcd_text.specs.HexNumbers.{hex_word}
-use Rattle.tcd_report.specs.Texts.{key_text}
+use Rattle.tcd_report.specs.Texts.{frame_name}
 use Rattle.tc_isa.specs.declared.shapes.Shape.TheVariants.{Call, Ret, Rfe}
 use Rattle.value_domain.specs.declared.states.State.{State}
 use Rattle.cfg_recover.specs.LocalRules.{targets_of}
@@ -36,7 +36,7 @@ pub data Arrow : Type 0 where
 
 -- the front of each line of a node in the graph: its key
 abbrev pub key_front : Key → List ℕ
-key_front key = key_text key ++ codes ": "
+key_front key = frame_name key ++ codes ": "
 
 -- the front of each line of a point in the graph: that of its node, and the point's address
 abbrev pub line_front : Key → ℕ → List ℕ
@@ -163,7 +163,7 @@ pub record ArePointLines (image : ImageData) (plan : PlanData) (cert : CertData)
   pub shape : Shape
   pub size : ℕ
   pub code : IsCode image plan point.addr shape size
-  pub are : lines ≡ map (graph_line key point.addr) (arrows_of cert (duties_of (limits_in plan cert) image plan key point.addr point.state shape size) shape)
+  pub are : lines ≡ map (graph_line key point.addr) (arrows_of cert (duties_of (limits_of_cert plan cert) image plan key point.addr point.state shape size) shape)
 
 -- each element of a list, as a node or a point, has its part of the graph's lines, in order
 abbrev pub AreLineParts : {A : Type 0} → (A → List (List ℕ) → Type 0) → List A → List (List (List ℕ)) → Type 0

@@ -12,7 +12,7 @@ use Rattle.depth_cert.specs.Nodes.{NodeData}
 use Rattle.depth_cert.specs.Certs.{CertData}
 use Rattle.cfg_recover.specs.RulesHoldOrFail.{certified_need}
 use Rattle.tcd_report.specs.declared.reports.longest_by_priority.LongestCalls.{LongestCalls}
-use Rattle.tcd_report.specs.Texts.{key_text}
+use Rattle.tcd_report.specs.Texts.{frame_name}
 use Rattle.tcd_report.specs.Reports.Longest.{priorities_of, IsLongestCallChain}
 
 -- a number in the report's JSON
@@ -21,7 +21,7 @@ reported_count n = number (unsigned n)
 
 -- a node in the report's JSON: its key, its need, and the number of its points
 abbrev pub reported_node : NodeData → Data
-reported_node n = object (member (codes "key") (string (key_text n.key)) (member (codes "need") (reported_count n.need) (member (codes "points") (reported_count (length n.points)) no_members)))
+reported_node n = object (member (codes "key") (string (frame_name n.key)) (member (codes "need") (reported_count n.need) (member (codes "points") (reported_count (length n.points)) no_members)))
 
 -- a row of the longest call chains in the report's JSON: an object of a priority and the length of
 -- its longest call chain

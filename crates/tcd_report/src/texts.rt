@@ -1,6 +1,6 @@
 // Keys as text.
 ghost use Rattle.std.specs.Prelude.{◌≡◌, ◌++◌, OnOk, string_bytes};
-ghost use Rattle.tcd_report.specs.Texts.{key_text};
+ghost use Rattle.tcd_report.specs.Texts.{frame_name};
 
 use depth_cert::{Key, key_kind_text};
 use tcd_base::NoMemory;
@@ -8,9 +8,9 @@ use tcd_text::{append_hex_word, append_str};
 
 /// Appends the text of a frame's key to a growing text: at the front of the graph's lines, or in
 /// the report.
-#[tactic(auto, unfolding(crate::specs::Texts::key_text))]
+#[tactic(auto, unfolding(crate::specs::Texts::frame_name))]
 pub(crate) fn append_frame_name(text: &mut String, key: &Key) -> Result<(), NoMemory>
-    ensures { OnOk result (string_bytes text.new ≡ string_bytes text.old ++ key_text key.now) }
+    ensures { OnOk result (string_bytes text.new ≡ string_bytes text.old ++ frame_name key.now) }
 {
     append_str(text, key_kind_text(key.kind))?;
     append_hex_word(text, key.entry)?;

@@ -1,9 +1,9 @@
 //! Worked effects on the values of the board.
 ghost use Rattle.std.specs.Prelude.{IsTrue};
 ghost use Rattle.tc_isa.specs.Meanings.{shape_of};
-ghost use Rattle.value_domain.specs.State.{AreValues};
-ghost use Rattle.value_domain.specs.Values.{IsValue};
-ghost use Rattle.vd_transfer.specs.EffectsOnStates.{EffectHasRoom};
+ghost use Rattle.value_domain.specs.State.{AreInLattice};
+ghost use Rattle.value_domain.specs.Values.{IsInLattice};
+ghost use Rattle.vd_transfer.specs.EffectsOnStates.{LocalsFitInstruction};
 
 use crate::asserts::{is_so, same};
 use crate::boards::board;
@@ -16,7 +16,7 @@ use vd_transfer::{address, refine, reg, transfer};
 
 /// Whether an instruction computes or loads, and so needs no room for a lower context.
 fn needs_no_room(b: &Bounds, inst: &Inst, s: &State) -> bool
-    ensures { IsTrue result → EffectHasRoom b.now (shape_of inst.now) s.now }
+    ensures { IsTrue result → LocalsFitInstruction b.now (shape_of inst.now) s.now }
 {
     match shape(inst) {
         Shape::Compute { .. } => true,
@@ -27,8 +27,8 @@ fn needs_no_room(b: &Bounds, inst: &Inst, s: &State) -> bool
 
 /// The state after an instruction that computes or loads.
 fn after(b: &Bounds, plan: &Plan, inst: &Inst, s: &State, loaded: &Val) -> Option<State>
-    requires values { AreValues b.now s.now.regs }
-    requires loaded { IsValue b.now loaded.now }
+    requires values { AreInLattice b.now s.now.regs }
+    requires loaded { IsInLattice b.now loaded.now }
 {
     if needs_no_room(b, inst, s) {
         Some(transfer(b, plan, inst, s, loaded))

@@ -1,5 +1,5 @@
 //! What points of a small program owe, on the board with interrupts 10 and 20 and both traps.
-ghost use Rattle.value_domain.specs.State.{AreValues};
+ghost use Rattle.value_domain.specs.State.{AreInLattice};
 
 use crate::asserts::{is_so, same};
 use crate::boards::{BOTH_TRAPS, Edit, TWO_INTERRUPTS, board};
@@ -17,7 +17,7 @@ const BUSY: [Edit; 2] = [BOTH_TRAPS, TWO_INTERRUPTS];
 // A10 is D0009000, A4 is D0008002 or D0008004, A15 is 80000000, 80000001 or 80000010; interrupts
 // are on at CCPN 10.
 fn state(b: &Bounds) -> State
-    ensures { AreValues b.now result.regs }
+    ensures { AreInLattice b.now result.regs }
 {
     let s = with(b, open(b), 22, &[0xD000_9000]);
     let s = with(b, s, 18, &[0xD000_8002, 0xD000_8004]);

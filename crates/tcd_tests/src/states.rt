@@ -1,6 +1,6 @@
 //! States of a certificate's points.
 ghost use Rattle.std.specs.Prelude.{◌≡◌, ◌≤◌, ◌<◌, length, replicate};
-ghost use Rattle.value_domain.specs.State.{AreValues};
+ghost use Rattle.value_domain.specs.State.{AreInLattice};
 ghost use Rattle.value_domain.specs.Values.{any_val};
 
 use arrayvec::ArrayVec;
@@ -18,7 +18,7 @@ fn any_regs() -> [Val; 27]
 
 /// A state of which nothing is known, with interrupts off.
 pub fn open(b: &Bounds) -> State
-    ensures { AreValues b.now result.regs }
+    ensures { AreInLattice b.now result.regs }
 {
     let _most_words = b.most_words();
     State {
@@ -35,8 +35,8 @@ pub fn open(b: &Bounds) -> State
 pub fn with(b: &Bounds, s: State, place: usize, words: &[u32]) -> State
     requires place { place < 27 }
     requires some { 1 ≤ length words.now }
-    requires values { AreValues b.now s.regs }
-    ensures { AreValues b.now result.regs }
+    requires values { AreInLattice b.now s.regs }
+    ensures { AreInLattice b.now result.regs }
 {
     let mut out = s;
     out.regs[place] = cover_words(b, words);

@@ -7,7 +7,7 @@ use Rattle.std.specs.List.{list_all}
 use Rattle.std.specs.Prelude.{sum_by, AllPairs}
 use Rattle.tcd_base.specs.declared.range.Range.{Range}
 use Rattle.tcd_plan.specs.declared.plans.Device.{Device}
-use Rattle.tcd_plan.specs.PlanData.{PlanData, IsPlan, is_plan_range, is_plan_device, are_all_ranges_apart, areas_range}
+use Rattle.tcd_plan.specs.PlanData.{PlanData, IsPlan, is_plan_range, is_plan_device, are_all_ranges_disjoint, areas_range}
 use Rattle.tcd_base.specs.Ranges.{IsWithinRange, IsInOneRange}
 use Rattle.tcd_plan.specs.Cutting.{cut_plan_ranges}
 use Rattle.tcd_plan.proofs.ApartLaws.{range_parts, is_range-from, device_ranges, HaveBytes, HaveBytes-ranges, HaveBytes-append, IsInOne-fits, each_apart, all_apart-before, all_apart-behind, all_apart-front, all_apart-append}
@@ -22,7 +22,7 @@ ram_ranges : (plan : PlanData) (cells : List Cell) (rs : List Range) → All (Is
 ram_ranges plan [] rs all h = h
 ram_ranges plan (c ∷ cs) rs all h = ram_ranges plan cs (cut_plan_ranges c.at 4 rs) (later_cells plan c cs all) (ranges_without_ranges c.at 4 (first_cell plan c cs all).aligned refl rs h)
 
-ram_apart : (plan : PlanData) (cells : List Cell) (rs : List Range) → All (IsCell plan) cells → list_all is_plan_range rs ≡ true → are_all_ranges_apart rs ≡ true → are_all_ranges_apart (ram_without_cells cells rs) ≡ true
+ram_apart : (plan : PlanData) (cells : List Cell) (rs : List Range) → All (IsCell plan) cells → list_all is_plan_range rs ≡ true → are_all_ranges_disjoint rs ≡ true → are_all_ranges_disjoint (ram_without_cells cells rs) ≡ true
 ram_apart plan [] rs all h g = g
 ram_apart plan (c ∷ cs) rs all h g =
     let a = (first_cell plan c cs all).aligned in
@@ -73,7 +73,7 @@ module _ (plan : PlanData) (ok : IsPlan plan) where
       once 0 d (omega arith) (omega arith)
   apart_from c (d ∷ ds) x a all once h (inr g) = apart_from c ds x a (later_cells plan d ds all) (λ i e lt. once (suc i) e (omega arith)) h g
 
-  cells_apart : (cells : List Cell) → All (IsCell plan) cells → AllPairs (λ (c d : Cell). d.at ≢ c.at) cells → are_all_ranges_apart (cell_ranges cells) ≡ true
+  cells_apart : (cells : List Cell) → All (IsCell plan) cells → AllPairs (λ (c d : Cell). d.at ≢ c.at) cells → are_all_ranges_disjoint (cell_ranges cells) ≡ true
   cells_apart [] all once = refl
   cells_apart (c ∷ cs) all once =
       let is = first_cell plan c cs all in
@@ -105,26 +105,26 @@ module _ {plan : PlanData} (ok : IsPlan plan) (cells : List Cell) (are : AreCell
   new_is : list_all is_plan_range (cell_ranges cells) ≡ true
   new_is = device_ranges (map cell_device cells) (cell_devices plan ok cells are.each)
 
-  three : are_all_ranges_apart (plan.rom ++ plan.ram ++ old_devices) ≡ true
+  three : are_all_ranges_disjoint (plan.rom ++ plan.ram ++ old_devices) ≡ true
   three = all_apart-front (plan.rom ++ plan.ram ++ old_devices) (areas_range plan ∷ []) ok.apart
 
-  two : are_all_ranges_apart (plan.rom ++ plan.ram) ≡ true
+  two : are_all_ranges_disjoint (plan.rom ++ plan.ram) ≡ true
   two = all_apart-front (plan.rom ++ plan.ram) old_devices (three)
 
   cell_ram : (x : ℕ) → IsInOneRange x 1 (cell_ranges cells) → IsInOneRange x 1 plan.ram
   cell_ram x h = cell_in_ram plan cells x are.each (in_cells plan ok cells x h)
 
-  first_two : are_all_ranges_apart (plan.rom ++ ram) ≡ true
+  first_two : are_all_ranges_disjoint (plan.rom ++ ram) ≡ true
   first_two =
       all_apart-append plan.rom ram (HaveBytes-ranges _ (ok.ranges).rom) (HaveBytes-ranges _ (ram_is)) (all_apart-front plan.rom plan.ram (two))
       (ram_apart plan cells plan.ram are.each (ok.ranges).ram (all_apart-behind plan.rom plan.ram (two))) (λ x a b. ram_not_rom plan ok x (ram_in cells plan.ram x 1 b) a)
 
-  both_devices : are_all_ranges_apart (old_devices ++ cell_ranges cells) ≡ true
+  both_devices : are_all_ranges_disjoint (old_devices ++ cell_ranges cells) ≡ true
   both_devices =
       all_apart-append old_devices (cell_ranges cells) (HaveBytes-ranges _ (old_is)) (HaveBytes-ranges _ (new_is)) (all_apart-behind (plan.rom ++ plan.ram) old_devices (three))
       (cells_apart plan ok cells are.each are.once) (λ x a b. ram_not_device plan ok x (cell_ram x b) a)
 
-  four_apart : are_all_ranges_apart (plan.rom ++ ram ++ (old_devices ++ cell_ranges cells) ++ areas_range plan ∷ []) ≡ true
+  four_apart : are_all_ranges_disjoint (plan.rom ++ ram ++ (old_devices ++ cell_ranges cells) ++ areas_range plan ∷ []) ≡ true
   four_apart =
       all_apart-append (plan.rom ++ ram ++ (old_devices ++ cell_ranges cells)) (areas_range plan ∷ []) (HaveBytes-append _ _ here there) ((let s = (ok.areas).some in omega arith), tt)
       (all_apart-append (plan.rom ++ ram) (old_devices ++ cell_ranges cells) here there (first_two) (both_devices)
@@ -193,7 +193,7 @@ module _ {plan : PlanData} (ok : IsPlan plan) (cells : List Cell) (are : AreCell
       globals = (ok.words).globals;
     };
     irqs = ok.irqs;
-    apart = subst (λ ds. are_all_ranges_apart (plan.rom ++ ram ++ ds ++ areas_range plan ∷ []) ≡ true) (sym (map-append (λ (d : Device). d.range) plan.devices (map cell_device cells))) (four_apart);
+    apart = subst (λ ds. are_all_ranges_disjoint (plan.rom ++ ram ++ ds ++ areas_range plan ∷ []) ≡ true) (sym (map-append (λ (d : Device). d.range) plan.devices (map cell_device cells))) (four_apart);
   }
 
 -- ---- one cell after another

@@ -29,10 +29,10 @@ use Rattle.tc_machine.proofs.Stays.{irq_lt, stays_step}
 use Rattle.tc_machine.proofs.Steps.{stored-is}
 use Rattle.value_domain.specs.declared.values.Val.{Val}
 use Rattle.value_domain.specs.Values.{IsMember}
-use Rattle.value_domain.specs.State.{AreValues}
+use Rattle.value_domain.specs.State.{AreInLattice}
 use Rattle.vd_transfer.specs.Registers.{reg_of}
-use Rattle.vd_transfer.specs.EffectsOnStates.{address_of}
-use Rattle.vd_transfer.specs.Soundness.{IsSoundSetting}
+use Rattle.vd_transfer.specs.EffectsOnStates.{address_of_access}
+use Rattle.vd_transfer.specs.Soundness.{MeetSoundnessPremises}
 use Rattle.vd_transfer.proofs.HoldLaws.{address_holds}
 use Rattle.depth_cert.specs.declared.points.Point.{Point}
 use Rattle.depth_cert.specs.Keys.{number_of_key}
@@ -41,8 +41,8 @@ use Rattle.depth_cert.specs.Nodes.{NodeData, IsNode, find_node}
 use Rattle.depth_cert.specs.Certs.{CertData, IsCert}
 use Rattle.cfg_recover.specs.Code.{IsCode, HasCode}
 use Rattle.cfg_recover.specs.Entries.{start_key}
-use Rattle.cfg_recover.specs.RulesHoldOrFail.{limits_in, RuleHolds, HoldsAtNode, Accepts}
-use Rattle.cfg_recover.specs.Frames.{RunFrame, frames_after, frames_from, HoldFrames}
+use Rattle.cfg_recover.specs.RulesHoldOrFail.{limits_of_cert, RuleHolds, RulesHoldAtNode, Accepts}
+use Rattle.cfg_recover.specs.Frames.{RunFrame, frames_after, frames_from, AreAllFramesHeld}
 use Rattle.cfg_recover.specs.MovesAreOwed.{IsInState}
 use Rattle.cfg_recover.proofs.EntryLaws.{reg_lt}
 use Rattle.depth_cert.proofs.KeyLaws.{found_in}
@@ -50,10 +50,10 @@ use Rattle.cfg_recover.proofs.PointLaws.{limits_are}
 use Rattle.cfg_recover.proofs.Went.{address-is}
 use Rattle.value_cells.specs.declared.cells.Cell.{Cell}
 use Rattle.value_cells.specs.Cells.{with_cells, IsCell}
-use Rattle.value_cells.specs.Keeping.{KeepsAll, KeepsCells}
+use Rattle.value_cells.specs.Keeping.{KeepsEachCell, CertKeepsCells}
 use Rattle.value_cells.specs.Safe.{IsSafeWithCellsAt}
-use Rattle.value_cells.specs.Laws.{CellsKeepTheirBounds}
-use Rattle.value_cells.specs.BesideCells.{machine_without_cells, event_with_cell_load, event_beside_cells, AreNamedAreasOffCells}
+use Rattle.value_cells.specs.Laws.{AcceptedIsSafeWithCells}
+use Rattle.value_cells.specs.BesideCells.{machine_without_cells, event_with_cell_load, event_without_cells, AreListHeadsOffCells}
 use Rattle.value_cells.proofs.WithoutCells.{get-without}
 use Rattle.value_cells.proofs.CellSteps.{address-hidden, status_of_taken, hidden-step}
 use Rattle.value_cells.proofs.CellCode.{fetched-more, chain_there, names_areas}
@@ -89,17 +89,17 @@ store_hidden : (cells : List Cell) (m : Machine) (e : Event) (shape : Shape) (n 
 store_hidden cells m e (Store src base offset size after) n = ap (λ x. cond (is_trapping_access e x size) None (Some (x, size))) (address-hidden cells m base offset after)
 store_hidden cells m e _ n = refl
 
-stored_same : (cells : List Cell) (m : Machine) (e : Event) (shape : Shape) (n : ℕ) → fetched_instruction m ≡ Ok (shape, n) → fetched_instruction (machine_without_cells cells m) ≡ Ok (shape, n) → stored (machine_without_cells cells m) (event_beside_cells cells m e) ≡ stored m e
+stored_same : (cells : List Cell) (m : Machine) (e : Event) (shape : Shape) (n : ℕ) → fetched_instruction m ≡ Ok (shape, n) → fetched_instruction (machine_without_cells cells m) ≡ Ok (shape, n) → stored (machine_without_cells cells m) (event_without_cells cells m e) ≡ stored m e
 unfolding stored
 stored_same cells m e shape n here there =
-    ap (λ t. none_if_dead m.end (cond t None (store_of_fetched (machine_without_cells cells m) (event_beside_cells cells m e) (fetched_instruction (machine_without_cells cells m))))) (status_of_taken cells m e (load_at_pc m))
-    ∙ ap (λ f. none_if_dead m.end (cond (is_interrupt_taken m e) None (store_of_fetched (machine_without_cells cells m) (event_beside_cells cells m e) f))) there
+    ap (λ t. none_if_dead m.end (cond t None (store_of_fetched (machine_without_cells cells m) (event_without_cells cells m e) (fetched_instruction (machine_without_cells cells m))))) (status_of_taken cells m e (load_at_pc m))
+    ∙ ap (λ f. none_if_dead m.end (cond (is_interrupt_taken m e) None (store_of_fetched (machine_without_cells cells m) (event_without_cells cells m e) f))) there
     ∙ ap (λ f. none_if_dead m.end (cond (is_interrupt_taken m e) None (store_of_fetched (machine_without_cells cells m) (event_with_cell_load cells m e (load_of_fetched m f)) (Ok (shape, n))))) here
     ∙ ap (λ o. none_if_dead m.end (cond (is_interrupt_taken m e) None o)) (store_hidden cells m e shape n)
     ∙ ap (λ f. none_if_dead m.end (cond (is_interrupt_taken m e) None (store_of_fetched m e f))) (sym here)
 
 module _ (image : ImageData) {plan : PlanData} (ok : IsPlan plan) (cells : List Cell) (each : All (IsCell plan) cells) (ok2 : IsPlan (with_cells plan cells)) (cert : CertData) (is_cert : IsCert cert)
-    (accepted : Accepts image (with_cells plan cells) cert) (keeps : KeepsCells image (with_cells plan cells) cells cert) (most : ℕ) where
+    (accepted : Accepts image (with_cells plan cells) cert) (keeps : CertKeepsCells image (with_cells plan cells) cells cert) (most : ℕ) where
   abbrev other : PlanData
   other = with_cells plan cells
 
@@ -108,7 +108,7 @@ module _ (image : ImageData) {plan : PlanData} (ok : IsPlan plan) (cells : List 
   SafeFrom h = (es : List Event) (e : Event) → AllFit other h es → Fits other (run h es) e → IsSafeAt image other most (run h es) e
 
   abbrev HeldFrom : Machine → List RunFrame → Type 0
-  HeldFrom h fs = (es : List Event) → AllFit other h es → HoldFrames other cert (run h es) (frames_from h es fs)
+  HeldFrom h fs = (es : List Event) → AllFit other h es → AreAllFramesHeld other cert (run h es) (frames_from h es fs)
 
   -- the machine with the cells takes the steps of the machine without them
   pub record GoesBeside (m : Machine) (fs : List RunFrame) : Type 0 where
@@ -126,7 +126,7 @@ module _ (image : ImageData) {plan : PlanData} (ok : IsPlan plan) (cells : List 
     pub addr : point.addr ≡ m.pc
     pub inside : IsInState other m point.state
     pub even : m.pc % 2 ≡ 0
-    pub setting : IsSoundSetting (limits_in other cert) other point.state
+    pub setting : MeetSoundnessPremises (limits_of_cert other cert) other point.state
 
   at_found : (m : Machine) (f : RunFrame) → f.at ≡ m.pc → (o : Option NodeData) → find_node f.key cert.nodes ≡ o → IsSomeAnd o (λ n. IsSomeAnd (find_point f.at n.points) (λ p. IsInState other m p.state)) → AtPoint m
   at_found m f at None e h = absurd h
@@ -135,8 +135,8 @@ module _ (image : ImageData) {plan : PlanData} (ok : IsPlan plan) (cells : List 
       in_cert : Contains cert.nodes node
       in_cert = (found_in (λ n. number_of_key n.key == number_of_key f.key) cert.nodes node e).0
 
-      rules : HoldsAtNode image other cert node
-      rules = All-contains (HoldsAtNode image other cert) cert.nodes node accepted.nodes in_cert
+      rules : RulesHoldAtNode image other cert node
+      rules = All-contains (RulesHoldAtNode image other cert) cert.nodes node accepted.nodes in_cert
 
       is_node : IsNode cert.version node
       is_node = All-contains (IsNode cert.version) cert.nodes node is_cert.nodes in_cert
@@ -146,7 +146,7 @@ module _ (image : ImageData) {plan : PlanData} (ok : IsPlan plan) (cells : List 
       at_point (Some point) g k =
           let there = found_in (λ p. p.addr == f.at) node.points point g in
           let all : (r : ℕ) → RuleHolds image other cert node point r = All-contains (λ p. (r : ℕ) → RuleHolds image other cert node p r) node.points point rules.points there.0 in
-          let values : AreValues (limits_in other cert) (point.state).regs = (all 2).values refl in
+          let values : AreInLattice (limits_of_cert other cert) (point.state).regs = (all 2).values refl in
           let code : HasCode image other point.addr = ((all 3).own values).code refl in
           let is : IsPoint cert.version point = All-contains (IsPoint cert.version) node.points point is_node.points there.0 in
           let addr : point.addr ≡ m.pc = eqb-true _ _ there.1 ∙ at in
@@ -161,13 +161,13 @@ module _ (image : ImageData) {plan : PlanData} (ok : IsPlan plan) (cells : List 
             setting = record { limits = limits_are other cert.version; plan = ok2; regs = (is.state).regs; values = values };
           }
 
-  at_held : (m : Machine) (fs : List RunFrame) → HoldFrames other cert m fs → AtPoint m
+  at_held : (m : Machine) (fs : List RunFrame) → AreAllFramesHeld other cert m fs → AtPoint m
   at_held m [] h = absurd h
   at_held m (f ∷ fs) h = at_found m f h.at (find_node f.key cert.nodes) refl h.point
 
   -- ---- one event
   -- if each possible access keeps the cells, what is written does
-  written_keeps : (v : Val) (size x w : ℕ) (cs : List Cell) → IsMember w v → KeepsAll v size x cs → KeepsWritten x size w cs
+  written_keeps : (v : Val) (size x w : ℕ) (cs : List Cell) → IsMember w v → KeepsEachCell v size x cs → KeepsWritten x size w cs
   written_keeps v size x w [] member k = tt
   written_keeps v size x w (c ∷ cs) member k = (
     λ touches. let kept = k 0 c (omega arith) touches in let b = kept.bounds w member in (kept.word, kept.at, b.0, b.1),
@@ -175,13 +175,13 @@ module _ (image : ImageData) {plan : PlanData} (ok : IsPlan plan) (cells : List 
   )
 
   module _ (m : Machine) (fs : List RunFrame) (e : Event) (b : GoesBeside m fs) (f : Fits plan m e) where
-    fits2 : Fits other (machine_without_cells cells m) (event_beside_cells cells m e)
+    fits2 : Fits other (machine_without_cells cells m) (event_without_cells cells m e)
     fits2 = hidden_fits ok cells each m e b.words (b.kept).mapped (b.kept).bounds f
 
-    safe2 : IsSafeAt image other most (machine_without_cells cells m) (event_beside_cells cells m e)
-    safe2 = b.safe [] (event_beside_cells cells m e) tt fits2
+    safe2 : IsSafeAt image other most (machine_without_cells cells m) (event_without_cells cells m e)
+    safe2 = b.safe [] (event_without_cells cells m e) tt fits2
 
-    names : AreNamedAreasOffCells cells m
+    names : AreListHeadsOffCells cells m
     names = let c = (safe2).chains in names_areas cells m c.used c.free c.used_chain c.free_chain
 
     point : AtPoint (machine_without_cells cells m)
@@ -202,8 +202,8 @@ module _ (image : ImageData) {plan : PlanData} (ok : IsPlan plan) (cells : List 
     store_keeps (Store src base offset size after) n none h t is c = λ quiet.
         let x = access_address m base offset after in
         let s = ((point).point).state in
-        let in_it : IsMember x (address_of (limits_in other cert) other (Store src base offset size after) s) =
-        rw (address-is m base offset after) (address_holds.store (limits_in other cert) other src base offset size after s (reg m) m.ie m.ccpn (point).setting is.1 is.2 (point).inside) in
+        let in_it : IsMember x (address_of_access (limits_of_cert other cert) other (Store src base offset size after) s) =
+        rw (address-is m base offset after) (address_holds.store (limits_of_cert other cert) other src base offset size after s (reg m) m.ie m.ccpn (point).setting is.1 is.2 (point).inside) in
         let there_is : stored m e ≡ Some (x, size) =
         stored-is m e (Ok (Store src base offset size after, n)) (safe2).running none h ∙ ap (λ z. cond z None (Some (x, size))) quiet in
         let range : IfSome (stored m e) (IsStoreInRange other) = subst (λ o. IfSome o (IsStoreInRange other)) (stored_same cells m e (Store src base offset size after) n h t) (safe2).stores_in_range in
@@ -212,16 +212,16 @@ module _ (image : ImageData) {plan : PlanData} (ok : IsPlan plan) (cells : List 
     store_keeps _ n none h t is c = tt
 
     -- the next states of the two machines match
-    pub beside_next : GoesBeside (step m e) (frames_after (machine_without_cells cells m) (event_beside_cells cells m e) fs)
+    pub beside_next : GoesBeside (step m e) (frames_after (machine_without_cells cells m) (event_without_cells cells m e) fs)
     beside_next =
         let shape = shape_of (safe2).code_in_rom.inst in
         let n = length (safe2).code_in_rom.bytes in
-        let is : step (machine_without_cells cells m) (event_beside_cells cells m e) ≡ machine_without_cells cells (step m e) = hidden-step cells m e (b.words).bytes names shape n here there in
+        let is : step (machine_without_cells cells m) (event_without_cells cells m e) ≡ machine_without_cells cells (step m e) = hidden-step cells m e (b.words).bytes names shape n here there in
         record {
           words = stays_step m e b.words (irq_lt ok m e f) f.input f.status;
           kept = kept_step cells m e names b.kept shape n here (λ none. store_keeps shape n none here there (shape_is (safe2).code_in_rom.inst (((safe2).code_in_rom.spells).spelled).inst) code);
-          safe = subst SafeFrom is (λ es e2 fit g. b.safe (event_beside_cells cells m e ∷ es) e2 (fits2, fit) g);
-          held = subst (λ h. HeldFrom h (frames_after (machine_without_cells cells m) (event_beside_cells cells m e) fs)) is (λ es fit. b.held (event_beside_cells cells m e ∷ es) (fits2, fit));
+          safe = subst SafeFrom is (λ es e2 fit g. b.safe (event_without_cells cells m e ∷ es) e2 (fits2, fit) g);
+          held = subst (λ h. HeldFrom h (frames_after (machine_without_cells cells m) (event_without_cells cells m e) fs)) is (λ es fit. b.held (event_without_cells cells m e ∷ es) (fits2, fit));
         }
 
     -- and the state is safe
@@ -258,13 +258,13 @@ module _ (image : ImageData) {plan : PlanData} (ok : IsPlan plan) (cells : List 
   -- ---- runs
   pub run_beside : (m : Machine) (fs : List RunFrame) (es : List Event) (e : Event) → GoesBeside m fs → AllFit plan m es → Fits plan (run m es) e → IsSafeWithCellsAt image plan cells most (run m es) e
   run_beside m fs [] e b fits f = beside_safe m fs e b f
-  run_beside m fs (d ∷ es) e b fits f = run_beside (step m d) (frames_after (machine_without_cells cells m) (event_beside_cells cells m d) fs) es e (beside_next m fs d b fits.0) fits.1 f
+  run_beside m fs (d ∷ es) e b fits f = run_beside (step m d) (frames_after (machine_without_cells cells m) (event_without_cells cells m d) fs) es e (beside_next m fs d b fits.0) fits.1 f
 
 -- ---- the theorem
 mapped_cells : {plan : PlanData} → (cells : List Cell) → All (IsCell plan) cells → (mem : Memory) → IsPlanMemory plan mem → AreMapped mem cells
 mapped_cells {plan = plan} cells each mem memory x h = (memory x).1 (inr (inl (cell_in_ram plan cells x each h)))
 
-pub cells_keep : CellsKeepTheirBounds
+pub cells_keep : AcceptedIsSafeWithCells
 cells_keep image plan cells cert most ok are is_cert accepted safe held keeps m es e start bounds fits f =
     let ok2 = IsPlan-with_cells ok cells are in
     let start2 = hidden_starts ok cells are.each image m start in

@@ -10,7 +10,7 @@ use Rattle.tcd_text.specs.Lines.{text_lines}
 use Rattle.value_cells.specs.declared.cells.Cell.{Cell}
 use Rattle.tcd_plan.specs.Cutting.{cut_plan_ranges}
 use Rattle.value_cells.specs.Cells.{cell_device, ram_without_cells, with_cells, AreCells}
-use Rattle.value_cells.specs.CellListText.{cell_of, cell_of_words, IsCellLine, AreCellsOfText, HasRoomForCell, AreCellsAfterLine}
+use Rattle.value_cells.specs.CellListText.{cell_of_line, cell_of_words, IsCellLine, AreCellsOfText, HasRoomForCell, AreCellsAfterLine}
 use Rattle.value_cells.proofs.CellPlan.{ram_behind}
 
 -- ---- room for one more
@@ -79,7 +79,7 @@ read_more plan bytes rest line behind number cells more so cut takes = record {
   count = omega (arith, so.count, length-append so.before (line ∷ []));
   read = record {
     forms = All-push IsCellLine so.before line (so.read).forms takes.form;
-    named = takes.named ∙ ap (λ l. l ++ filter_map cell_of (line ∷ [])) (so.read).named ∙ sym (filter_map-append cell_of so.before (line ∷ []));
+    named = takes.named ∙ ap (λ l. l ++ filter_map cell_of_line (line ∷ [])) (so.read).named ∙ sym (filter_map-append cell_of_line so.before (line ∷ []));
     are = takes.are;
   };
 }

@@ -10,7 +10,7 @@ use Rattle.value_cells.specs.declared.cells.Cell.{Cell}
 use Rattle.value_cells.specs.declared.errors.CellsErr.{CellsErr}
 use Rattle.value_cells.specs.declared.errors.CellsErr.TheVariants.{BadLine, NotRam, Twice, TooMany}
 use Rattle.value_cells.specs.Cells.{with_cells, IsCell, AreCells}
-use Rattle.value_cells.specs.CellListText.{cell_of, IsCellLine, AreCellsOfText, HasRoomForCell, IsErrOfCell, IsErrOfCellLine, IsErrOfCellText, CellTextHasOneResult}
+use Rattle.value_cells.specs.CellListText.{cell_of_line, IsCellLine, AreCellsOfText, HasRoomForCell, IsErrOfCell, IsErrOfCellLine, IsErrOfCellText, CellTextHasOneResult}
 use Rattle.value_cells.proofs.CellPlan.{take_whole}
 
 -- ---- the first of some cells
@@ -57,26 +57,26 @@ module _ (plan : PlanData) (cells : List Cell) where
   of_option n e None are bad = absurd bad
   of_option n e (Some c) are bad = not_refused n c e (are c refl) bad
 
-  not_bad : (n : ℕ) (line : List ℕ) (e : CellsErr) → IsCellLine line → ((c : Cell) → cell_of line ≡ Some c → AreCells plan (cells ++ c ∷ [])) → IsErrOfCellLine plan cells line n e → ⊥
+  not_bad : (n : ℕ) (line : List ℕ) (e : CellsErr) → IsCellLine line → ((c : Cell) → cell_of_line line ≡ Some c → AreCells plan (cells ++ c ∷ [])) → IsErrOfCellLine plan cells line n e → ⊥
   not_bad n line (BadLine k) form are bad = bad.1 form
-  not_bad n line it form are bad = of_option n it (cell_of line) are bad
+  not_bad n line it form are bad = of_option n it (cell_of_line line) are bad
 
 -- ---- a line among lines that are read
-one_more : (before behind : List (List ℕ)) (line : List ℕ) (c : Cell) → cell_of line ≡ Some c → filter_map cell_of (before ++ line ∷ behind) ≡ (filter_map cell_of before ++ c ∷ []) ++ filter_map cell_of behind
+one_more : (before behind : List (List ℕ)) (line : List ℕ) (c : Cell) → cell_of_line line ≡ Some c → filter_map cell_of_line (before ++ line ∷ behind) ≡ (filter_map cell_of_line before ++ c ∷ []) ++ filter_map cell_of_line behind
 one_more before behind line c is =
-    filter_map-append cell_of before (line ∷ behind) ∙ ap (λ o. filter_map cell_of before ++ cons_option o (filter_map cell_of behind)) is ∙ regroup (filter_map cell_of before)
+    filter_map-append cell_of_line before (line ∷ behind) ∙ ap (λ o. filter_map cell_of_line before ++ cons_option o (filter_map cell_of_line behind)) is ∙ regroup (filter_map cell_of_line before)
   where
-    regroup : (xs : List Cell) → xs ++ c ∷ filter_map cell_of behind ≡ (xs ++ c ∷ []) ++ filter_map cell_of behind
+    regroup : (xs : List Cell) → xs ++ c ∷ filter_map cell_of_line behind ≡ (xs ++ c ∷ []) ++ filter_map cell_of_line behind
     regroup [] = refl
     regroup (x ∷ xs) = ap (λ l. x ∷ l) (regroup xs)
 
 module _ (plan : PlanData) (before behind : List (List ℕ)) (line : List ℕ) (all cells : List Cell) (e : CellsErr) where
-  good_and_bad : AreCellsOfText plan (before ++ line ∷ behind) all → cells ≡ filter_map cell_of before → IsErrOfCellLine plan cells line (length before + 1) e → ⊥
+  good_and_bad : AreCellsOfText plan (before ++ line ∷ behind) all → cells ≡ filter_map cell_of_line before → IsErrOfCellLine plan cells line (length before + 1) e → ⊥
   good_and_bad read named bad =
       let form = All-contains IsCellLine (before ++ line ∷ behind) line read.forms (Contains-append_right before (line ∷ behind) line (0, omega arith, refl)) in
       not_bad plan cells (length before + 1) line e form
-      (λ c is. front_cells plan (cells ++ c ∷ []) (filter_map cell_of behind)
-      (subst (AreCells plan) (read.named ∙ one_more before behind line c is ∙ ap (λ l. (l ++ c ∷ []) ++ filter_map cell_of behind) (sym named)) read.are)) bad
+      (λ c is. front_cells plan (cells ++ c ∷ []) (filter_map cell_of_line behind)
+      (subst (AreCells plan) (read.named ∙ one_more before behind line c is ∙ ap (λ l. (l ++ c ∷ []) ++ filter_map cell_of_line behind) (sym named)) read.are)) bad
 
 -- ---- one thing against a line
 module _ (plan : PlanData) (cells : List Cell) where
@@ -102,27 +102,27 @@ module _ (plan : PlanData) (cells : List Cell) where
   one_of_option n e f None bad worse = absurd bad
   one_of_option n e f (Some c) bad worse = one_refusal n c e f bad worse
 
-  named_line : (n : ℕ) (line : List ℕ) (e : CellsErr) (o : Option Cell) → cell_of line ≡ o → IsSomeAnd o (λ c. IsErrOfCell plan cells c n e) → IsCellLine line
+  named_line : (n : ℕ) (line : List ℕ) (e : CellsErr) (o : Option Cell) → cell_of_line line ≡ o → IsSomeAnd o (λ c. IsErrOfCell plan cells c n e) → IsCellLine line
   named_line n line e None is bad = absurd bad
   named_line n line e (Some c) is bad = inr (subst IsSome (sym is) refl)
 
   one_bad : (n : ℕ) (line : List ℕ) (e f : CellsErr) → IsErrOfCellLine plan cells line n e → IsErrOfCellLine plan cells line n f → e ≡ f
   one_bad n line (BadLine k) (BadLine j) bad worse = ap BadLine (bad.0 ∙ sym worse.0)
-  one_bad n line (BadLine k) (NotRam j) bad worse = absurd (bad.1 (named_line n line (NotRam j) (cell_of line) refl worse))
-  one_bad n line (BadLine k) (Twice j) bad worse = absurd (bad.1 (named_line n line (Twice j) (cell_of line) refl worse))
-  one_bad n line (BadLine k) (TooMany j) bad worse = absurd (bad.1 (named_line n line (TooMany j) (cell_of line) refl worse))
-  one_bad n line (NotRam k) (BadLine j) bad worse = absurd (worse.1 (named_line n line (NotRam k) (cell_of line) refl bad))
-  one_bad n line (Twice k) (BadLine j) bad worse = absurd (worse.1 (named_line n line (Twice k) (cell_of line) refl bad))
-  one_bad n line (TooMany k) (BadLine j) bad worse = absurd (worse.1 (named_line n line (TooMany k) (cell_of line) refl bad))
-  one_bad n line (NotRam k) (NotRam j) bad worse = one_of_option n (NotRam k) (NotRam j) (cell_of line) bad worse
-  one_bad n line (NotRam k) (Twice j) bad worse = one_of_option n (NotRam k) (Twice j) (cell_of line) bad worse
-  one_bad n line (NotRam k) (TooMany j) bad worse = one_of_option n (NotRam k) (TooMany j) (cell_of line) bad worse
-  one_bad n line (Twice k) (NotRam j) bad worse = one_of_option n (Twice k) (NotRam j) (cell_of line) bad worse
-  one_bad n line (Twice k) (Twice j) bad worse = one_of_option n (Twice k) (Twice j) (cell_of line) bad worse
-  one_bad n line (Twice k) (TooMany j) bad worse = one_of_option n (Twice k) (TooMany j) (cell_of line) bad worse
-  one_bad n line (TooMany k) (NotRam j) bad worse = one_of_option n (TooMany k) (NotRam j) (cell_of line) bad worse
-  one_bad n line (TooMany k) (Twice j) bad worse = one_of_option n (TooMany k) (Twice j) (cell_of line) bad worse
-  one_bad n line (TooMany k) (TooMany j) bad worse = one_of_option n (TooMany k) (TooMany j) (cell_of line) bad worse
+  one_bad n line (BadLine k) (NotRam j) bad worse = absurd (bad.1 (named_line n line (NotRam j) (cell_of_line line) refl worse))
+  one_bad n line (BadLine k) (Twice j) bad worse = absurd (bad.1 (named_line n line (Twice j) (cell_of_line line) refl worse))
+  one_bad n line (BadLine k) (TooMany j) bad worse = absurd (bad.1 (named_line n line (TooMany j) (cell_of_line line) refl worse))
+  one_bad n line (NotRam k) (BadLine j) bad worse = absurd (worse.1 (named_line n line (NotRam k) (cell_of_line line) refl bad))
+  one_bad n line (Twice k) (BadLine j) bad worse = absurd (worse.1 (named_line n line (Twice k) (cell_of_line line) refl bad))
+  one_bad n line (TooMany k) (BadLine j) bad worse = absurd (worse.1 (named_line n line (TooMany k) (cell_of_line line) refl bad))
+  one_bad n line (NotRam k) (NotRam j) bad worse = one_of_option n (NotRam k) (NotRam j) (cell_of_line line) bad worse
+  one_bad n line (NotRam k) (Twice j) bad worse = one_of_option n (NotRam k) (Twice j) (cell_of_line line) bad worse
+  one_bad n line (NotRam k) (TooMany j) bad worse = one_of_option n (NotRam k) (TooMany j) (cell_of_line line) bad worse
+  one_bad n line (Twice k) (NotRam j) bad worse = one_of_option n (Twice k) (NotRam j) (cell_of_line line) bad worse
+  one_bad n line (Twice k) (Twice j) bad worse = one_of_option n (Twice k) (Twice j) (cell_of_line line) bad worse
+  one_bad n line (Twice k) (TooMany j) bad worse = one_of_option n (Twice k) (TooMany j) (cell_of_line line) bad worse
+  one_bad n line (TooMany k) (NotRam j) bad worse = one_of_option n (TooMany k) (NotRam j) (cell_of_line line) bad worse
+  one_bad n line (TooMany k) (Twice j) bad worse = one_of_option n (TooMany k) (Twice j) (cell_of_line line) bad worse
+  one_bad n line (TooMany k) (TooMany j) bad worse = one_of_option n (TooMany k) (TooMany j) (cell_of_line line) bad worse
 
 -- ---- two splits of one text
 -- they are the same, or the line of one of them is among the first lines of the other
@@ -154,7 +154,7 @@ module _ (plan : PlanData) (lines : List (List ℕ)) where
   one_first e f a b =
       elim (splits a.before b.before a.behind b.behind a.line b.line (sym a.split ∙ b.split)) [
         | same before line ↦
-            let cells : a.cells ≡ b.cells = (a.read).named ∙ ap (λ l. filter_map cell_of l) before ∙ sym (b.read).named in
+            let cells : a.cells ≡ b.cells = (a.read).named ∙ ap (λ l. filter_map cell_of_line l) before ∙ sym (b.read).named in
             let count : length a.before ≡ length b.before = ap (λ (l : List (List ℕ)). length l) before in
             let moved = subst (λ (l : List ℕ). IsErrOfCellLine plan a.cells l (length a.before + 1) e) line a.bad in
             let counted = subst (λ n. IsErrOfCellLine plan a.cells b.line (n + 1) e) count moved in

@@ -2,7 +2,7 @@
 -- what the cells hold.
 use Rattle.std.specs.Prelude.{◌≡◌, ◌+◌, ◌*◌, ◌/◌, ◌%◌, ◌^◌, ◌⊎◌, ℕ, zero, suc, Bool, true, if◌then◌else◌, List, [], ◌∷◌, Option, Some, None, Ok, unwrap_or}
 use Rattle.std.specs.FinMap as map
-use Rattle.csa_chain.specs.MemoryBytes.{Memory, HasBytes}
+use Rattle.csa_chain.specs.MemoryBytes.{Memory, HasOnlyBytes}
 use Rattle.csa_chain.specs.Chain.{link_in, is_area}
 use Rattle.tc_isa.specs.declared.shapes.Shape.{Shape}
 use Rattle.tc_machine.specs.declared.events.Event.{Event}
@@ -41,11 +41,11 @@ event_with_cell_load cells m e None = e
 event_with_cell_load cells m e (Some load) = record e { input = input_with_cell_bytes cells m.mem e.input load.0 load.1 }
 
 -- the event for the machine without the cells' bytes that matches an event of the machine with them
-abbrev pub event_beside_cells : List Cell → Machine → Event → Event
-event_beside_cells cells m e = event_with_cell_load cells m e (load_at_pc m)
+abbrev pub event_without_cells : List Cell → Machine → Event → Event
+event_without_cells cells m e = event_with_cell_load cells m e (load_at_pc m)
 
 -- FCX and PCXI name no area, or an area without bytes of cells
-pub record AreNamedAreasOffCells (cells : List Cell) (m : Machine) : Type 0 where
+pub record AreListHeadsOffCells (cells : List Cell) (m : Machine) : Type 0 where
   pub fcx : (link_in m.fcx ≡ 0) ⊎ (is_area (memory_without_cells cells m.mem) (link_in m.fcx) ≡ true)
   pub pcxi : (link_in m.pcxi ≡ 0) ⊎ (is_area (memory_without_cells cells m.mem) (link_in m.pcxi) ≡ true)
 
@@ -53,5 +53,5 @@ pub record AreNamedAreasOffCells (cells : List Cell) (m : Machine) : Type 0 wher
 -- beside which it runs
 abbrev pub StepsMatchWithoutCells : Type 0
 StepsMatchWithoutCells =
-    (cells : List Cell) (m : Machine) (e : Event) (shape : Shape) (n : ℕ) → HasBytes m.mem → AreNamedAreasOffCells cells m → fetched_instruction (machine_without_cells cells m) ≡ Ok (shape, n)
-    → step (machine_without_cells cells m) (event_beside_cells cells m e) ≡ machine_without_cells cells (step m e)
+    (cells : List Cell) (m : Machine) (e : Event) (shape : Shape) (n : ℕ) → HasOnlyBytes m.mem → AreListHeadsOffCells cells m → fetched_instruction (machine_without_cells cells m) ≡ Ok (shape, n)
+    → step (machine_without_cells cells m) (event_without_cells cells m e) ≡ machine_without_cells cells (step m e)

@@ -26,12 +26,12 @@ cell_of_words (word ∷ at ∷ lo ∷ hi ∷ []) =
 cell_of_words words = None
 
 -- the cell that a line names
-abbrev pub cell_of : List ℕ → Option Cell
-cell_of line = cell_of_words (line_words line)
+abbrev pub cell_of_line : List ℕ → Option Cell
+cell_of_line line = cell_of_words (line_words line)
 
 -- a line is empty or names a cell
 abbrev pub IsCellLine : List ℕ → Type 0
-IsCellLine line = (line ≡ []) ⊎ IsSome (cell_of line)
+IsCellLine line = (line ≡ []) ⊎ IsSome (cell_of_line line)
 
 -- what holds of the cell of each line: it is aligned, and its bounds are words and in order
 pub record IsCellOfLine (c : Cell) : Type 0 where
@@ -43,7 +43,7 @@ pub record IsCellOfLine (c : Cell) : Type 0 where
 -- these lines name these cells, and they are cells of the plan
 pub record AreCellsOfText (plan : PlanData) (lines : List (List ℕ)) (cells : List Cell) : Type 0 where
   pub forms : All IsCellLine lines
-  pub named : cells ≡ filter_map cell_of lines
+  pub named : cells ≡ filter_map cell_of_line lines
   pub are : AreCells plan cells
 
 -- there is room for the cell of one more line of the text: it leaves at most 16 ranges of ram and
@@ -63,7 +63,7 @@ IsErrOfCell plan cells c n (TooMany k) = (k ≡ n) × IsInOneRange c.at 4 plan.r
 -- the error of line n after lines that name these cells: that of its form, else that of its cell
 abbrev pub IsErrOfCellLine : PlanData → List Cell → List ℕ → ℕ → CellsErr → Type 0
 IsErrOfCellLine plan cells line n (BadLine k) = (k ≡ n) × (IsCellLine line → ⊥)
-IsErrOfCellLine plan cells line n e = IsSomeAnd (cell_of line) (λ c. IsErrOfCell plan cells c n e)
+IsErrOfCellLine plan cells line n e = IsSomeAnd (cell_of_line line) (λ c. IsErrOfCell plan cells c n e)
 
 -- the error of a text of cells: that of the first bad line, counted from 1; the lines before name
 -- cells of the plan
@@ -85,7 +85,7 @@ IsResultOfCellText plan bytes (Err e) = IsErrOfCellText plan (text_lines bytes) 
 -- plan
 pub record AreCellsAfterLine (plan : PlanData) (cells : List Cell) (line : List ℕ) (more : List Cell) : Type 0 where
   pub form : IsCellLine line
-  pub named : more ≡ cells ++ filter_map cell_of (line ∷ [])
+  pub named : more ≡ cells ++ filter_map cell_of_line (line ∷ [])
   pub are : AreCells plan more
 
 -- ---- the law

@@ -15,7 +15,7 @@ use Rattle.value_cells.specs.Safe.{SafeWithCells}
 use Rattle.depth_cert.specs.Certs.{CertData, IsCert}
 use Rattle.cfg_recover.specs.RulesHoldOrFail.{Accepts}
 use Rattle.cfg_recover.specs.EdgeAndFrameLaws.{FramesHeld}
-use Rattle.value_cells.specs.Keeping.{KeepsCells, BreaksCells}
+use Rattle.value_cells.specs.Keeping.{CertKeepsCells, FailsRule16At}
 use Rattle.depth_cert.specs.declared.keys.Key.{Key}
 
 -- The ram of the plan with cells is all ram except the cells' bytes.
@@ -33,18 +33,18 @@ EachCellStaysInBounds =
 
 -- if an accepted certificate keeps the cells, and its image is safe under the plan with cells, the
 -- image is safe with cells under the plan itself
-abbrev pub CellsKeepTheirBounds : Type 0
-CellsKeepTheirBounds =
+abbrev pub AcceptedIsSafeWithCells : Type 0
+AcceptedIsSafeWithCells =
     (image : ImageData) (plan : PlanData) (cells : List Cell) (cert : CertData) (most : ℕ) → IsPlan plan → AreCells plan cells → IsCert cert
     → Accepts image (with_cells plan cells) cert → Safe image (with_cells plan cells) most → FramesHeld image (with_cells plan cells) cert
-    → KeepsCells image (with_cells plan cells) cells cert → SafeWithCells image plan cells most
+    → CertKeepsCells image (with_cells plan cells) cells cert → SafeWithCells image plan cells most
 
 -- the plan with cells is a plan
-abbrev pub CellsMakeAPlan : Type 0
-CellsMakeAPlan = (plan : PlanData) (cells : List Cell) → IsPlan plan → AreCells plan cells → IsPlan (with_cells plan cells)
+abbrev pub PlanWithCellsIsPlan : Type 0
+PlanWithCellsIsPlan = (plan : PlanData) (cells : List Cell) → IsPlan plan → AreCells plan cells → IsPlan (with_cells plan cells)
 
 -- If K16 fails somewhere, the certificate doesn't keep the cells.
-abbrev pub CellFaultsRefute : Type 0
-CellFaultsRefute =
-    (image : ImageData) (plan : PlanData) (cells : List Cell) (cert : CertData) (k : Key) (p : ℕ) → BreaksCells image plan cells cert k p
-    → KeepsCells image plan cells cert → ⊥
+abbrev pub CellFaultMeansNotKept : Type 0
+CellFaultMeansNotKept =
+    (image : ImageData) (plan : PlanData) (cells : List Cell) (cert : CertData) (k : Key) (p : ℕ) → FailsRule16At image plan cells cert k p
+    → CertKeepsCells image plan cells cert → ⊥

@@ -5,22 +5,22 @@ use Rattle.tcd_plan.specs.PlanData.{PlanData, IsPlan}
 use Rattle.depth_cert.specs.declared.keys.Key.{Key}
 use Rattle.depth_cert.specs.Certs.{CertData, IsCert}
 use Rattle.cfg_recover.specs.RulesHoldOrFail.{Accepts}
-use Rattle.cfg_recover.specs.Assignments.{IsBelowAt, known_in}
+use Rattle.cfg_recover.specs.Assignments.{IsAssignmentBelow, assignment_of_cert}
 use Rattle.value_cells.specs.declared.cells.Cell.{Cell}
-use Rattle.value_cells.specs.Keeping.{KeepsCells, BreaksCells}
+use Rattle.value_cells.specs.Keeping.{CertKeepsCells, FailsRule16At}
 
 -- One certificate is below another if the other has all of its places and covers what is known
 -- there. If both are accepted under a plan, K16 fails for the upper one wherever it fails for the
 -- lower.
-abbrev pub CellFaultsGrow : Type 0
-CellFaultsGrow =
+abbrev pub CellFaultsAreMonotone : Type 0
+CellFaultsAreMonotone =
     (image : ImageData) (plan : PlanData) (cells : List Cell) (lower upper : CertData) (k : Key) (p : ℕ) → IsPlan plan → IsCert lower → IsCert upper
-    → lower.version ≡ upper.version → Accepts image plan lower → Accepts image plan upper → IsBelowAt (known_in lower) (known_in upper)
-    → BreaksCells image plan cells lower k p → BreaksCells image plan cells upper k p
+    → lower.version ≡ upper.version → Accepts image plan lower → Accepts image plan upper → IsAssignmentBelow (assignment_of_cert lower) (assignment_of_cert upper)
+    → FailsRule16At image plan cells lower k p → FailsRule16At image plan cells upper k p
 
 -- If a certificate keeps the cells, each one below it does too, if both are accepted under a plan.
-abbrev pub LesserKeepsCells : Type 0
-LesserKeepsCells =
+abbrev pub LesserCertKeepsCells : Type 0
+LesserCertKeepsCells =
     (image : ImageData) (plan : PlanData) (cells : List Cell) (lower upper : CertData) → IsPlan plan → IsCert lower → IsCert upper
-    → lower.version ≡ upper.version → Accepts image plan lower → Accepts image plan upper → IsBelowAt (known_in lower) (known_in upper)
-    → KeepsCells image plan cells upper → KeepsCells image plan cells lower
+    → lower.version ≡ upper.version → Accepts image plan lower → Accepts image plan upper → IsAssignmentBelow (assignment_of_cert lower) (assignment_of_cert upper)
+    → CertKeepsCells image plan cells upper → CertKeepsCells image plan cells lower

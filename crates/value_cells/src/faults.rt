@@ -1,10 +1,10 @@
 // K16 at each point of a certificate.
 ghost use Rattle.std.specs.Prelude.{◌≤◌, ◌+◌, ◌^◌, All, IfNone, IfSome};
-ghost use Rattle.value_domain.specs.State.{AreValues};
+ghost use Rattle.value_domain.specs.State.{AreInLattice};
 ghost use Rattle.cfg_recover.specs.RulesHoldOrFail.{Accepts};
 ghost use Rattle.value_cells.specs.Cells as spec;
 ghost use Rattle.value_cells.specs.Cells.{AreCells};
-ghost use Rattle.value_cells.specs.Keeping.{KeepsCells, KeepsCellsAtPoint, IsRule16Fault, IsRule16NodeFault};
+ghost use Rattle.value_cells.specs.Keeping.{CertKeepsCells, PointKeepsCells, IsFirstRule16Fault, IsFirstRule16NodeFault};
 
 use crate::cells::Cells;
 use crate::plans::with_cells;
@@ -24,9 +24,9 @@ pub fn cells_fault(image: &Image, plan: &Plan, cells: &Cells, cert: &Cert) -> Op
     requires cells { AreCells plan.now cells.now }
     requires accepted { Accepts image.now (spec.with_cells plan.now cells.now) cert.now }
     ensures none { IfNone result
-        (KeepsCells image.now (spec.with_cells plan.now cells.now) cells.now cert.now) }
+        (CertKeepsCells image.now (spec.with_cells plan.now cells.now) cells.now cert.now) }
     ensures some { let other = spec.with_cells plan.now cells.now in
-        IfSome result (λ f. IsRule16Fault image.now other cells.now cert.now f.0 f.1) }
+        IfSome result (λ f. IsFirstRule16Fault image.now other cells.now cert.now f.0 f.1) }
 {
     let _areas = plan.areas;
     let other = with_cells(plan, cells);
@@ -58,14 +58,14 @@ fn first_cell_fault_in_node<'a>(
     node: &Node<'a>,
     walk: &mut PointWalk<'a>,
 ) -> Option<u32>
-    requires values { All (λ p. AreValues rule.now.bounds.now p.state.regs) node.now.points }
+    requires values { All (λ p. AreInLattice rule.now.bounds.now p.state.regs) node.now.points }
     requires cells { All (λ c. c.at + 4 ≤ 2 ^ 32) rule.now.cells.now }
     ensures none { let r = rule.now in
         IfNone result
-        (All (KeepsCellsAtPoint r.bounds.now r.image.now r.plan.now r.cells.now) node.now.points) }
+        (All (PointKeepsCells r.bounds.now r.image.now r.plan.now r.cells.now) node.now.points) }
     ensures some { let r = rule.now in
         IfSome result
-        (IsRule16NodeFault r.bounds.now r.image.now r.plan.now r.cells.now node.now) }
+        (IsFirstRule16NodeFault r.bounds.now r.image.now r.plan.now r.cells.now node.now) }
 {
     node.start_walk(walk);
     while let Some(addr) = walk.advance() {

@@ -2,7 +2,7 @@
 ghost use Rattle.std.specs.Prelude.{◌≤◌, ◌+◌, ◌^◌, ◌↔◌, ℕ, IsTrue, All};
 ghost use Rattle.value_domain.specs.Values.{IsWellFormed, IsMember};
 ghost use Rattle.store_ranges.specs.Accesses.{IsAccessSize};
-ghost use Rattle.value_cells.specs.Keeping.{KeepsAll, StoreKeepsCell, FitsCell, AreWithinCellBounds, IsCellKept};
+ghost use Rattle.value_cells.specs.Keeping.{KeepsEachCell, StoreKeepsCell, FitsCell, AreWithinCellBounds, IsCellKeptAt};
 
 use crate::cells::Cell;
 use value_domain::{Val, extent_of, member};
@@ -15,7 +15,7 @@ pub(crate) fn keeps_cells(at: &Val, size: u8, stored: &Val, cells: &[Cell]) -> b
     requires stored { IsWellFormed stored.now }
     requires size { IsAccessSize size }
     requires cells { All (λ c. c.at + 4 ≤ 2 ^ 32) cells.now }
-    ensures { IsTrue result ↔ ((x : ℕ) → IsMember x at.now → KeepsAll stored.now size x cells.now) }
+    ensures { IsTrue result ↔ ((x : ℕ) → IsMember x at.now → KeepsEachCell stored.now size x cells.now) }
 {
     for cell in cells {
         if !keeps_cell(at, size, stored, cell) {
@@ -58,7 +58,7 @@ fn fits_cell(size: u8, stored: &Val, cell: &Cell) -> bool
 /// is the cell's, and the store fits.
 fn is_cell_kept_at(x: u32, at: &Val, fits: bool, cell: u32) -> bool
     requires { IsWellFormed at.now }
-    ensures { IsTrue result ↔ IsCellKept at.now fits cell x }
+    ensures { IsTrue result ↔ IsCellKeptAt at.now fits cell x }
 {
     !member(x, at) || fits && x == cell
 }

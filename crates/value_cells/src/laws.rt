@@ -1,7 +1,7 @@
 // Laws of plans with cells.
 ghost use Rattle.value_cells.specs.BesideCells.{StepsMatchWithoutCells};
-ghost use Rattle.value_cells.specs.Laws.{CellsMakeAPlan, RamIsWithoutCells, EachCellStaysInBounds, CellsKeepTheirBounds, CellFaultsRefute};
-ghost use Rattle.value_cells.specs.Rule16Growth.{CellFaultsGrow, LesserKeepsCells};
+ghost use Rattle.value_cells.specs.Laws.{PlanWithCellsIsPlan, RamIsWithoutCells, EachCellStaysInBounds, AcceptedIsSafeWithCells, CellFaultMeansNotKept};
+ghost use Rattle.value_cells.specs.Rule16Growth.{CellFaultsAreMonotone, LesserCertKeepsCells};
 ghost use Rattle.value_cells.specs.CellListText.{CellTextHasOneResult};
 
 /// The plan with cells is a plan. The machine without the cells' bytes, whose inputs are the cells'
@@ -9,9 +9,9 @@ ghost use Rattle.value_cells.specs.CellListText.{CellTextHasOneResult};
 /// that plan, and it keeps the cells, the image is safe under the plan itself, and each cell's word
 /// stays in its bounds.
 pub fn cells_keep_their_bounds()
-    ensures plan { CellsMakeAPlan }
+    ensures plan { PlanWithCellsIsPlan }
     ensures steps { StepsMatchWithoutCells }
-    ensures bounds { CellsKeepTheirBounds }
+    ensures bounds { AcceptedIsSafeWithCells }
 {}
 
 /// In plain words: the ram that is left without cells, and what safe with cells means. A text has
@@ -25,7 +25,7 @@ pub fn cell_guard_laws()
 /// If a greater certificate keeps the cells, a lesser one does, since each fault of K16 in the
 /// lesser is one in the greater. One fault is enough to break the rule.
 pub fn cell_fault_laws()
-    ensures grow { CellFaultsGrow }
-    ensures lesser { LesserKeepsCells }
-    ensures refute { CellFaultsRefute }
+    ensures grow { CellFaultsAreMonotone }
+    ensures lesser { LesserCertKeepsCells }
+    ensures refute { CellFaultMeansNotKept }
 {}

@@ -1,6 +1,6 @@
 // Lines of a text of cells.
 ghost use Rattle.std.specs.Prelude.{◌≡◌, IfSome};
-ghost use Rattle.value_cells.specs.CellListText.{cell_of, IsCellOfLine};
+ghost use Rattle.value_cells.specs.CellListText.{cell_of_line, IsCellOfLine};
 
 use crate::Cell;
 use tcd_text::{Words, hex_number, words_in};
@@ -9,7 +9,7 @@ use tcd_text::{Words, hex_number, words_in};
 /// that is a multiple of 4, and bounds in order.
 #[tactic(auto, using(crate::proofs::LineForms::more), unfolding(crate::specs::CellListText::cell_of_words, crate::specs::CellListText::cell_of_numbers))]
 pub(crate) fn parse_cell_line(line: &[u8]) -> Option<Cell>
-    ensures cell { result ≡ cell_of line.now }
+    ensures cell { result ≡ cell_of_line line.now }
     ensures said { IfSome result IsCellOfLine }
 {
     match words_in(line) {

@@ -1,7 +1,7 @@
 // K16 at a point.
 ghost use Rattle.std.specs.Prelude.{◌≤◌, ◌+◌, ◌^◌, ◌↔◌, IsTrue, All};
-ghost use Rattle.value_domain.specs.State.{AreValues};
-ghost use Rattle.value_cells.specs.Keeping.{KeepsCellsAtPoint};
+ghost use Rattle.value_domain.specs.State.{AreInLattice};
+ghost use Rattle.value_cells.specs.Keeping.{PointKeepsCells};
 
 use crate::cells::Cell;
 use crate::keeping::keeps_cells;
@@ -28,11 +28,11 @@ pub(crate) struct CellsRule<'a> {
 /// Returns whether K16 holds of the instruction at an address: if a possible store touches a cell,
 /// its whole word is stored, within bounds.
 pub(crate) fn keeps_rule_16(rule: &CellsRule, codes: &mut KnownCodes, addr: u32, s: &State) -> bool
-    requires values { AreValues rule.now.bounds.now s.now.regs }
+    requires values { AreInLattice rule.now.bounds.now s.now.regs }
     requires cells { All (λ c. c.at + 4 ≤ 2 ^ 32) rule.now.cells.now }
     ensures { let r = rule.now in
         IsTrue result
-        ↔ KeepsCellsAtPoint r.bounds.now r.image.now r.plan.now r.cells.now
+        ↔ PointKeepsCells r.bounds.now r.image.now r.plan.now r.cells.now
         (record { addr = addr; state = s.now }) }
 {
     let Some(found) = codes.locate(rule.image, rule.plan, addr) else {

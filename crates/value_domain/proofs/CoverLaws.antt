@@ -7,8 +7,8 @@ use Rattle.value_domain.specs.declared.values.Val.{Val}
 use Rattle.value_domain.specs.declared.values.Val.TheVariants.{Set, Span}
 use Rattle.value_domain.specs.Sets.{Among, Within, IsAscending, sorted_set_of, alignment_log2, least, greatest, step_of_set, multiples, AreCoverable}
 use Rattle.value_domain.specs.Limits.{Limits, AreLimits}
-use Rattle.value_domain.specs.Floors.{floor, above}
-use Rattle.value_domain.specs.Values.{IsMember, IsWellFormed, IsBelow, cover, value_of_words, members, range, first_in_span, span_len}
+use Rattle.value_domain.specs.Floors.{floor, threshold_above}
+use Rattle.value_domain.specs.Values.{IsMember, IsWellFormed, IsBelow, cover, value_of_words, members, multiples_in_range, first_member_quotient, span_len}
 use Rattle.value_domain.specs.Laws.{MembersAreListed, IsLeastValue}
 use Rattle.value_domain.proofs.SetLaws.{rising_distinct, among_distinct, distinct_has, distinct_same, length-distinct, length_within, least_among, least_least, greatest_among, greatest_greatest, step_least, step_greatest, step_le}
 use Rattle.value_domain.proofs.LimitLaws.{floor_le, floor_mono, floor_same, above_lt, above_le, above_mono, above_same}
@@ -88,32 +88,32 @@ from_units =
     (λ k x h. from_twos_2 x (omega arith))
 
 -- the multiples of a range, in units
-in_range : (s : ℕ) → s ≤ 2 → (lo last k : ℕ) → first_in_span lo s ≤ k → k < first_in_span lo s + span_len lo last s → (lo ≤ k * 2 ^ s) × (k * 2 ^ s ≤ last)
+in_range : (s : ℕ) → s ≤ 2 → (lo last k : ℕ) → first_member_quotient lo s ≤ k → k < first_member_quotient lo s + span_len lo last s → (lo ≤ k * 2 ^ s) × (k * 2 ^ s ≤ last)
 in_range =
-    step_cases (λ s. (lo last k : ℕ) → first_in_span lo s ≤ k → k < first_in_span lo s + span_len lo last s → (lo ≤ k * 2 ^ s) × (k * 2 ^ s ≤ last))
+    step_cases (λ s. (lo last k : ℕ) → first_member_quotient lo s ≤ k → k < first_member_quotient lo s + span_len lo last s → (lo ≤ k * 2 ^ s) × (k * 2 ^ s ≤ last))
     (λ lo last k l h. (omega arith, omega arith))
     (λ lo last k l h. (omega arith, omega arith))
     (λ lo last k l h. (omega arith, omega arith))
 
-from_range : (s : ℕ) → s ≤ 2 → (lo last k : ℕ) → lo ≤ k * 2 ^ s → k * 2 ^ s ≤ last → (first_in_span lo s ≤ k) × (k < first_in_span lo s + span_len lo last s)
+from_range : (s : ℕ) → s ≤ 2 → (lo last k : ℕ) → lo ≤ k * 2 ^ s → k * 2 ^ s ≤ last → (first_member_quotient lo s ≤ k) × (k < first_member_quotient lo s + span_len lo last s)
 from_range =
-    step_cases (λ s. (lo last k : ℕ) → lo ≤ k * 2 ^ s → k * 2 ^ s ≤ last → (first_in_span lo s ≤ k) × (k < first_in_span lo s + span_len lo last s))
+    step_cases (λ s. (lo last k : ℕ) → lo ≤ k * 2 ^ s → k * 2 ^ s ≤ last → (first_member_quotient lo s ≤ k) × (k < first_member_quotient lo s + span_len lo last s))
     (λ lo last k l h. (omega arith, omega arith))
     (λ lo last k l h. (omega arith, omega arith))
     (λ lo last k l h. (omega arith, omega arith))
 
-pub range_among : (x lo last s : ℕ) → s ≤ 2 → Among x (range lo last s) → IsMember x (Span lo last s)
+pub range_among : (x lo last s : ℕ) → s ≤ 2 → Among x (multiples_in_range lo last s) → IsMember x (Span lo last s)
 range_among x lo last s small h =
-    let k = multiples_among x (span_len lo last s) (first_in_span lo s) (2 ^ s) h in
+    let k = multiples_among x (span_len lo last s) (first_member_quotient lo s) (2 ^ s) h in
     let e : x ≡ k.0 * 2 ^ s = k.3 in
     let b = in_range s small lo last k.0 k.1 k.2 in
     (rw e b.0, rw e b.1, from_units s small k.0 x e)
 
-pub among_range : (x lo last s : ℕ) → s ≤ 2 → IsMember x (Span lo last s) → Among x (range lo last s)
+pub among_range : (x lo last s : ℕ) → s ≤ 2 → IsMember x (Span lo last s) → Among x (multiples_in_range lo last s)
 among_range x lo last s small h =
     let e : x ≡ x / 2 ^ s * 2 ^ s = in_units s small x h.2 in
     let b = from_range s small lo last (x / 2 ^ s) (rw (← e) h.0) (rw (← e) h.1) in
-    subst (λ (y : ℕ). Among y (range lo last s)) (sym e) (among_multiples (x / 2 ^ s) (span_len lo last s) (first_in_span lo s) (2 ^ s) b.0 b.1)
+    subst (λ (y : ℕ). Among y (multiples_in_range lo last s)) (sym e) (among_multiples (x / 2 ^ s) (span_len lo last s) (first_member_quotient lo s) (2 ^ s) b.0 b.1)
 
 -- what the members of a well-formed value need
 abbrev pub HasStep : Val → Type 0
@@ -142,7 +142,7 @@ cover-few b xs few = rw (le-leb (length (sorted_set_of xs)) b.most_words few) re
 
 -- the span of an ascending list
 abbrev pub span_of : Limits → List ℕ → Val
-span_of b ws = Span (floor b.thresholds (least ws)) (above b.thresholds (greatest ws) - 1) (step_of_set ws)
+span_of b ws = Span (floor b.thresholds (least ws)) (threshold_above b.thresholds (greatest ws) - 1) (step_of_set ws)
 
 pub cover-many : (b : Limits) (xs : List ℕ) → b.most_words < length (sorted_set_of xs) → cover b xs ≡ span_of b (sorted_set_of xs)
 unfolding cover
@@ -160,7 +160,7 @@ span_holds b ws r z i =
     let low : least ws ≤ z = least_least ws r z i in
     let f : floor b.thresholds (least ws) ≤ least ws = floor_le b.thresholds (least ws) in
     let high : z ≤ greatest ws = greatest_greatest ws z i in
-    let a : greatest ws < above b.thresholds (greatest ws) = above_lt b.thresholds (greatest ws) in
+    let a : greatest ws < threshold_above b.thresholds (greatest ws) = above_lt b.thresholds (greatest ws) in
     (omega arith, omega arith, step_least ws z i)
 
 pub cover_holds : (b : Limits) (xs : List ℕ) (z : ℕ) → Among z xs → IsMember z (cover b xs)
@@ -182,7 +182,7 @@ span_mono b ws vs r some there z m =
     let low : least vs ≤ least ws = least_least vs r (least ws) (there (least ws) (least_among ws some)) in
     let high : greatest ws ≤ greatest vs = greatest_greatest vs (greatest ws) (there (greatest ws) (greatest_among ws some)) in
     let f : floor b.thresholds (least vs) ≤ floor b.thresholds (least ws) = floor_mono b.thresholds (least vs) (least ws) low in
-    let a : above b.thresholds (greatest ws) ≤ above b.thresholds (greatest vs) = above_mono b.thresholds (greatest ws) (greatest vs) high in
+    let a : threshold_above b.thresholds (greatest ws) ≤ threshold_above b.thresholds (greatest vs) = above_mono b.thresholds (greatest ws) (greatest vs) high in
     let s : step_of_set vs ≤ step_of_set ws = step_greatest ws (step_of_set vs) (step_le vs) (λ x i. step_least vs x (there x i)) in
     (omega arith, omega arith, omega arith)
 
@@ -215,10 +215,10 @@ span_own b ws ms rw_ rm some there held =
     let at_greatest : IsMember (greatest ms) (span_of b ws) = held (greatest ms) (greatest_among ms some_m) in
     let low : least ms ≤ least ws = least_least ms rm (least ws) (there (least ws) (least_among ws some)) in
     let high : greatest ws ≤ greatest ms = greatest_greatest ms (greatest ws) (there (greatest ws) (greatest_among ws some)) in
-    let up : greatest ws < above b.thresholds (greatest ws) = above_lt b.thresholds (greatest ws) in
+    let up : greatest ws < threshold_above b.thresholds (greatest ws) = above_lt b.thresholds (greatest ws) in
     let f : floor b.thresholds (least ms) ≡ floor b.thresholds (least ws) = floor_same b.thresholds (least ws) (least ms) at_least.0 low in
-    let in_span : greatest ms ≤ above b.thresholds (greatest ws) - 1 = at_greatest.1 in
-    let a : above b.thresholds (greatest ms) ≡ above b.thresholds (greatest ws) = above_same b.thresholds (greatest ws) (greatest ms) high (omega arith) in
+    let in_span : greatest ms ≤ threshold_above b.thresholds (greatest ws) - 1 = at_greatest.1 in
+    let a : threshold_above b.thresholds (greatest ms) ≡ threshold_above b.thresholds (greatest ws) = above_same b.thresholds (greatest ws) (greatest ms) high (omega arith) in
     let s1 : step_of_set ws ≤ step_of_set ms = step_greatest ms (step_of_set ws) (step_le ws) (λ x i. (held x i).2) in
     let s2 : step_of_set ms ≤ step_of_set ws = step_greatest ws (step_of_set ms) (step_le ms) (λ x i. step_least ms x (there x i)) in
     let s : step_of_set ms ≡ step_of_set ws = omega arith in
@@ -248,16 +248,16 @@ cover_well b xs limits good =
           let some : 1 ≤ length (sorted_set_of xs) = some_distinct xs good.some in
           let ts : List ℕ = b.thresholds in
           let ws : List ℕ = sorted_set_of xs in
-          let held : Within (sorted_set_of xs) (range (floor b.thresholds (least (sorted_set_of xs))) (above b.thresholds (greatest (sorted_set_of xs)) - 1) (step_of_set (sorted_set_of xs))) =
-          λ z i. among_range z (floor b.thresholds (least (sorted_set_of xs))) (above b.thresholds (greatest (sorted_set_of xs)) - 1) (step_of_set (sorted_set_of xs)) (step_le (sorted_set_of xs))
+          let held : Within (sorted_set_of xs) (multiples_in_range (floor b.thresholds (least (sorted_set_of xs))) (threshold_above b.thresholds (greatest (sorted_set_of xs)) - 1) (step_of_set (sorted_set_of xs))) =
+          λ z i. among_range z (floor b.thresholds (least (sorted_set_of xs))) (threshold_above b.thresholds (greatest (sorted_set_of xs)) - 1) (step_of_set (sorted_set_of xs)) (step_le (sorted_set_of xs))
           (span_holds b (sorted_set_of xs) (rising_distinct xs) z i)
           in
           let below : greatest (sorted_set_of xs) < 2 ^ 32 = good.below (greatest (sorted_set_of xs)) (among_distinct (greatest (sorted_set_of xs)) xs (greatest_among (sorted_set_of xs) some)) in
-          let high : above b.thresholds (greatest (sorted_set_of xs)) ≤ 2 ^ 32 = above_le b.thresholds (greatest (sorted_set_of xs)) below in
-          let up : greatest (sorted_set_of xs) < above b.thresholds (greatest (sorted_set_of xs)) = above_lt b.thresholds (greatest (sorted_set_of xs)) in
+          let high : threshold_above b.thresholds (greatest (sorted_set_of xs)) ≤ 2 ^ 32 = above_le b.thresholds (greatest (sorted_set_of xs)) below in
+          let up : greatest (sorted_set_of xs) < threshold_above b.thresholds (greatest (sorted_set_of xs)) = above_lt b.thresholds (greatest (sorted_set_of xs)) in
           rw (cover-many b xs many) (
             step_le (sorted_set_of xs),
-            wide_range (sorted_set_of xs) (floor b.thresholds (least (sorted_set_of xs))) (above b.thresholds (greatest (sorted_set_of xs)) - 1) (step_of_set (sorted_set_of xs)) (rising_distinct xs) held (omega (arith, limits.wide)),
+            wide_range (sorted_set_of xs) (floor b.thresholds (least (sorted_set_of xs))) (threshold_above b.thresholds (greatest (sorted_set_of xs)) - 1) (step_of_set (sorted_set_of xs)) (rising_distinct xs) held (omega (arith, limits.wide)),
             omega arith,
           )
       | inr few ↦
@@ -270,10 +270,10 @@ cover_well b xs limits good =
           })
     ]
   where
-    wide_range : (ws : List ℕ) (lo last step : ℕ) → IsAscending ws → Within ws (range lo last step) → 64 < length ws → 64 < span_len lo last step
+    wide_range : (ws : List ℕ) (lo last step : ℕ) → IsAscending ws → Within ws (multiples_in_range lo last step) → 64 < length ws → 64 < span_len lo last step
     wide_range ws lo last step r there many =
-        let shorter : length ws ≤ length (range lo last step) = length_within ws (range lo last step) r (rising_multiples (span_len lo last step) (first_in_span lo step) (2 ^ step) (unit_some step)) there in
-        omega (arith, length-multiples (span_len lo last step) (first_in_span lo step) (2 ^ step))
+        let shorter : length ws ≤ length (multiples_in_range lo last step) = length_within ws (multiples_in_range lo last step) r (rising_multiples (span_len lo last step) (first_member_quotient lo step) (2 ^ step) (unit_some step)) there in
+        omega (arith, length-multiples (span_len lo last step) (first_member_quotient lo step) (2 ^ step))
 
 pub cover_least : (b : Limits) (xs : List ℕ) → AreLimits b → AreCoverable xs → IsLeastValue b xs (cover b xs)
 cover_least b xs limits good = record {

@@ -5,8 +5,8 @@ use Rattle.std.proofs.lemmas.Bool.{cases_lt}
 use Rattle.value_domain.specs.declared.values.Val.TheVariants.{Set, Span}
 use Rattle.value_domain.specs.Sets.{Among, Within, IsAscending, sorted_set_of, alignment_log2, least, greatest, step_of_set, IsExtent}
 use Rattle.value_domain.specs.Limits.{Limits}
-use Rattle.value_domain.specs.Floors.{floor, above}
-use Rattle.value_domain.specs.Values.{IsMember, IsValue, IsBelow, cover, members, range, first_in_span, span_len}
+use Rattle.value_domain.specs.Floors.{floor, threshold_above}
+use Rattle.value_domain.specs.Values.{IsMember, IsInLattice, IsBelow, cover, members, multiples_in_range, first_member_quotient, span_len}
 use Rattle.value_domain.proofs.SetLaws.{rising_distinct, among_distinct, distinct_has, least_among, least_least, greatest_among, greatest_greatest, step_least, step_greatest, step_le, twos_le}
 use Rattle.value_domain.proofs.CoverLaws.{cover-few, cover-many, cover_holds, cover_mono, cover_own, cover_step, cover-same, among_member, member_among, step_cases, from_units, in_units, multiples_among, among_multiples}
 
@@ -112,7 +112,7 @@ extent_distinct xs e = extent_same xs (sorted_set_of xs) (λ z i. distinct_has z
 
 -- the cover of a large set
 pub cover_span : {lo hi s : ℕ} (b : Limits) (xs : List ℕ) → b.most_words < length (sorted_set_of xs) → IsExtent xs lo hi s
-    → cover b xs ≡ Span (floor b.thresholds lo) (above b.thresholds hi - 1) s
+    → cover b xs ≡ Span (floor b.thresholds lo) (threshold_above b.thresholds hi - 1) s
 cover_span {lo} {hi} {s} b xs many e =
     let own = extent_only (sorted_set_of xs) (extent_rising (sorted_set_of xs) (rising_distinct xs) (omega arith)) (extent_distinct xs e) in
     rw (cover-many b xs many, own.0, own.1, own.2) refl
@@ -177,35 +177,35 @@ next_unit =
           | inr h ↦ h
         ]
 
-pub extent_range : (lo last s : ℕ) → s ≤ 2 → 2 ≤ span_len lo last s → IsExtent (range lo last s) (first_in_span lo s * 2 ^ s) (last / 2 ^ s * 2 ^ s) s
+pub extent_range : (lo last s : ℕ) → s ≤ 2 → 2 ≤ span_len lo last s → IsExtent (multiples_in_range lo last s) (first_member_quotient lo s * 2 ^ s) (last / 2 ^ s * 2 ^ s) s
 extent_range lo last s small two = record {
-  low_in = among_multiples (first_in_span lo s) (span_len lo last s) (first_in_span lo s) (2 ^ s) (omega arith) (omega arith);
-  high_in = among_multiples (last / 2 ^ s) (span_len lo last s) (first_in_span lo s) (2 ^ s) (omega arith) (omega arith);
+  low_in = among_multiples (first_member_quotient lo s) (span_len lo last s) (first_member_quotient lo s) (2 ^ s) (omega arith) (omega arith);
+  high_in = among_multiples (last / 2 ^ s) (span_len lo last s) (first_member_quotient lo s) (2 ^ s) (omega arith) (omega arith);
   low = λ z i.
-      let k = multiples_among z (span_len lo last s) (first_in_span lo s) (2 ^ s) i in
+      let k = multiples_among z (span_len lo last s) (first_member_quotient lo s) (2 ^ s) i in
       let e : z ≡ k.0 * 2 ^ s = k.3 in
       omega (arith, mul-le-mul_right (2 ^ s) k.1);
   high = λ z i.
-      let k = multiples_among z (span_len lo last s) (first_in_span lo s) (2 ^ s) i in
+      let k = multiples_among z (span_len lo last s) (first_member_quotient lo s) (2 ^ s) i in
       let e : z ≡ k.0 * 2 ^ s = k.3 in
       let at_most : k.0 ≤ last / 2 ^ s = omega arith in
       omega (arith, mul-le-mul_right (2 ^ s) at_most);
   fits = λ z i.
-      let k = multiples_among z (span_len lo last s) (first_in_span lo s) (2 ^ s) i in
+      let k = multiples_among z (span_len lo last s) (first_member_quotient lo s) (2 ^ s) i in
       from_units s small k.0 z k.3;
   small = small;
   full = λ t le each.
-      next_unit s small t (first_in_span lo s) le
-      (each (first_in_span lo s * 2 ^ s) (among_multiples (first_in_span lo s) (span_len lo last s) (first_in_span lo s) (2 ^ s) (omega arith) (omega arith)))
-      (each ((first_in_span lo s + 1) * 2 ^ s) (among_multiples (first_in_span lo s + 1) (span_len lo last s) (first_in_span lo s) (2 ^ s) (omega arith) (omega arith)));
+      next_unit s small t (first_member_quotient lo s) le
+      (each (first_member_quotient lo s * 2 ^ s) (among_multiples (first_member_quotient lo s) (span_len lo last s) (first_member_quotient lo s) (2 ^ s) (omega arith) (omega arith)))
+      (each ((first_member_quotient lo s + 1) * 2 ^ s) (among_multiples (first_member_quotient lo s + 1) (span_len lo last s) (first_member_quotient lo s) (2 ^ s) (omega arith) (omega arith)));
 }
 
 -- a Span that is a value has more members than a Set may have
-pub many_span : (b : Limits) (lo last s : ℕ) → IsValue b (Span lo last s) → b.most_words < length (sorted_set_of (range lo last s))
+pub many_span : (b : Limits) (lo last s : ℕ) → IsInLattice b (Span lo last s) → b.most_words < length (sorted_set_of (multiples_in_range lo last s))
 many_span b lo last s value =
-    elim (cases_lt b.most_words (length (sorted_set_of (range lo last s)))) [
+    elim (cases_lt b.most_words (length (sorted_set_of (multiples_in_range lo last s)))) [
       | inl many ↦ many
       | inr few ↦
-          let e : Set (sorted_set_of (range lo last s)) ≡ Span lo last s = sym (cover-few b (range lo last s) few) ∙ value.own in
+          let e : Set (sorted_set_of (multiples_in_range lo last s)) ≡ Span lo last s = sym (cover-few b (multiples_in_range lo last s) few) ∙ value.own in
           cc
     ]

@@ -9,8 +9,8 @@ use Rattle.std.proofs.lemmas.List.{get_or_default, take-append-le, take_all}
 use Rattle.value_domain.proofs.Loops.{among_get}
 use Rattle.value_domain.proofs.WordLaws.{among_place}
 use Rattle.value_domain.specs.Sets.{Among, Within}
-use Rattle.value_domain.specs.Thresholds.{AreSortedThresholds, threshold_ends, powers_of_two, thresholds_of, HasNearestThresholds}
-use Rattle.value_domain.specs.Floors.{floor, above}
+use Rattle.value_domain.specs.Thresholds.{AreSortedThresholds, range_ends, powers_of_two, thresholds_of, HasNearestThresholds}
+use Rattle.value_domain.specs.Floors.{floor, threshold_above}
 use Rattle.value_domain.proofs.LimitLaws.{floor_le, above_lt, above_le}
 
 -- the greater of two is one of them
@@ -70,34 +70,34 @@ floor_greatest (t ∷ ts) x s among below =
           )
     ]
 
-above-past : (t : ℕ) (ts : List ℕ) (x : ℕ) → x < t → above (t ∷ ts) x ≡ min t (above ts x)
-unfolding above
+above-past : (t : ℕ) (ts : List ℕ) (x : ℕ) → x < t → threshold_above (t ∷ ts) x ≡ min t (threshold_above ts x)
+unfolding threshold_above
 above-past t ts x past = rw (lt-ltb x t past) refl
 
-above-at : (t : ℕ) (ts : List ℕ) (x : ℕ) → t ≤ x → above (t ∷ ts) x ≡ above ts x
-unfolding above
+above-at : (t : ℕ) (ts : List ℕ) (x : ℕ) → t ≤ x → threshold_above (t ∷ ts) x ≡ threshold_above ts x
+unfolding threshold_above
 above-at t ts x at_x = rw (le-ltb x t at_x) refl
 
-above_none : (x : ℕ) → x < 2 ^ 32 → above [] x ≡ 2 ^ 32
-unfolding above
+above_none : (x : ℕ) → x < 2 ^ 32 → threshold_above [] x ≡ 2 ^ 32
+unfolding threshold_above
 above_none x small = omega arith
 
-above_found : (ts : List ℕ) (x : ℕ) → x < 2 ^ 32 → IsFound ts (2 ^ 32) (above ts x)
+above_found : (ts : List ℕ) (x : ℕ) → x < 2 ^ 32 → IsFound ts (2 ^ 32) (threshold_above ts x)
 unfolding IsFound
 above_found [] x small = inl (above_none x small)
 above_found (t ∷ ts) x small =
-    let later = found_later t ts (2 ^ 32) (above ts x) (above_found ts x small) in
+    let later = found_later t ts (2 ^ 32) (threshold_above ts x) (above_found ts x small) in
     elim (cases_lt x t) [
       | inl past ↦
-          elim (min_is t (above ts x)) [
+          elim (min_is t (threshold_above ts x)) [
             | inl here ↦ subst (IsFound (t ∷ ts) (2 ^ 32)) (sym (above-past t ts x past ∙ here)) (found_here t ts (2 ^ 32))
             | inr there ↦ subst (IsFound (t ∷ ts) (2 ^ 32)) (sym (above-past t ts x past ∙ there)) later
           ]
       | inr at_x ↦ subst (IsFound (t ∷ ts) (2 ^ 32)) (sym (above-at t ts x at_x)) later
     ]
 
-above_least : (ts : List ℕ) (x s : ℕ) → Among s ts → x < s → above ts x ≤ s
-unfolding above
+above_least : (ts : List ℕ) (x s : ℕ) → Among s ts → x < s → threshold_above ts x ≤ s
+unfolding threshold_above
 above_least [] x s among more = absurd among
 above_least (t ∷ ts) x s among more =
     elim (cases_lt x t) [
@@ -146,24 +146,24 @@ floor-last ws x at ordered parted some =
       | inr ge ↦ let high : x < get_or ws p.0 0 = parted.after p.0 ge p.1 in absurd (omega (arith, p.2))
     ])
 
-pub above-none : (ws : List ℕ) (x at : ℕ) → x < 2 ^ 32 → AreParted ws x at → at ≡ length ws → above ws x ≡ 2 ^ 32
+pub above-none : (ws : List ℕ) (x at : ℕ) → x < 2 ^ 32 → AreParted ws x at → at ≡ length ws → threshold_above ws x ≡ 2 ^ 32
 above-none ws x at small parted all =
-    unfind ws (2 ^ 32) (above ws x) (above_found ws x small) (λ e. e)
+    unfind ws (2 ^ 32) (threshold_above ws x) (above_found ws x small) (λ e. e)
     (λ i.
-    let p = among_place ws (above ws x) i in
-    let high : x < above ws x = above_lt ws x in
+    let p = among_place ws (threshold_above ws x) i in
+    let high : x < threshold_above ws x = above_lt ws x in
     let low : get_or ws p.0 0 ≤ x = parted.before p.0 (omega (arith, p.1)) in
     absurd (omega (arith, p.2)))
 
-pub above-first : (ws : List ℕ) (x at : ℕ) → x < 2 ^ 32 → IsNonDecreasing ws → AreParted ws x at → at < length ws → above ws x ≡ min (get_or ws at 0) (2 ^ 32)
+pub above-first : (ws : List ℕ) (x at : ℕ) → x < 2 ^ 32 → IsNonDecreasing ws → AreParted ws x at → at < length ws → threshold_above ws x ≡ min (get_or ws at 0) (2 ^ 32)
 above-first ws x at small ordered parted some =
     let over : x < get_or ws at 0 = parted.after at (omega arith) some in
-    let least : above ws x ≤ get_or ws at 0 = above_least ws x (get_or ws at 0) (among_get ws at some) over in
-    let most : above ws x ≤ 2 ^ 32 = above_le ws x small in
-    unfind ws (2 ^ 32) (above ws x) (above_found ws x small) (λ e. omega arith)
+    let least : threshold_above ws x ≤ get_or ws at 0 = above_least ws x (get_or ws at 0) (among_get ws at some) over in
+    let most : threshold_above ws x ≤ 2 ^ 32 = above_le ws x small in
+    unfind ws (2 ^ 32) (threshold_above ws x) (above_found ws x small) (λ e. omega arith)
     (λ i.
-    let p = among_place ws (above ws x) i in
-    let high : x < above ws x = above_lt ws x in
+    let p = among_place ws (threshold_above ws x) i in
+    let high : x < threshold_above ws x = above_lt ws x in
     elim (cases_lt p.0 at) [
       | inl lt ↦ let low : get_or ws p.0 0 ≤ x = parted.before p.0 lt in absurd (omega (arith, p.2))
       | inr ge ↦ let o : get_or ws at 0 ≤ get_or ws p.0 0 = ordered at p.0 0 ge p.1 in omega (arith, p.2)
@@ -179,16 +179,16 @@ floor-same ws ts x there back =
     half : (ws ts : List ℕ) (x : ℕ) → Within ws ts → floor ws x ≤ floor ts x
     half ws ts x there = unfind ws 0 (floor ws x) (floor_found ws x) (λ e. omega arith) (λ i. floor_greatest ts x (floor ws x) (there (floor ws x) i) (floor_le ws x))
 
-pub above-same : (ws ts : List ℕ) (x : ℕ) → x < 2 ^ 32 → Within ws ts → Within ts ws → above ws x ≡ above ts x
+pub above-same : (ws ts : List ℕ) (x : ℕ) → x < 2 ^ 32 → Within ws ts → Within ts ws → threshold_above ws x ≡ threshold_above ts x
 above-same ws ts x small there back =
-    let low : above ws x ≤ above ts x = half ts ws x small back in
-    let high : above ts x ≤ above ws x = half ws ts x small there in
+    let low : threshold_above ws x ≤ threshold_above ts x = half ts ws x small back in
+    let high : threshold_above ts x ≤ threshold_above ws x = half ws ts x small there in
     omega arith
   where
-    half : (ws ts : List ℕ) (x : ℕ) → x < 2 ^ 32 → Within ws ts → above ts x ≤ above ws x
+    half : (ws ts : List ℕ) (x : ℕ) → x < 2 ^ 32 → Within ws ts → threshold_above ts x ≤ threshold_above ws x
     half ws ts x small there =
-        unfind ws (2 ^ 32) (above ws x) (above_found ws x small) (λ e. let most : above ts x ≤ 2 ^ 32 = above_le ts x small in omega arith)
-        (λ i. above_least ts x (above ws x) (there (above ws x) i) (above_lt ws x))
+        unfind ws (2 ^ 32) (threshold_above ws x) (above_found ws x small) (λ e. let most : threshold_above ts x ≤ 2 ^ 32 = above_le ts x small in omega arith)
+        (λ i. above_least ts x (threshold_above ws x) (there (threshold_above ws x) i) (above_lt ws x))
 
 -- ---- sorting
 contained : (xs : List ℕ) (x : ℕ) → Among x xs → Contains xs x
@@ -235,7 +235,7 @@ among_found ts other n has found =
 pub has_thresholds : (plan : PlanData) (x : ℕ) → x < 2 ^ 32 → HasNearestThresholds (thresholds_of plan) x
 has_thresholds plan x small =
     let low : Among 0 (thresholds_of plan) = inl refl in
-    let high : Among (2 ^ 32) (thresholds_of plan) = inr (among_front (2 ^ 32) (powers_of_two 33) (threshold_ends (all_ranges plan)) last_power) in
+    let high : Among (2 ^ 32) (thresholds_of plan) = inr (among_front (2 ^ 32) (powers_of_two 33) (range_ends (all_ranges plan)) last_power) in
     record {
       floor = record {
         among = among_found (thresholds_of plan) 0 (floor (thresholds_of plan) x) low (floor_found (thresholds_of plan) x);
@@ -243,7 +243,7 @@ has_thresholds plan x small =
         greatest = floor_greatest (thresholds_of plan) x;
       };
       above = record {
-        among = among_found (thresholds_of plan) (2 ^ 32) (above (thresholds_of plan) x) high (above_found (thresholds_of plan) x small);
+        among = among_found (thresholds_of plan) (2 ^ 32) (threshold_above (thresholds_of plan) x) high (above_found (thresholds_of plan) x small);
         above = above_lt (thresholds_of plan) x;
         least = above_least (thresholds_of plan) x;
       };

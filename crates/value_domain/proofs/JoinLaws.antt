@@ -3,8 +3,8 @@ use Rattle.std.proofs.Common.{◌≡◌, ℕ, zero, suc, ◌<◌, inl, inr, Bool
 use Rattle.std.proofs.lemmas.Bool.{and_parts, and_from, or_left, or_right, or_cases}
 use Rattle.value_domain.specs.declared.values.Val.{Val}
 use Rattle.value_domain.specs.Limits.{Limits, AreLimits}
-use Rattle.value_domain.specs.Values.{IsValue, IsBelow, members, any_val, join_of}
-use Rattle.value_domain.specs.State.{FlagsImpliedBy, joined_regs, joined_locals}
+use Rattle.value_domain.specs.Values.{IsInLattice, IsBelow, members, any_val, join_of}
+use Rattle.value_domain.specs.State.{FlagsImply, joined_regs, joined_locals}
 use Rattle.value_domain.specs.Laws.{JoinIsLeast}
 use Rattle.value_domain.specs.StateLaws.{StateJoinIsLeast}
 use Rattle.value_domain.proofs.CoverLaws.{cover_holds, cover_least, among_member, member_among, has_step}
@@ -24,13 +24,13 @@ reg-joined b vs ws r h same =
     (any_default vs r any_val (get_or vs r any_val) h) (any_default ws r any_val (get_or ws r any_val) (omega arith))
 
 -- ---- two values
-join_left : (b : Limits) (v w : Val) → IsValue b v → IsBelow v (join_of b v w)
+join_left : (b : Limits) (v w : Val) → IsInLattice b v → IsBelow v (join_of b v w)
 join_left b v w value z m = cover_holds b (members v ++ members w) z (append_left z (members v) (members w) (among_member v z (has_step v value.well) m))
 
-join_right : (b : Limits) (v w : Val) → IsValue b w → IsBelow w (join_of b v w)
+join_right : (b : Limits) (v w : Val) → IsInLattice b w → IsBelow w (join_of b v w)
 join_right b v w value z m = cover_holds b (members v ++ members w) z (append_right z (members v) (members w) (among_member w z (has_step w value.well) m))
 
-join_below : (b : Limits) (v w u : Val) → AreLimits b → IsValue b v → IsValue b w → IsValue b u → IsBelow v u → IsBelow w u → IsBelow (join_of b v w) u
+join_below : (b : Limits) (v w u : Val) → AreLimits b → IsInLattice b v → IsInLattice b w → IsInLattice b u → IsBelow v u → IsBelow w u → IsBelow (join_of b v w) u
 join_below b v w u limits vv vw vu left right =
     (cover_least b (members v ++ members w) limits (record {
       some = omega (arith, length-append (members v) (members w), some_members v vv.well);
@@ -50,18 +50,18 @@ join_least b v w limits vv vw = record {
 }
 
 -- ---- flags
-locals_left : (xs ys : List Bool) → length xs ≡ length ys → FlagsImpliedBy (joined_locals xs ys) xs
+locals_left : (xs ys : List Bool) → length xs ≡ length ys → FlagsImply (joined_locals xs ys) xs
 locals_left [] ys e = tt
 locals_left (x ∷ xs) [] e = absurd (omega arith)
 locals_left (x ∷ xs) (y ∷ ys) e = ((λ t. (and_parts x y t).0), locals_left xs ys (omega arith))
 
-locals_right : (xs ys : List Bool) → length xs ≡ length ys → FlagsImpliedBy (joined_locals xs ys) ys
+locals_right : (xs ys : List Bool) → length xs ≡ length ys → FlagsImply (joined_locals xs ys) ys
 locals_right [] [] e = tt
 locals_right [] (y ∷ ys) e = absurd (omega arith)
 locals_right (x ∷ xs) [] e = absurd (omega arith)
 locals_right (x ∷ xs) (y ∷ ys) e = ((λ t. (and_parts x y t).1), locals_right xs ys (omega arith))
 
-locals_least : (us xs ys : List Bool) → FlagsImpliedBy us xs → FlagsImpliedBy us ys → FlagsImpliedBy us (joined_locals xs ys)
+locals_least : (us xs ys : List Bool) → FlagsImply us xs → FlagsImply us ys → FlagsImply us (joined_locals xs ys)
 locals_least [] [] [] h k = tt
 locals_least [] [] (y ∷ ys) h k = absurd k
 locals_least [] (x ∷ xs) ys h k = absurd h

@@ -1,8 +1,8 @@
--- What `floor` and `above` keep.
+-- What `floor` and `threshold_above` keep.
 use Rattle.std.proofs.Common.{◌≡◌, ℕ, ◌^◌, ◌<◌, ◌≤◌, inl, inr, List, [], ◌∷◌, refl, arith, min, max}
 use Rattle.std.proofs.lemmas.Bool.{cases_lt, lt-ltb, le-ltb, le-leb, lt-leb}
 use Rattle.std.proofs.lemmas.Bool.Decides.{nat_tests}
-use Rattle.value_domain.specs.Floors.{floor, above}
+use Rattle.value_domain.specs.Floors.{floor, threshold_above}
 
 pub floor_le : (ts : List ℕ) (x : ℕ) → floor ts x ≤ x
 unfolding floor
@@ -32,34 +32,34 @@ floor_same (t ∷ ts) x y low high =
           rw (le-leb t x at_x, le-leb t y at_y, e) refl
     ]
 
-pub above_lt : (ts : List ℕ) (x : ℕ) → x < above ts x
-unfolding above
+pub above_lt : (ts : List ℕ) (x : ℕ) → x < threshold_above ts x
+unfolding threshold_above
 above_lt [] x = omega arith
-above_lt (t ∷ ts) x = let rest : x < above ts x = above_lt ts x in grind (arith, nat_tests)
+above_lt (t ∷ ts) x = let rest : x < threshold_above ts x = above_lt ts x in grind (arith, nat_tests)
 
-pub above_le : (ts : List ℕ) (x : ℕ) → x < 2 ^ 32 → above ts x ≤ 2 ^ 32
-unfolding above
+pub above_le : (ts : List ℕ) (x : ℕ) → x < 2 ^ 32 → threshold_above ts x ≤ 2 ^ 32
+unfolding threshold_above
 above_le [] x h = omega arith
-above_le (t ∷ ts) x h = let rest : above ts x ≤ 2 ^ 32 = above_le ts x h in grind (arith, nat_tests)
+above_le (t ∷ ts) x h = let rest : threshold_above ts x ≤ 2 ^ 32 = above_le ts x h in grind (arith, nat_tests)
 
-pub above_mono : (ts : List ℕ) (x y : ℕ) → x ≤ y → above ts x ≤ above ts y
-unfolding above
+pub above_mono : (ts : List ℕ) (x y : ℕ) → x ≤ y → threshold_above ts x ≤ threshold_above ts y
+unfolding threshold_above
 above_mono [] x y h = omega arith
-above_mono (t ∷ ts) x y h = let rest : above ts x ≤ above ts y = above_mono ts x y h in grind (arith, nat_tests)
+above_mono (t ∷ ts) x y h = let rest : threshold_above ts x ≤ threshold_above ts y = above_mono ts x y h in grind (arith, nat_tests)
 
-pub above_same : (ts : List ℕ) (x y : ℕ) → x ≤ y → y < above ts x → above ts y ≡ above ts x
-unfolding above
+pub above_same : (ts : List ℕ) (x y : ℕ) → x ≤ y → y < threshold_above ts x → threshold_above ts y ≡ threshold_above ts x
+unfolding threshold_above
 above_same [] x y low high = omega arith
 above_same (t ∷ ts) x y low high =
-    let rest : y < above ts x → above ts y ≡ above ts x = λ l. above_same ts x y low l in
+    let rest : y < threshold_above ts x → threshold_above ts y ≡ threshold_above ts x = λ l. above_same ts x y low l in
     elim (cases_lt x t) [
       | inl here ↦
-          let high2 : y < min t (above ts x) = rw (lt-ltb x t here) at high in
+          let high2 : y < min t (threshold_above ts x) = rw (lt-ltb x t here) at high in
           let at_y : y < t = omega arith in
-          let e : above ts y ≡ above ts x = rest (omega arith) in
+          let e : threshold_above ts y ≡ threshold_above ts x = rest (omega arith) in
           rw (lt-ltb x t here, lt-ltb y t at_y, e) refl
       | inr past ↦
           let no_y : t ≤ y = omega arith in
-          let high2 : y < above ts x = rw (le-ltb x t past) at high in
+          let high2 : y < threshold_above ts x = rw (le-ltb x t past) at high in
           rw (le-ltb x t past, le-ltb y t no_y) (rest high2)
     ]

@@ -6,8 +6,8 @@ use Rattle.std.proofs.lemmas.Bool.{cases_lt}
 use Rattle.std.specs.List.{insert}
 use Rattle.value_domain.proofs.ExtentLaws.{some_length, extent_rising, extent_range}
 use Rattle.value_domain.proofs.CoverLaws.{step_cases}
-use Rattle.value_domain.specs.Values.{IsWellFormed, range}
-use Rattle.value_domain.specs.Sets.{IsExtent, Among, IsAscending, alignment_log2, step_of_set, least, greatest, sorted_insert, AreWords}
+use Rattle.value_domain.specs.Values.{IsWellFormed, multiples_in_range}
+use Rattle.value_domain.specs.Sets.{IsExtent, Among, IsAscending, alignment_log2, step_of_set, least, greatest, sorted_insert, AreSetWords}
 use Rattle.value_domain.specs.declared.values.Val.TheVariants.{Span}
 use Rattle.value_domain.proofs.SetLaws.{put-lt, put-gt, rising_put, among_put, length_put, put_has, greatest_greatest}
 
@@ -48,7 +48,7 @@ put-insert x (y ∷ ys) (suc (suc at)) r within before after =
     put-gt x y ys (omega arith)
     ∙ ap (λ (l : List ℕ). y ∷ l) (put-insert x ys (suc at) r.1 (omega arith) (λ h. let e : suc at - 1 ≡ at = omega arith in rw e last) (λ h. after (omega arith)))
 
-pub words_put : (x : ℕ) (ws : List ℕ) → AreWords ws → length ws < 128 → x < 2 ^ 32 → AreWords (sorted_insert x ws)
+pub words_put : (x : ℕ) (ws : List ℕ) → AreSetWords ws → length ws < 128 → x < 2 ^ 32 → AreSetWords (sorted_insert x ws)
 words_put x ws a room small = record {
   some = some_length (sorted_insert x ws) x (put_has x ws);
   few = omega (arith, length_put x ws);
@@ -73,7 +73,7 @@ unfolding least
 least-first [] some = refl
 least-first (w ∷ ws) some = refl
 
-pub extent_places : (ws : List ℕ) (step : ℕ) → AreWords ws → step ≡ step_of_set ws → IsExtent ws (get_or ws 0 0) (get_or ws (length ws - 1) 0) step
+pub extent_places : (ws : List ℕ) (step : ℕ) → AreSetWords ws → step ≡ step_of_set ws → IsExtent ws (get_or ws 0 0) (get_or ws (length ws - 1) 0) step
 extent_places ws step a e = rw (← least-first ws a.some, ← greatest-last ws a.rising a.some, e) (extent_rising ws a.rising a.some)
 
 -- a shift gives the unit of a step
@@ -81,7 +81,7 @@ unit_shift : (s : ℕ) → s ≤ 2 → 1 * 2 ^ s % 2 ^ 64 ≡ 2 ^ s
 unit_shift = step_cases (λ s. 1 * 2 ^ s % 2 ^ 64 ≡ 2 ^ s) refl refl refl
 
 pub extent_units : (lo last s lo2 last2 : ℕ) → lo2 ≡ lo → last2 ≡ last → IsWellFormed (Span lo last s)
-    → IsExtent (range lo last s) ((lo2 + (1 * 2 ^ s % 2 ^ 64 - 1)) / (1 * 2 ^ s % 2 ^ 64) * (1 * 2 ^ s % 2 ^ 64)) (last2 / (1 * 2 ^ s % 2 ^ 64) * (1 * 2 ^ s % 2 ^ 64)) s
+    → IsExtent (multiples_in_range lo last s) ((lo2 + (1 * 2 ^ s % 2 ^ 64 - 1)) / (1 * 2 ^ s % 2 ^ 64) * (1 * 2 ^ s % 2 ^ 64)) (last2 / (1 * 2 ^ s % 2 ^ 64) * (1 * 2 ^ s % 2 ^ 64)) s
 extent_units lo last s lo2 last2 e f well = rw (unit_shift s well.0, e, f) (extent_range lo last s well.0 (omega (arith, well.1)))
 
 pub above_absent : (x : ℕ) (ws : List ℕ) (at : ℕ) → (Among x ws → ⊥) → (at < length ws → x ≤ get_or ws at 0) → at < length ws → x < get_or ws at 0

@@ -7,7 +7,7 @@ use Rattle.value_domain.specs.declared.values.Val.{Val}
 use Rattle.value_domain.specs.declared.values.Val.TheVariants.{Set, Span}
 use Rattle.value_domain.specs.Sets.{Among, Within, alignment_log2, multiples}
 use Rattle.value_domain.specs.Limits.{Limits, AreLimits}
-use Rattle.value_domain.specs.Values.{IsWellFormed, cover, members, range, span_len, first_in_span, is_in_span, is_member}
+use Rattle.value_domain.specs.Values.{IsWellFormed, cover, members, multiples_in_range, span_len, first_member_quotient, is_in_span, is_member}
 use Rattle.value_domain.specs.Meets.{cover_if_any}
 use Rattle.value_domain.proofs.CoverLaws.{cover-same, range_among, among_range, length-multiples}
 use Rattle.value_domain.proofs.ExtentLaws.{cover-more, cover-part, append_left, append_right, among_append}
@@ -88,31 +88,31 @@ in_span_from lo last step x a b c =
 
 -- a range met with a range
 pub meet_range : (b : Limits) (lo last step lo2 last2 step2 : ℕ) → step ≤ 2 → step2 ≤ 2
-    → cover_if_any b (range (max lo lo2) (min last last2) (max step step2)) ≡ cover_if_any b (filter (is_in_span lo last step) (range lo2 last2 step2))
+    → cover_if_any b (multiples_in_range (max lo lo2) (min last last2) (max step step2)) ≡ cover_if_any b (filter (is_in_span lo last step) (multiples_in_range lo2 last2 step2))
 meet_range b lo last step lo2 last2 step2 small small2 =
-    cover_some-same b (range (max lo lo2) (min last last2) (max step step2)) (filter (is_in_span lo last step) (range lo2 last2 step2))
+    cover_some-same b (multiples_in_range (max lo lo2) (min last last2) (max step step2)) (filter (is_in_span lo last step) (multiples_in_range lo2 last2 step2))
     (λ z i.
     let m = range_among z (max lo lo2) (min last last2) (max step step2) (omega arith) i in
-    filter_has (is_in_span lo last step) z (range lo2 last2 step2)
+    filter_has (is_in_span lo last step) z (multiples_in_range lo2 last2 step2)
     (among_range z lo2 last2 step2 small2 (omega (arith, m.0), omega (arith, m.1), omega (arith, m.2)))
     (in_span_from lo last step z (omega (arith, m.0)) (omega (arith, m.1)) (omega (arith, m.2))))
     (λ z i.
-    let f = among_filter (is_in_span lo last step) z (range lo2 last2 step2) i in
+    let f = among_filter (is_in_span lo last step) z (multiples_in_range lo2 last2 step2) i in
     let m = range_among z lo2 last2 step2 small2 f.0 in
     let n = in_span_parts lo last step z f.1 in
     among_range z (max lo lo2) (min last last2) (max step step2) (omega arith)
     (omega (arith, m.0, n.0), omega (arith, m.1, n.1), omega (arith, m.2, n.2)))
 
-pub none_range : (b : Limits) (lo last s : ℕ) → span_len lo last s ≡ 0 → None ≡ cover_if_any b (range lo last s)
+pub none_range : (b : Limits) (lo last s : ℕ) → span_len lo last s ≡ 0 → None ≡ cover_if_any b (multiples_in_range lo last s)
 unfolding multiples
-none_range b lo last s e = ap (λ n. cover_if_any b (multiples n (first_in_span lo s) (2 ^ s))) (sym e)
+none_range b lo last s e = ap (λ n. cover_if_any b (multiples n (first_member_quotient lo s) (2 ^ s))) (sym e)
 
 pub cover_some-some : (b : Limits) (xs : List ℕ) → 1 ≤ length xs → Some (cover b xs) ≡ cover_if_any b xs
 cover_some-some b [] some = absurd (omega arith)
 cover_some-some b (x ∷ xs) some = refl
 
-pub some_range : (b : Limits) (lo last s : ℕ) → (span_len lo last s ≡ 0 → ⊥) → Some (cover b (range lo last s)) ≡ cover_if_any b (range lo last s)
-some_range b lo last s some = cover_some-some b (range lo last s) (omega (arith, length-multiples (span_len lo last s) (first_in_span lo s) (2 ^ s)))
+pub some_range : (b : Limits) (lo last s : ℕ) → (span_len lo last s ≡ 0 → ⊥) → Some (cover b (multiples_in_range lo last s)) ≡ cover_if_any b (multiples_in_range lo last s)
+some_range b lo last s some = cover_some-some b (multiples_in_range lo last s) (omega (arith, length-multiples (span_len lo last s) (first_member_quotient lo s) (2 ^ s)))
 
 -- ---- tests of some word
 pub any_among : (p : ℕ → Bool) (ws : List ℕ) → list_any p ws ≡ true → (y : ℕ) × Among y ws × (p y ≡ true)

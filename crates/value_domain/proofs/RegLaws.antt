@@ -5,10 +5,10 @@ use Rattle.std.proofs.lemmas.List.{take_more, take_more_set, get_or-set_other}
 use Rattle.std.proofs.Math.Seq.{drop-cons}
 use Rattle.value_domain.specs.declared.values.Val.{Val}
 use Rattle.value_domain.specs.Limits.{Limits}
-use Rattle.value_domain.specs.Values.{IsValue, IsBelow, members, any_val, join_of}
+use Rattle.value_domain.specs.Values.{IsInLattice, IsBelow, members, any_val, join_of}
 use Rattle.value_domain.proofs.CoverLaws.{cover-same}
 use Rattle.value_domain.proofs.ExtentLaws.{among_append, append_left}
-use Rattle.value_domain.specs.State.{FlagsImpliedBy, joined_regs, joined_locals}
+use Rattle.value_domain.specs.State.{FlagsImply, joined_regs, joined_locals}
 
 -- an element that is read at a place
 pub read_at : (vs : List Val) (i : ℕ) (v d : Val) → i < length vs → v ≡ get_or vs i v → get_or vs i d ≡ v
@@ -53,7 +53,7 @@ regs_left vs out i v left k h = get_or-set_other out i k v any_val (λ e. omega 
 
 -- two equal values are joined already
 pub regs_same : (b : Limits) (vs ws out : List Val) (i : ℕ) (v w : Val) → i < length vs → length vs ≡ length ws → length out ≡ length vs → v ≡ get_or vs i v → w ≡ get_or ws i w
-    → v ≡ w → IsValue b v → take i out ≡ take i (joined_regs b vs ws) → get_or out i any_val ≡ get_or vs i any_val → take (i + 1) out ≡ take (i + 1) (joined_regs b vs ws)
+    → v ≡ w → IsInLattice b v → take i out ≡ take i (joined_regs b vs ws) → get_or out i any_val ≡ get_or vs i any_val → take (i + 1) out ≡ take (i + 1) (joined_regs b vs ws)
 regs_same b vs ws out i v w h same len e f eq value inv left =
     let here : get_or out i any_val ≡ v = left ∙ read_at vs i v any_val h e in
     let joined : join_of b v w ≡ v =
@@ -68,15 +68,15 @@ regs_same b vs ws out i v w h same len e f eq value inv left =
     ∙ sym (take_more (joined_regs b vs ws) i any_val (omega (arith, length-joined b vs ws same)))
 
 -- flags
-pub implied_length : (xs ys : List Bool) → FlagsImpliedBy xs ys → length xs ≡ length ys
+pub implied_length : (xs ys : List Bool) → FlagsImply xs ys → length xs ≡ length ys
 implied_length [] [] h = refl
 implied_length [] (y ∷ ys) h = absurd h
 implied_length (x ∷ xs) [] h = absurd h
 implied_length (x ∷ xs) (y ∷ ys) h = ap suc (implied_length xs ys h.1)
 
 pub implied_at : (xs ys : List Bool) (i : ℕ) → i < length xs → i < length ys
-    → (FlagsImpliedBy (drop i xs) (drop i ys) → (IsTrue (get_or xs i false) → IsTrue (get_or ys i false)) × FlagsImpliedBy (drop (i + 1) xs) (drop (i + 1) ys))
-    × ((IsTrue (get_or xs i false) → IsTrue (get_or ys i false)) → FlagsImpliedBy (drop (i + 1) xs) (drop (i + 1) ys) → FlagsImpliedBy (drop i xs) (drop i ys))
+    → (FlagsImply (drop i xs) (drop i ys) → (IsTrue (get_or xs i false) → IsTrue (get_or ys i false)) × FlagsImply (drop (i + 1) xs) (drop (i + 1) ys))
+    × ((IsTrue (get_or xs i false) → IsTrue (get_or ys i false)) → FlagsImply (drop (i + 1) xs) (drop (i + 1) ys) → FlagsImply (drop i xs) (drop i ys))
 implied_at xs ys i h k =
     rw (add-one, drop-cons xs i false h, drop-cons ys i false k) ((λ a. a), (λ a b. (a, b)))
 

@@ -3,15 +3,15 @@ use Rattle.std.specs.Prelude.{◌<◌, ◌≤◌, ℕ, Bool, ◌&&◌, ◌||◌,
 use Rattle.value_domain.specs.declared.values.Val.{Val}
 use Rattle.value_domain.specs.declared.states.State.{State}
 use Rattle.value_domain.specs.Limits.{Limits}
-use Rattle.value_domain.specs.Values.{IsWellFormed, IsValue, IsBelow, any_val, join_of}
+use Rattle.value_domain.specs.Values.{IsWellFormed, IsInLattice, IsBelow, any_val, join_of}
 
 -- each of a state's registers has a well-formed value
 abbrev pub AreWellFormed : List Val → Type 0
 AreWellFormed vs = (r : ℕ) → r < length vs → IsWellFormed (slice_index_or vs r any_val)
 
 -- each of a state's registers has a value that is in the lattice of these limits
-abbrev pub AreValues : Limits → List Val → Type 0
-AreValues b vs = (r : ℕ) → r < length vs → IsValue b (slice_index_or vs r any_val)
+abbrev pub AreInLattice : Limits → List Val → Type 0
+AreInLattice b vs = (r : ℕ) → r < length vs → IsInLattice b (slice_index_or vs r any_val)
 
 -- each value is below the one at its place in the other list
 abbrev pub AreBelow : List Val → List Val → Type 0
@@ -19,11 +19,11 @@ AreBelow vs ws = (r : ℕ) → r < length vs → IsBelow (slice_index_or vs r an
 
 -- equally many flags of saved lower contexts, and each of the first list implies the one at its
 -- place in the second
-abbrev pub FlagsImpliedBy : List Bool → List Bool → Type 0
-FlagsImpliedBy [] [] = Unit {0}
-FlagsImpliedBy [] (y ∷ ys) = ⊥
-FlagsImpliedBy (x ∷ xs) [] = ⊥
-FlagsImpliedBy (x ∷ xs) (y ∷ ys) = (IsTrue x → IsTrue y) × FlagsImpliedBy xs ys
+abbrev pub FlagsImply : List Bool → List Bool → Type 0
+FlagsImply [] [] = Unit {0}
+FlagsImply [] (y ∷ ys) = ⊥
+FlagsImply (x ∷ xs) [] = ⊥
+FlagsImply (x ∷ xs) (y ∷ ys) = (IsTrue x → IsTrue y) × FlagsImply xs ys
 
 -- the context of the upper state (IE, least CCPN, lower) covers that of a state
 abbrev pub CoversContext : State → State → Type 0
@@ -34,7 +34,7 @@ CoversContext upper s = (IsTrue s.ie → IsTrue upper.ie) × (upper.ccpn ≤ s.c
 pub record Covers (upper s : State) : Type 0 where
   pub regs : AreBelow s.regs upper.regs
   pub context : CoversContext upper s
-  pub locals : FlagsImpliedBy upper.locals.items s.locals.items
+  pub locals : FlagsImply upper.locals.items s.locals.items
 
 -- the registers of two states, each with the least value that holds both
 unfoldable pub joined_regs : Limits → List Val → List Val → List Val
@@ -60,8 +60,8 @@ state_join_of b s t = record {
 
 -- the join of two states, the least that covers both; none if they have different numbers of saved
 -- lower contexts
-abbrev pub joined_states : Limits → State → State → Option State
-joined_states b s t = if length s.locals.items == length t.locals.items then Some (state_join_of b s t) else None
+abbrev pub state_join_if_any : Limits → State → State → Option State
+state_join_if_any b s t = if length s.locals.items == length t.locals.items then Some (state_join_of b s t) else None
 
 -- the place i among a state's 27 register values is that of a lower register: D0..D7 or A2..A7
 abbrev pub is_lower_slot : ℕ → Bool

@@ -2,17 +2,17 @@
 use Rattle.std.specs.Prelude.{◌≡◌, length}
 use Rattle.value_domain.specs.declared.states.State.{State}
 use Rattle.value_domain.specs.Limits.{Limits, AreLimits}
-use Rattle.value_domain.specs.State.{Covers, AreValues, state_join_of}
+use Rattle.value_domain.specs.State.{Covers, AreInLattice, state_join_of}
 
 -- j is the least state that covers both s and t
 pub record IsLeastStateAbove (b : Limits) (s t j : State) : Type 0 where
-  pub values : AreValues b j.regs
+  pub values : AreInLattice b j.regs
   pub left : Covers j s
   pub right : Covers j t
-  pub least : (u : State) → length u.regs ≡ length s.regs → AreValues b u.regs → Covers u s → Covers u t → Covers u j
+  pub least : (u : State) → length u.regs ≡ length s.regs → AreInLattice b u.regs → Covers u s → Covers u t → Covers u j
 
 -- two states with equally many registers and locals are joined to the least state that covers both
 abbrev pub StateJoinIsLeast : Type 0
 StateJoinIsLeast =
     (b : Limits) (s t : State) → AreLimits b → length s.regs ≡ length t.regs → length s.locals.items ≡ length t.locals.items
-    → AreValues b s.regs → AreValues b t.regs → IsLeastStateAbove b s t (state_join_of b s t)
+    → AreInLattice b s.regs → AreInLattice b t.regs → IsLeastStateAbove b s t (state_join_of b s t)

@@ -2,9 +2,9 @@
 use Rattle.std.specs.Prelude.{Option, Some, None, ◌≡◌, ◌<◌, ◌≤◌, ◌+◌, ◌-◌, ◌/◌, ◌^◌, ℕ, nat_le, if◌then◌else◌, List, length, ◌==◌, ◌&&◌, Bool, ◌∷◌, ◌++◌, []}
 use Rattle.value_domain.specs.declared.values.Val.{Val}
 use Rattle.value_domain.specs.declared.values.Val.TheVariants.{Set, Span}
-use Rattle.value_domain.specs.Sets.{Among, AreWords, sorted_set_of, alignment_log2, least, greatest, step_of_set, multiples}
+use Rattle.value_domain.specs.Sets.{Among, AreSetWords, sorted_set_of, alignment_log2, least, greatest, step_of_set, multiples}
 use Rattle.value_domain.specs.Limits.{Limits}
-use Rattle.value_domain.specs.Floors.{floor, above}
+use Rattle.value_domain.specs.Floors.{floor, threshold_above}
 use Rattle.std.specs.List.{list_any}
 
 -- a word is one of a value's members
@@ -14,26 +14,26 @@ IsMember x (Span lo last step) = (lo ≤ x) × (x ≤ last) × (step ≤ alignme
 
 -- the first member of a Span, which is the first multiple of 2 ^ step from lo on, divided by 2 ^
 -- step
-abbrev pub first_in_span : ℕ → ℕ → ℕ
-first_in_span lo step = (lo + (2 ^ step - 1)) / 2 ^ step
+abbrev pub first_member_quotient : ℕ → ℕ → ℕ
+first_member_quotient lo step = (lo + (2 ^ step - 1)) / 2 ^ step
 
 -- the number of members of a Span: of multiples of 2 ^ step in lo..=last
 abbrev pub span_len : ℕ → ℕ → ℕ → ℕ
-span_len lo last step = (last / 2 ^ step + 1) - first_in_span lo step
+span_len lo last step = (last / 2 ^ step + 1) - first_member_quotient lo step
 
 -- the multiples of 2 ^ step in lo..=last
-abbrev pub range : ℕ → ℕ → ℕ → List ℕ
-range lo last step = multiples (span_len lo last step) (first_in_span lo step) (2 ^ step)
+abbrev pub multiples_in_range : ℕ → ℕ → ℕ → List ℕ
+multiples_in_range lo last step = multiples (span_len lo last step) (first_member_quotient lo step) (2 ^ step)
 
 -- the members of a value; those of a Span in ascending order
 abbrev pub members : Val → List ℕ
 members (Set ws) = ws
-members (Span lo last step) = range lo last step
+members (Span lo last step) = multiples_in_range lo last step
 
 -- an abstract value is well-formed: a Set of 1 to 128 ascending words, or a Span of more than 64
 -- members
 abbrev pub IsWellFormed : Val → Type 0
-IsWellFormed (Set ws) = AreWords ws
+IsWellFormed (Set ws) = AreSetWords ws
 IsWellFormed (Span lo last step) = (step ≤ 2) × (64 < span_len lo last step) × (last < 2 ^ 32)
 
 -- the value of ascending words: the Set of them if they are few enough, else the lattice's least
@@ -42,14 +42,14 @@ abbrev pub value_of_words : Limits → List ℕ → Val
 value_of_words b ws =
     if nat_le (length ws) b.most_words
     then Set ws
-    else Span (floor b.thresholds (least ws)) (above b.thresholds (greatest ws) - 1) (step_of_set ws)
+    else Span (floor b.thresholds (least ws)) (threshold_above b.thresholds (greatest ws) - 1) (step_of_set ws)
 
 -- the least value that holds all words of a list
 unfoldable pub cover : Limits → List ℕ → Val
 cover b xs = value_of_words b (sorted_set_of xs)
 
 -- an abstract value is in the lattice of these limits: well-formed, and the cover of its members
-pub record IsValue (b : Limits) (v : Val) : Type 0 where
+pub record IsInLattice (b : Limits) (v : Val) : Type 0 where
   pub well : IsWellFormed v
   pub own : cover b (members v) ≡ v
 
@@ -67,24 +67,24 @@ words_of (Set ws) = Some ws
 words_of (Span lo last step) = None
 
 -- the Span has all words
-abbrev pub is_any_span : ℕ → ℕ → ℕ → Bool
-is_any_span lo last step = lo == 0 && last == 4294967295 && step == 0
+abbrev pub is_span_of_all_words : ℕ → ℕ → ℕ → Bool
+is_span_of_all_words lo last step = lo == 0 && last == 4294967295 && step == 0
 
 -- the value that holds one word
 abbrev pub word_val : ℕ → Val
 word_val w = Set (w ∷ [])
 
 -- an abstract value's least member
-abbrev pub low : Val → ℕ
-low v = least (members v)
+abbrev pub least_member : Val → ℕ
+least_member v = least (members v)
 
 -- an abstract value's greatest member
-abbrev pub high : Val → ℕ
-high v = greatest (members v)
+abbrev pub greatest_member : Val → ℕ
+greatest_member v = greatest (members v)
 
 -- an abstract value's step: the greatest up to 2 such that 2 ^ step divides each of its members
-abbrev pub step : Val → ℕ
-step v = step_of_set (members v)
+abbrev pub step_of_value : Val → ℕ
+step_of_value v = step_of_set (members v)
 
 -- the least value that holds the members of both
 abbrev pub join_of : Limits → Val → Val → Val

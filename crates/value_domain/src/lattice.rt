@@ -1,11 +1,11 @@
 // Operations of the lattice of values: order, join, and the least value that holds a set.
 ghost use Rattle.std.specs.Prelude.{◌≡◌, ◌==◌, ◌≤◌, ◌<◌, ◌+◌, ◌-◌, ◌*◌, ◌/◌, IsTrue, length, min, max, ◌∷◌, ◌++◌, List, ℕ, ◌↔◌, IsSome, IsNone, slice_index};
 ghost use Rattle.value_domain.specs.Values as values;
-ghost use Rattle.value_domain.specs.Sets.{AreWords, Within, IsAscending, least, greatest, step_of_set, IsExtent};
+ghost use Rattle.value_domain.specs.Sets.{AreSetWords, Within, IsAscending, least, greatest, step_of_set, IsExtent};
 ghost use Rattle.value_domain.specs.Sets as sets;
-ghost use Rattle.value_domain.specs.Floors.{floor, above};
+ghost use Rattle.value_domain.specs.Floors.{floor, threshold_above};
 ghost use Rattle.value_domain.specs.Limits.{AreLimits};
-ghost use Rattle.value_domain.specs.Values.{IsWellFormed, IsValue, IsBelow, cover, members, range, span_len, words_of};
+ghost use Rattle.value_domain.specs.Values.{IsWellFormed, IsInLattice, IsBelow, cover, members, multiples_in_range, span_len, words_of};
 ghost use Rattle.value_domain.specs.declared.values.Val.TheVariants.{Set, Span};
 
 use crate::merged_lists::merge;
@@ -29,7 +29,7 @@ pub struct Extent {
 /// Returns the extent of a Set's words: the least, the greatest, and the step. The lattice compares
 /// and joins abstract values by extents.
 pub(crate) fn extent_of_set(words: &[u32]) -> Extent
-    requires { AreWords words.now }
+    requires { AreSetWords words.now }
     ensures { IsExtent words.now result.least result.greatest result.step }
 {
     Extent {
@@ -43,7 +43,7 @@ pub(crate) fn extent_of_set(words: &[u32]) -> Extent
 /// compares and joins abstract values by extents.
 pub(crate) fn extent_of_span(lo: u32, last: u32, step: u8) -> Extent
     requires { IsWellFormed (Span lo last step) }
-    ensures { IsExtent (range lo last step) result.least result.greatest result.step }
+    ensures { IsExtent (multiples_in_range lo last step) result.least result.greatest result.step }
 {
     let unit = 1u64 << step;
     Extent {
@@ -57,7 +57,7 @@ pub(crate) fn extent_of_span(lo: u32, last: u32, step: u8) -> Extent
 /// below `least` to before the one above `greatest`.
 pub fn write_span(b: &Bounds, least: u32, greatest: u32, step: u8, out: &mut Val)
     ensures { out.new
-        ≡ Span (floor b.now.thresholds least) (above b.now.thresholds greatest - 1) step }
+        ≡ Span (floor b.now.thresholds least) (threshold_above b.now.thresholds greatest - 1) step }
 {
     let lo = b.floor(least);
     let last = (b.threshold_above(greatest) - 1) as u32;
@@ -66,9 +66,9 @@ pub fn write_span(b: &Bounds, least: u32, greatest: u32, step: u8, out: &mut Val
 
 /// Joins a word into an abstract value, which becomes the least one that holds the word too.
 pub fn join_word(b: &Bounds, v: &mut Val, x: u32)
-    requires { IsValue b.now v.old }
+    requires { IsInLattice b.now v.old }
     ensures cover { v.new ≡ cover b.now (x ∷ members v.old) }
-    ensures value { IsValue b.now v.new }
+    ensures value { IsInLattice b.now v.new }
 {
     let _most_words = b.most_words();
     insert_or_widen(b, v, x);
@@ -76,9 +76,9 @@ pub fn join_word(b: &Bounds, v: &mut Val, x: u32)
 
 /// Joins words into an abstract value, which becomes the least one that holds these words too.
 pub fn join_word_list(b: &Bounds, v: &mut Val, words: &[u32])
-    requires { IsValue b.now v.old }
+    requires { IsInLattice b.now v.old }
     ensures cover { v.new ≡ cover b.now (members v.old ++ words.now) }
-    ensures value { IsValue b.now v.new }
+    ensures value { IsInLattice b.now v.new }
 {
     let _most_words = b.most_words();
     let mut i = 0;
@@ -116,7 +116,7 @@ pub fn extent_with_words(e: &Extent, words: &[u32]) -> Extent
 pub fn cover_words(b: &Bounds, words: &[u32]) -> Val
     requires { 1 ≤ length words.now }
     ensures cover { result ≡ cover b.now words.now }
-    ensures value { IsValue b.now result }
+    ensures value { IsInLattice b.now result }
 {
     let mut out = Val::one(words[0]);
     write_cover_words(b, words, &mut out);
@@ -127,7 +127,7 @@ pub fn cover_words(b: &Bounds, words: &[u32]) -> Val
 pub fn write_cover_words(b: &Bounds, words: &[u32], out: &mut Val)
     requires { 1 ≤ length words.now }
     ensures cover { out.new ≡ cover b.now words.now }
-    ensures value { IsValue b.now out.new }
+    ensures value { IsInLattice b.now out.new }
 {
     let _most_words = b.most_words();
     set_word(out, words[0]);
@@ -136,10 +136,10 @@ pub fn write_cover_words(b: &Bounds, words: &[u32], out: &mut Val)
 
 /// Returns the join of two abstract values: the least value that holds the members of both.
 pub fn join(b: &Bounds, v: &Val, w: &Val) -> Val
-    requires left { IsValue b.now v.now }
-    requires right { IsValue b.now w.now }
+    requires left { IsInLattice b.now v.now }
+    requires right { IsInLattice b.now w.now }
     ensures cover { result ≡ cover b.now (members v.now ++ members w.now) }
-    ensures value { IsValue b.now result }
+    ensures value { IsInLattice b.now result }
 {
     let mut out = v.copy();
     join_into(b, &mut out, w);
@@ -149,10 +149,10 @@ pub fn join(b: &Bounds, v: &Val, w: &Val) -> Val
 /// Joins the abstract value `w` into `v`, which becomes the least value that holds the members of
 /// both.
 pub fn join_into(b: &Bounds, v: &mut Val, w: &Val)
-    requires left { IsValue b.now v.old }
-    requires right { IsValue b.now w.now }
+    requires left { IsInLattice b.now v.old }
+    requires right { IsInLattice b.now w.now }
     ensures cover { v.new ≡ cover b.now (members v.old ++ members w.now) }
-    ensures value { IsValue b.now v.new }
+    ensures value { IsInLattice b.now v.new }
 {
     let _most_words = b.most_words();
     match w {
@@ -187,7 +187,7 @@ pub fn is_extent_in_span(e: &Extent, lo: u32, last: u32, step: u8) -> bool
 
 /// Returns true if a value is in the lattice of a plan's thresholds and a format's limits.
 pub fn is_value(b: &Bounds, v: &Val) -> bool
-    ensures { IsTrue result ↔ IsValue b.now v.now }
+    ensures { IsTrue result ↔ IsInLattice b.now v.now }
 {
     match v {
         Val::Set(words) => words.as_slice().len() <= b.most_words(),
@@ -199,8 +199,8 @@ pub fn is_value(b: &Bounds, v: &Val) -> bool
 pub fn cover(b: &Bounds, first: u32, last: u32, step: u8) -> Val
     requires step { step ≤ 2 }
     requires some { 1 ≤ span_len first last step }
-    ensures cover { result ≡ cover b.now (range first last step) }
-    ensures value { IsValue b.now result }
+    ensures cover { result ≡ cover b.now (multiples_in_range first last step) }
+    ensures value { IsInLattice b.now result }
 {
     let mut out = Val::any();
     write_cover(b, first, last, step, &mut out);
@@ -212,8 +212,8 @@ pub fn cover(b: &Bounds, first: u32, last: u32, step: u8) -> Val
 pub fn write_cover(b: &Bounds, first: u32, last: u32, step: u8, out: &mut Val)
     requires step { step ≤ 2 }
     requires some { 1 ≤ span_len first last step }
-    ensures cover { out.new ≡ cover b.now (range first last step) }
-    ensures value { IsValue b.now out.new }
+    ensures cover { out.new ≡ cover b.now (multiples_in_range first last step) }
+    ensures value { IsInLattice b.now out.new }
 {
     let most_words = b.most_words();
     if span_len(first, last, step) > most_words as u64 {
@@ -273,7 +273,7 @@ fn bitwise_or_of_words(words: &[u32]) -> u32
 /// Joins a word into an abstract value: a member changes nothing, a Set with room gets the word,
 /// any other value becomes a Span.
 fn insert_or_widen(b: &Bounds, v: &mut Val, x: u32)
-    requires { IsValue b.now v.old }
+    requires { IsInLattice b.now v.old }
     ensures { v.new ≡ cover b.now (x ∷ members v.old) }
 {
     let most_words = b.most_words();
@@ -294,7 +294,7 @@ fn insert_or_widen(b: &Bounds, v: &mut Val, x: u32)
 fn write_span_with_word(b: &Bounds, e: &Extent, x: u32, out: &mut Val)
     ensures { out.new
         ≡ Span (floor b.now.thresholds (min x e.now.least))
-        (above b.now.thresholds (max x e.now.greatest) - 1)
+        (threshold_above b.now.thresholds (max x e.now.greatest) - 1)
         (min (sets.alignment_log2 x) e.now.step) }
 {
     write_span(
@@ -310,7 +310,7 @@ fn write_span_with_word(b: &Bounds, e: &Extent, x: u32, out: &mut Val)
 /// words too.
 fn widen_span(b: &Bounds, v: &mut Val, words: &[u32])
     requires span { IsNone (words_of v.old) }
-    requires value { IsValue b.now v.old }
+    requires value { IsInLattice b.now v.old }
     ensures { v.new ≡ cover b.now (members v.old ++ words.now) }
 {
     let e = extent_with_words(&extent_of(v), words);
@@ -320,8 +320,8 @@ fn widen_span(b: &Bounds, v: &mut Val, words: &[u32])
 /// Joins a Set's words into an abstract value, which becomes the lattice's least one that holds
 /// them too.
 fn join_set(b: &Bounds, v: &mut Val, words: &Words)
-    requires left { IsValue b.now v.old }
-    requires right { IsValue b.now (Set words.now) }
+    requires left { IsInLattice b.now v.old }
+    requires right { IsInLattice b.now (Set words.now) }
     ensures { v.new ≡ cover b.now (members v.old ++ words.now) }
 {
     if is_set(v) {
@@ -334,9 +334,9 @@ fn join_set(b: &Bounds, v: &mut Val, words: &Words)
 /// Joins a Span's members into an abstract value, which becomes the lattice's least one that holds
 /// them too.
 fn join_span(b: &Bounds, v: &mut Val, lo: u32, last: u32, step: u8)
-    requires left { IsValue b.now v.old }
-    requires right { IsValue b.now (Span lo last step) }
-    ensures { v.new ≡ cover b.now (members v.old ++ range lo last step) }
+    requires left { IsInLattice b.now v.old }
+    requires right { IsInLattice b.now (Span lo last step) }
+    ensures { v.new ≡ cover b.now (members v.old ++ multiples_in_range lo last step) }
 {
     let e = extent_of(v);
     let f = extent_of_span(lo, last, step);
@@ -412,7 +412,7 @@ fn is_set_below_set(own: &[u32], words: &[u32]) -> bool
 fn is_span_below_set(lo: u32, last: u32, step: u8, words: &[u32]) -> bool
     requires step { step ≤ 2 }
     requires words { IsAscending words.now }
-    ensures { IsTrue result ↔ Within (range lo last step) words.now }
+    ensures { IsTrue result ↔ Within (multiples_in_range lo last step) words.now }
 {
     let unit = 1u64 << step;
     let start = (u64::from(lo) + (unit - 1)) / unit;
@@ -427,7 +427,7 @@ fn is_span_below_set(lo: u32, last: u32, step: u8, words: &[u32]) -> bool
 
 /// Returns true if this Span is in the lattice of a plan's thresholds and a format's limits.
 fn is_span_value(b: &Bounds, lo: u32, last: u32, step: u8) -> bool
-    ensures { IsTrue result ↔ IsValue b.now (Span lo last step) }
+    ensures { IsTrue result ↔ IsInLattice b.now (Span lo last step) }
 {
     let most_words = b.most_words();
     if is_span_of_all_words(lo, last, step) {
@@ -449,7 +449,7 @@ fn write_cover_as_span(b: &Bounds, first: u32, last: u32, step: u8, out: &mut Va
     requires step { step ≤ 2 }
     requires many { b.now.most_words < span_len first last step }
     requires limits { AreLimits b.now }
-    ensures { out.new ≡ cover b.now (range first last step) }
+    ensures { out.new ≡ cover b.now (multiples_in_range first last step) }
 {
     let e = extent_of_span(first, last, step);
     write_span(b, e.least, e.greatest, e.step, out);
@@ -462,7 +462,7 @@ fn write_cover_as_set(b: &Bounds, first: u32, last: u32, step: u8, out: &mut Val
     requires step { step ≤ 2 }
     requires some { 1 ≤ span_len first last step }
     requires few { span_len first last step ≤ 128 }
-    ensures { out.new ≡ cover b.now (range first last step) }
+    ensures { out.new ≡ cover b.now (multiples_in_range first last step) }
 {
     let unit = 1u64 << step;
     let start = (u64::from(first) + (unit - 1)) / unit;

@@ -1,6 +1,6 @@
 // Meets: the members of a value that are in a range or among given words.
 ghost use Rattle.std.specs.Prelude.{◌≡◌, ◌==◌, ◌≤◌, List, ℕ, [], ◌∷◌, ◌++◌, filter, IfSome, Some};
-ghost use Rattle.value_domain.specs.Values.{IsValue, IsWellFormed, members, range, is_in_span, is_member};
+ghost use Rattle.value_domain.specs.Values.{IsInLattice, IsWellFormed, members, multiples_in_range, is_in_span, is_member};
 ghost use Rattle.value_domain.specs.Meets.{cover_if_any, value_if_found};
 
 use crate::lattice::{join_word, write_cover};
@@ -10,11 +10,11 @@ use crate::{Bounds, Val};
 /// Overwrites `out` with the meet of an abstract value and a Span: the cover of their common
 /// members. Returns false if there are none; then `out` may be any value.
 pub fn write_span_meet(b: &Bounds, v: &Val, lo: u32, last: u32, step: u8, out: &mut Val) -> bool
-    requires value { IsValue b.now v.now }
+    requires value { IsInLattice b.now v.now }
     requires step { step ≤ 2 }
     ensures meet { value_if_found result out.new
         ≡ cover_if_any b.now (filter (is_in_span lo last step) (members v.now)) }
-    ensures value { IfSome (value_if_found result out.new) (IsValue b.now) }
+    ensures value { IfSome (value_if_found result out.new) (IsInLattice b.now) }
 {
     match v {
         Val::Set(words) => write_meet_of_set(b, words.as_slice(), lo, last, step, out),
@@ -32,7 +32,7 @@ pub fn write_meet_with_set(b: &Bounds, words: &[u32], v: &Val, out: &mut Val) ->
     requires { IsWellFormed v.now }
     ensures kept { value_if_found result out.new
         ≡ cover_if_any b.now (filter (λ x. is_member x v.now) words.now) }
-    ensures value { IfSome (value_if_found result out.new) (IsValue b.now) }
+    ensures value { IfSome (value_if_found result out.new) (IsInLattice b.now) }
 {
     let mut found = false;
     for x in words {
@@ -49,7 +49,7 @@ pub fn write_meet_with_set(b: &Bounds, words: &[u32], v: &Val, out: &mut Val) ->
 fn write_meet_of_set(b: &Bounds, words: &[u32], lo: u32, last: u32, step: u8, out: &mut Val) -> bool
     ensures meet { value_if_found result out.new
         ≡ cover_if_any b.now (filter (is_in_span lo last step) words.now) }
-    ensures value { IfSome (value_if_found result out.new) (IsValue b.now) }
+    ensures value { IfSome (value_if_found result out.new) (IsInLattice b.now) }
 {
     let mut found = false;
     for x in words {
@@ -65,8 +65,8 @@ fn write_meet_of_set(b: &Bounds, words: &[u32], lo: u32, last: u32, step: u8, ou
 /// step` in `lo..=last`. Returns false if there are none.
 fn write_meet_of_spans(b: &Bounds, lo: u32, last: u32, step: u8, out: &mut Val) -> bool
     requires { step ≤ 2 }
-    ensures meet { value_if_found result out.new ≡ cover_if_any b.now (range lo last step) }
-    ensures value { IfSome (value_if_found result out.new) (IsValue b.now) }
+    ensures meet { value_if_found result out.new ≡ cover_if_any b.now (multiples_in_range lo last step) }
+    ensures value { IfSome (value_if_found result out.new) (IsInLattice b.now) }
 {
     if span_len(lo, last, step) == 0 {
         return false;
@@ -78,10 +78,10 @@ fn write_meet_of_spans(b: &Bounds, lo: u32, last: u32, step: u8, out: &mut Val) 
 /// Joins a found word into a meet of abstract values. If nothing was found before, the meet becomes
 /// the Set of the word alone.
 fn add_word_to_meet(b: &Bounds, found: bool, out: &mut Val, x: u32)
-    requires { IfSome (value_if_found found out.old) (IsValue b.now) }
+    requires { IfSome (value_if_found found out.old) (IsInLattice b.now) }
     ensures more { (xs : List ℕ) → value_if_found found out.old ≡ cover_if_any b.now xs
         → Some out.new ≡ cover_if_any b.now (xs ++ x ∷ []) }
-    ensures value { IsValue b.now out.new }
+    ensures value { IsInLattice b.now out.new }
 {
     let _most_words = b.most_words();
     if found {

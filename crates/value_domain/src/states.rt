@@ -1,6 +1,6 @@
 // States of 27 registers: copies, order and join.
 ghost use Rattle.std.specs.Prelude.{◌≡◌, ◌≤◌, ◌<◌, ◌↔◌, IsTrue, length, ◌&&◌};
-ghost use Rattle.value_domain.specs.State.{Covers, AreWellFormed, AreValues, joined_states, joined_regs, joined_locals, AreBelow, FlagsImpliedBy};
+ghost use Rattle.value_domain.specs.State.{Covers, AreWellFormed, AreInLattice, state_join_if_any, joined_regs, joined_locals, AreBelow, FlagsImply};
 
 use crate::values::{are_values_equal, copied_elements, copy_to};
 use crate::{Bounds, Val, join, leq};
@@ -79,7 +79,7 @@ pub fn covers_context(upper: &State, ie: bool, ccpn: u8, lower: bool) -> bool
 /// Returns true if two states have equally many saved lower contexts, and each flag of `flags`
 /// implies the one at its place in `others`.
 pub fn flags_imply(flags: &[bool], others: &[bool]) -> bool
-    ensures { IsTrue result ↔ FlagsImpliedBy flags.now others.now }
+    ensures { IsTrue result ↔ FlagsImply flags.now others.now }
 {
     if flags.len() != others.len() {
         return false;
@@ -95,9 +95,9 @@ pub fn flags_imply(flags: &[bool], others: &[bool]) -> bool
 /// Returns the join of two abstract states: the least that covers both, or `None` if they have
 /// different numbers of saved lower contexts.
 pub fn join_states(b: &Bounds, s: &State, t: &State) -> Option<State>
-    requires left { AreValues b.now s.now.regs }
-    requires right { AreValues b.now t.now.regs }
-    ensures { result ≡ joined_states b.now s.now t.now }
+    requires left { AreInLattice b.now s.now.regs }
+    requires right { AreInLattice b.now t.now.regs }
+    ensures { result ≡ state_join_if_any b.now s.now t.now }
 {
     if s.locals.len() != t.locals.len() {
         return None;
@@ -161,8 +161,8 @@ fn flag_implies(a: bool, b: bool) -> bool
 
 /// Returns the joins of the registers' abstract values in two states, register by register.
 fn join_regs(b: &Bounds, s: &[Val; 27], t: &[Val; 27]) -> [Val; 27]
-    requires left { AreValues b.now s.now }
-    requires right { AreValues b.now t.now }
+    requires left { AreInLattice b.now s.now }
+    requires right { AreInLattice b.now t.now }
     ensures { result ≡ joined_regs b.now s.now t.now }
 {
     let mut out = copy_regs(s);

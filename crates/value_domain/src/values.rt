@@ -3,7 +3,7 @@
 ghost use Rattle.std.specs.Prelude.{◌≡◌, ◌≤◌, ◌<◌, ◌+◌, ◌-◌, IsTrue, length, IfSome, [], ◌∷◌, List, ℕ, option_map, ◌↔◌, slice_index, IsSome, ◌==◌, ◌*◌, ◌/◌};
 ghost use Rattle.std.specs.List.{list_any};
 ghost use Rattle.std.specs.List.Sorted.{IsStrictlyIncreasing};
-ghost use Rattle.value_domain.specs.Sets.{AreWords, Among, sorted_insert, IsAscending};
+ghost use Rattle.value_domain.specs.Sets.{AreSetWords, Among, sorted_insert, IsAscending};
 ghost use Rattle.value_domain.specs.declared.values.Val.TheVariants.{Set, Span};
 ghost use Rattle.value_domain.specs.Sets as sets;
 ghost use Rattle.value_domain.specs.Values.{IsMember, IsWellFormed, span_len, any_val, words_of, is_in_span, is_member};
@@ -20,13 +20,13 @@ pub struct Words {
 
 impl Model for Words {
     ghost use Rattle.std.specs.Prelude.{List, ℕ};
-    ghost use Rattle.value_domain.specs.Sets.{AreWords};
+    ghost use Rattle.value_domain.specs.Sets.{AreSetWords};
 
     ghost Value = { List ℕ };
 
     ghost view = { λ w. w.words.items };
 
-    ghost invariant = { λ w. AreWords w.words.items };
+    ghost invariant = { λ w. AreSetWords w.words.items };
 }
 
 impl Words {
@@ -54,7 +54,7 @@ impl Words {
 
     /// Returns the list of these words, which is known to be valid.
     pub(crate) fn from_slice(words: &[u32]) -> Words
-        requires { AreWords words.now }
+        requires { AreSetWords words.now }
         ensures { result ≡ words.now }
     {
         Words {
@@ -65,7 +65,7 @@ impl Words {
     /// Returns the words as a slice.
     pub fn as_slice(&self) -> &[u32]
         ensures items { result.now ≡ self.now }
-        ensures words { AreWords self.now }
+        ensures words { AreSetWords self.now }
     {
         self.words.as_slice()
     }
@@ -81,7 +81,7 @@ impl Words {
 
     /// Overwrites the list with these words, in place.
     fn set(&mut self, words: &[u32])
-        requires { AreWords words.now }
+        requires { AreSetWords words.now }
         ensures { self.new ≡ words.now }
     {
         if words.len() == 1 {
@@ -237,7 +237,7 @@ pub fn copy_to(v: &Val, out: &mut Val)
 
 /// Overwrites a value with the Set of these words. If it is a Set, only its words are written.
 pub fn set_words(out: &mut Val, words: &[u32])
-    requires { AreWords words.now }
+    requires { AreSetWords words.now }
     ensures { out.new ≡ Set words.now }
 {
     match out {
@@ -271,7 +271,7 @@ fn replace_span_by_word(out: &mut Val, x: u32)
 /// Overwrites a Span with the Set of these words.
 #[inline(never)]
 fn replace_span_by_words(out: &mut Val, words: &[u32])
-    requires { AreWords words.now }
+    requires { AreSetWords words.now }
     ensures { out.new ≡ Set words.now }
 {
     replace_span_by_word(out, words[0]);

@@ -5,7 +5,7 @@ use Rattle.std.proofs.lemmas.Bool.{cases_Bool, leb-true, le-leb, cases_order, eq
 use Rattle.value_domain.specs.Sets.{Among, IsExtent}
 use Rattle.value_domain.specs.Limits.{Limits}
 use Rattle.value_domain.specs.declared.values.Val.{Val}
-use Rattle.value_domain.specs.Values.{cover, range, is_in_span}
+use Rattle.value_domain.specs.Values.{cover, multiples_in_range, is_in_span}
 use Rattle.value_domain.specs.Meets.{cover_if_any}
 use Rattle.value_domain.proofs.CoverLaws.{range_among, among_range}
 use Rattle.value_domain.proofs.ExtentLaws.{append_left, append_right, among_append}
@@ -115,19 +115,19 @@ kept_common b vs ws p are =
     let e : z ≡ r.0 = eqb-true z r.0 r.2 in
     filter_has p z ws (subst (λ (y : ℕ). Among y ws) (sym e) r.1) ((are z).1 f.0))
 
-pub kept_range : (b : Limits) (vs : List ℕ) (lo last s : ℕ) → s ≤ 2 → cover_if_any b (filter (is_in_span lo last s) vs) ≡ cover_if_any b (related_words Same vs (range lo last s))
+pub kept_range : (b : Limits) (vs : List ℕ) (lo last s : ℕ) → s ≤ 2 → cover_if_any b (filter (is_in_span lo last s) vs) ≡ cover_if_any b (related_words Same vs (multiples_in_range lo last s))
 unfolding related_words is_related
 kept_range b vs lo last s small =
-    cover_some-same b (filter (is_in_span lo last s) vs) (filter (λ x. list_any (λ y. eqb x y) (range lo last s)) vs)
+    cover_some-same b (filter (is_in_span lo last s) vs) (filter (λ x. list_any (λ y. eqb x y) (multiples_in_range lo last s)) vs)
     (λ z k.
     let f = among_filter (is_in_span lo last s) z vs k in
     let n = in_span_parts lo last s z f.1 in
-    filter_has (λ x. list_any (λ y. eqb x y) (range lo last s)) z vs f.0 (among_any (λ y. eqb z y) z (range lo last s) (among_range z lo last s small n) (eq-eqb z z refl)))
+    filter_has (λ x. list_any (λ y. eqb x y) (multiples_in_range lo last s)) z vs f.0 (among_any (λ y. eqb z y) z (multiples_in_range lo last s) (among_range z lo last s small n) (eq-eqb z z refl)))
     (λ z k.
-    let f = among_filter (λ x. list_any (λ y. eqb x y) (range lo last s)) z vs k in
-    let r = any_among (λ y. eqb z y) (range lo last s) f.1 in
+    let f = among_filter (λ x. list_any (λ y. eqb x y) (multiples_in_range lo last s)) z vs k in
+    let r = any_among (λ y. eqb z y) (multiples_in_range lo last s) f.1 in
     let e : z ≡ r.0 = eqb-true z r.0 r.2 in
-    let m = range_among z lo last s small (subst (λ (y : ℕ). Among y (range lo last s)) (sym e) r.1) in
+    let m = range_among z lo last s small (subst (λ (y : ℕ). Among y (multiples_in_range lo last s)) (sym e) r.1) in
     filter_has (is_in_span lo last s) z vs f.0 (in_span_from lo last s z m.0 m.1 m.2))
 
 abbrev pub no_words : Interval

@@ -12,7 +12,7 @@ use Rattle.value_domain.specs.declared.values.Val.{Val}
 use Rattle.value_domain.specs.declared.values.Val.TheVariants.{Set, Span}
 use Rattle.value_domain.specs.Sets.{Among, Within, IsAscending, IsExtent}
 use Rattle.value_domain.specs.Limits.{Limits, AreLimits}
-use Rattle.value_domain.specs.Values.{IsMember, IsWellFormed, IsValue, IsBelow, cover, members, range, span_len, first_in_span, low, high, step}
+use Rattle.value_domain.specs.Values.{IsMember, IsWellFormed, IsInLattice, IsBelow, cover, members, multiples_in_range, span_len, first_member_quotient, least_member, greatest_member, step_of_value}
 use Rattle.value_domain.proofs.SetLaws.{length_within}
 use Rattle.value_domain.proofs.CoverLaws.{cover-same, cover_holds, cover_mono, cover_own, cover_step, among_member, member_among, has_step, range_among, among_range, rising_multiples, unit_some, length-multiples}
 use Rattle.value_domain.specs.declared.lattice.Extent.{Extent}
@@ -23,47 +23,47 @@ use Rattle.value_domain.proofs.ExtentLaws.{cover-part, extent_only, extent_risin
 use Rattle.value_domain.proofs.RangeLaws.{words_more, members_below, some_members, span_count, set_value, cover-one}
 use Rattle.tc_isa.specs.declared.shapes.Op.{Op}
 use Rattle.tc_isa.specs.declared.shapes.Op.TheVariants.{Second, Add, Sub, And, Nand, Or, Nor, Xor, Xnor, Andn, Orn, Eq, Ne, Lt, LtU, Ge, GeU, Sh, Sha}
-use Rattle.tc_isa.specs.Arithmetic.{alu_of, logical_shift, arithmetic_shift, complement, one_if, signed_order_place}
-use Rattle.vd_transfer.specs.Operations.{results, results_by_extents, results_of_pairs, is_comparison, value_of, HasMembers}
-use Rattle.vd_transfer.specs.Intervals.{whole, whole_interval_words, result_interval, extent_of_value, shift_by_count, IntervalShift, differences, sums, shifts, signed_shifts, interval_words}
+use Rattle.tc_isa.specs.Arithmetic.{alu_of, logical_shift, arithmetic_shift, complement, word_of_bool, signed_rank}
+use Rattle.vd_transfer.specs.Operations.{possible_results, results_by_extents, results_of_pairs, is_comparison, operation_value, HasMembers}
+use Rattle.vd_transfer.specs.Intervals.{all_multiples, words_of_all_multiples, result_interval, extent_of_value, shifted_interval, IntervalShift, difference_interval, sum_interval, logical_shift_interval, arithmetic_shift_interval, interval_words}
 use Rattle.vd_transfer.specs.OperationLaws.{OperationsAreMonotone, OperationsAreSound}
 use Rattle.vd_transfer.proofs.Rows.{Lies, sums_have, sums_grow, differences_have, differences_grow, ands_have, ands_grow, shifts_have, shifts_grow, shifts_below}
 
 -- ---- the bounds of a value
 pub rising_members : (v : Val) → IsWellFormed v → IsAscending (members v)
 rising_members (Set ws) w = w.rising
-rising_members (Span lo last s) w = rising_multiples (span_len lo last s) (first_in_span lo s) (2 ^ s) (unit_some s)
+rising_members (Span lo last s) w = rising_multiples (span_len lo last s) (first_member_quotient lo s) (2 ^ s) (unit_some s)
 
-pub bounds_of : (v : Val) → IsWellFormed v → IsExtent (members v) (low v) (high v) (step v)
+pub bounds_of : (v : Val) → IsWellFormed v → IsExtent (members v) (least_member v) (greatest_member v) (step_of_value v)
 bounds_of v w = extent_rising (members v) (rising_members v w) (some_members v w)
 
-pub high_below : (v : Val) → IsWellFormed v → high v < 2 ^ 32
-high_below v w = members_below v w (high v) (bounds_of v w).high_in
+pub high_below : (v : Val) → IsWellFormed v → greatest_member v < 2 ^ 32
+high_below v w = members_below v w (greatest_member v) (bounds_of v w).high_in
 
-pub lies : (v : Val) → IsWellFormed v → (x : ℕ) → Among x (members v) → Lies x (low v) (high v) (step v)
+pub lies : (v : Val) → IsWellFormed v → (x : ℕ) → Among x (members v) → Lies x (least_member v) (greatest_member v) (step_of_value v)
 lies v w x i = let e = bounds_of v w in record { from = e.low x i; to = e.high x i; fits = e.fits x i }
 
 -- the bounds of a smaller value are inside
 pub record Narrower (v v2 : Val) : Type 0 where
-  pub low_in : low v2 ≤ low v
-  pub high_in : high v ≤ high v2
-  pub step_in : step v2 ≤ step v
+  pub low_in : least_member v2 ≤ least_member v
+  pub high_in : greatest_member v ≤ greatest_member v2
+  pub step_in : step_of_value v2 ≤ step_of_value v
 
 pub narrower : (v v2 : Val) → IsWellFormed v → IsWellFormed v2 → Within (members v) (members v2) → Narrower v v2
 narrower v v2 w w2 there =
     let e = bounds_of v w in
     let f = bounds_of v2 w2 in
     record {
-      low_in = f.low (low v) (there (low v) e.low_in);
-      high_in = f.high (high v) (there (high v) e.high_in);
-      step_in = e.full (step v2) f.small (λ z i. f.fits z (there z i));
+      low_in = f.low (least_member v) (there (least_member v) e.low_in);
+      high_in = f.high (greatest_member v) (there (greatest_member v) e.high_in);
+      step_in = e.full (step_of_value v2) f.small (λ z i. f.fits z (there z i));
     }
 
-pub low_high : (v : Val) → IsWellFormed v → low v ≤ high v
-low_high v w = let e = bounds_of v w in e.low (high v) e.high_in
+pub low_high : (v : Val) → IsWellFormed v → least_member v ≤ greatest_member v
+low_high v w = let e = bounds_of v w in e.low (greatest_member v) e.high_in
 
 -- ---- Sound
-all_have : (x : ℕ) → x < 2 ^ 32 → Among x (whole_interval_words 0)
+all_have : (x : ℕ) → x < 2 ^ 32 → Among x (words_of_all_multiples 0)
 all_have x h = among_range x 0 (2 ^ 32 - 1) 0 (omega arith) (omega arith, omega arith, omega arith)
 
 -- what is known of a kind of shifts: they hold the shifted words, grow with the bounds, and give
@@ -82,15 +82,15 @@ shifted_below x n h =
       | inr right ↦ rw (le-ltb n 32 right) (omega (arith, shr_le x (64 - n)))
     ]
 
-shifts_step : (a b p n : ℕ) → (shifts a b p n).step ≤ 2
-unfolding shifts
+shifts_step : (a b p n : ℕ) → (logical_shift_interval a b p n).step ≤ 2
+unfolding logical_shift_interval
 shifts_step a b p n =
     elim (cases_Bool (ltb n 32)) [
       | inl t ↦ rw t (elim (cases_Bool (ltb (b * 2 ^ n) (2 ^ 32))) [ inl u ↦ rw u (omega arith) | inr u ↦ rw u (omega arith) ])
       | inr t ↦ rw t (omega arith)
     ]
 
-pub logical : AreShifts shifts logical_shift
+pub logical : AreShifts logical_shift_interval logical_shift
 logical = record {
   have = shifts_have;
   grow = λ a b p n a2 b2 p2 small bb la hb hp. shifts_grow a b p n a2 b2 p2 small la hb hp;
@@ -117,19 +117,19 @@ signed_word x n h =
     ]
 
 -- the two forms of a signed shift's interval
-as_logical : (a b p n : ℕ) → (n < 32) ⊎ (b < 2 ^ 31) → signed_shifts a b p n ≡ shifts a b p n
-unfolding signed_shifts
+as_logical : (a b p n : ℕ) → (n < 32) ⊎ (b < 2 ^ 31) → arithmetic_shift_interval a b p n ≡ logical_shift_interval a b p n
+unfolding arithmetic_shift_interval
 as_logical a b p n h = elim h [ inl left ↦ rw (lt-ltb n 32 left) refl | inr small ↦ rw (lt-ltb b (2 ^ 31) small, or_true (ltb n 32)) refl ]
   where
     or_true : (c : Bool) → (c || true) ≡ true
     or_true true = refl
     or_true false = refl
 
-as_any : (a b p n : ℕ) → 32 ≤ n → 2 ^ 31 ≤ b → signed_shifts a b p n ≡ whole 0
-unfolding signed_shifts
+as_any : (a b p n : ℕ) → 32 ≤ n → 2 ^ 31 ≤ b → arithmetic_shift_interval a b p n ≡ all_multiples 0
+unfolding arithmetic_shift_interval
 as_any a b p n right big = rw (le-ltb n 32 right, le-ltb b (2 ^ 31) big) refl
 
-pub arithmetic : AreShifts signed_shifts arithmetic_shift
+pub arithmetic : AreShifts arithmetic_shift_interval arithmetic_shift
 arithmetic = record {
   have = λ x a b p n small l bb.
       elim (cases_lt n 32) [
@@ -159,7 +159,7 @@ arithmetic = record {
       ];
 }
   where
-    signed_below : (a b p n z : ℕ) → p ≤ 2 → b < 2 ^ 32 → Among z (interval_words (signed_shifts a b p n)) → z < 2 ^ 32
+    signed_below : (a b p n z : ℕ) → p ≤ 2 → b < 2 ^ 32 → Among z (interval_words (arithmetic_shift_interval a b p n)) → z < 2 ^ 32
     signed_below a b p n z small bb i =
         elim (cases_lt n 32) [
           | inl left ↦ shifts_below a b p n z small bb (rw (as_logical a b p n (inl left)) at i)
@@ -170,19 +170,19 @@ arithmetic = record {
         ]
 
 by_value : {shift : IntervalShift} {by : ℕ → ℕ → ℕ} (are : AreShifts shift by) (v w : Val) → IsWellFormed v → IsWellFormed w → (x y : ℕ) → Among x (members v) → Among y (members w)
-    → Among (by x (y % 64)) (interval_words (shift_by_count shift (low v) (high v) (step v) w))
+    → Among (by x (y % 64)) (interval_words (shifted_interval shift (least_member v) (greatest_member v) (step_of_value v) w))
 by_value are v (Set []) wv ww x y i j = absurd j
 by_value {shift} {by} are v (Set (w ∷ [])) wv ww x y i j =
     elim j [
       | inl e ↦
-          subst (λ (n : ℕ). Among (by x (n % 64)) (interval_words (shift (low v) (high v) (step v) (w % 64)))) (sym e)
-          (are.have x (low v) (high v) (step v) (w % 64) (bounds_of v wv).small (lies v wv x i) (high_below v wv))
+          subst (λ (n : ℕ). Among (by x (n % 64)) (interval_words (shift (least_member v) (greatest_member v) (step_of_value v) (w % 64)))) (sym e)
+          (are.have x (least_member v) (greatest_member v) (step_of_value v) (w % 64) (bounds_of v wv).small (lies v wv x i) (high_below v wv))
       | inr n ↦ absurd n
     ]
 by_value {shift} {by} are v (Set (w ∷ u ∷ us)) wv ww x y i j = all_have (by x (y % 64)) (are.word x (y % 64) (members_below v wv x i))
 by_value {shift} {by} are v (Span lo last s) wv ww x y i j = all_have (by x (y % 64)) (are.word x (y % 64) (members_below v wv x i))
 
-truth_among : (b : Bool) → Among (one_if b) (0 ∷ 1 ∷ [])
+truth_among : (b : Bool) → Among (word_of_bool b) (0 ∷ 1 ∷ [])
 truth_among true = inr (inl refl)
 truth_among false = inl refl
 
@@ -200,7 +200,7 @@ row_has Add v w wv ww x y i j =
     let k = lies w ww y j in
     let e = bounds_of v wv in
     let f = bounds_of w ww in
-    sums_have x y (low v) (high v) (low w) (high w) (min (step v) (step w)) (omega (arith, e.small))
+    sums_have x y (least_member v) (greatest_member v) (least_member w) (greatest_member w) (min (step_of_value v) (step_of_value w)) (omega (arith, e.small))
     (record { from = l.from; to = l.to; fits = omega (arith, l.fits) })
     (record { from = k.from; to = k.to; fits = omega (arith, k.fits) })
     (high_below v wv) (high_below w ww)
@@ -209,14 +209,14 @@ row_has Sub v w wv ww x y i j =
     let k = lies w ww y j in
     let e = bounds_of v wv in
     let f = bounds_of w ww in
-    differences_have x y (low v) (high v) (low w) (high w) (min (step v) (step w)) (omega (arith, e.small))
+    differences_have x y (least_member v) (greatest_member v) (least_member w) (greatest_member w) (min (step_of_value v) (step_of_value w)) (omega (arith, e.small))
     (record { from = l.from; to = l.to; fits = omega (arith, l.fits) })
     (record { from = k.from; to = k.to; fits = omega (arith, k.fits) })
     (high_below v wv) (high_below w ww)
 row_has And v w wv ww x y i j =
     let l = lies v wv x i in
     let k = lies w ww y j in
-    ands_have x y (high v) (high w) (step v) (step w) (bounds_of v wv).small (bounds_of w ww).small l.to k.to l.fits k.fits
+    ands_have x y (greatest_member v) (greatest_member w) (step_of_value v) (step_of_value w) (bounds_of v wv).small (bounds_of w ww).small l.to k.to l.fits k.fits
 row_has Nand v w wv ww x y i j = all_have (complement (bit_and x y)) (complement_below (bit_and x y))
 row_has Or v w wv ww x y i j = all_have (bit_or x y) (or_of_32 x y (members_below v wv x i) (members_below w ww y j))
 row_has Nor v w wv ww x y i j = all_have (complement (bit_or x y)) (complement_below (bit_or x y))
@@ -226,9 +226,9 @@ row_has Andn v w wv ww x y i j = all_have (bit_and x (complement y)) (and_below 
 row_has Orn v w wv ww x y i j = all_have (bit_or x (complement y)) (or_of_32 x (complement y) (members_below v wv x i) (complement_below y))
 row_has Eq v w wv ww x y i j = truth_among (eqb x y)
 row_has Ne v w wv ww x y i j = truth_among (not (eqb x y))
-row_has Lt v w wv ww x y i j = truth_among (ltb (signed_order_place x) (signed_order_place y))
+row_has Lt v w wv ww x y i j = truth_among (ltb (signed_rank x) (signed_rank y))
 row_has LtU v w wv ww x y i j = truth_among (ltb x y)
-row_has Ge v w wv ww x y i j = truth_among (leb (signed_order_place y) (signed_order_place x))
+row_has Ge v w wv ww x y i j = truth_among (leb (signed_rank y) (signed_rank x))
 row_has GeU v w wv ww x y i j = truth_among (leb y x)
 row_has Sh v w wv ww x y i j = by_value logical v w wv ww x y i j
 row_has Sha v w wv ww x y i j = by_value arithmetic v w wv ww x y i j
@@ -259,15 +259,15 @@ pairs_among op z (w ∷ xs) ys i =
       | inr j ↦ let r = pairs_among op z xs ys j in (r.0, r.1, inr r.2, r.3, r.4)
     ]
 
-pub results_have : (op : Op) (v w : Val) → IsWellFormed v → IsWellFormed w → (x y : ℕ) → Among x (members v) → Among y (members w) → Among (alu_of op x y) (results op v w)
-unfolding results
+pub results_have : (op : Op) (v w : Val) → IsWellFormed v → IsWellFormed w → (x y : ℕ) → Among x (members v) → Among y (members w) → Among (alu_of op x y) (possible_results op v w)
+unfolding possible_results
 results_have op (Set xs) (Set ys) wv ww x y i j = pairs_have op x y xs ys i j
 results_have op (Set xs) (Span lo last s) wv ww x y i j = row_has op (Set xs) (Span lo last s) wv ww x y i j
 results_have op (Span lo last s) w wv ww x y i j = row_has op (Span lo last s) w wv ww x y i j
 
 pub sound : OperationsAreSound
 sound b op v w limits vv vw x y m n =
-    cover_holds b (results op v w) (alu_of op x y)
+    cover_holds b (possible_results op v w) (alu_of op x y)
     (results_have op v w vv.well vw.well x y (among_member v x (has_step v vv.well) m) (among_member w y (has_step w vw.well) n))
 
 -- ---- Monotone
@@ -277,32 +277,32 @@ cover_below b xs ys some_x some_y there z m =
     rw (cover_own b ys some_y) at (cover_mono b xs (members (cover b ys)) some_x (λ x i. among_member (cover b ys) x (cover_step b ys) (there x i)) z m)
 
 -- a Span isn't below a Set
-pub span_not_below : (b : Limits) (lo last s : ℕ) (ws : List ℕ) → IsValue b (Span lo last s) → IsValue b (Set ws) → IsBelow (Span lo last s) (Set ws) → ⊥
+pub span_not_below : (b : Limits) (lo last s : ℕ) (ws : List ℕ) → IsInLattice b (Span lo last s) → IsInLattice b (Set ws) → IsBelow (Span lo last s) (Set ws) → ⊥
 span_not_below b lo last s ws vs vw below =
-    let shorter : length (range lo last s) ≤ length ws =
-    length_within (range lo last s) ws (rising_members (Span lo last s) vs.well) vw.well.rising (λ z i. below z (range_among z lo last s vs.well.0 i))
+    let shorter : length (multiples_in_range lo last s) ≤ length ws =
+    length_within (multiples_in_range lo last s) ws (rising_members (Span lo last s) vs.well) vw.well.rising (λ z i. below z (range_among z lo last s vs.well.0 i))
     in
     let few : length ws ≤ b.most_words = (set_value b ws vw.well).1 vw in
-    absurd (omega (arith, span_count b lo last s vs, length-multiples (span_len lo last s) (first_in_span lo s) (2 ^ s)))
+    absurd (omega (arith, span_count b lo last s vs, length-multiples (span_len lo last s) (first_member_quotient lo s) (2 ^ s)))
 
-into_all : (xs : List ℕ) → ((z : ℕ) → Among z xs → z < 2 ^ 32) → Within xs (whole_interval_words 0)
+into_all : (xs : List ℕ) → ((z : ℕ) → Among z xs → z < 2 ^ 32) → Within xs (words_of_all_multiples 0)
 into_all xs below z i = all_have z (below z i)
 
-all_below : (z s : ℕ) → s ≤ 2 → Among z (whole_interval_words s) → z < 2 ^ 32
+all_below : (z s : ℕ) → s ≤ 2 → Among z (words_of_all_multiples s) → z < 2 ^ 32
 all_below z s small i = let m = range_among z 0 (2 ^ 32 - 1) s small i in omega (arith, m.1)
 
-pub by_below : {shift : IntervalShift} {by : ℕ → ℕ → ℕ} (are : AreShifts shift by) (v w : Val) → IsWellFormed v → (z : ℕ) → Among z (interval_words (shift_by_count shift (low v) (high v) (step v) w)) → z < 2 ^ 32
-by_below are v (Set (y ∷ [])) wv z i = are.below (low v) (high v) (step v) (y % 64) z (bounds_of v wv).small (high_below v wv) i
+pub by_below : {shift : IntervalShift} {by : ℕ → ℕ → ℕ} (are : AreShifts shift by) (v w : Val) → IsWellFormed v → (z : ℕ) → Among z (interval_words (shifted_interval shift (least_member v) (greatest_member v) (step_of_value v) w)) → z < 2 ^ 32
+by_below are v (Set (y ∷ [])) wv z i = are.below (least_member v) (greatest_member v) (step_of_value v) (y % 64) z (bounds_of v wv).small (high_below v wv) i
 by_below are v _ wv z i = all_below z 0 (omega arith) i
 
-by_one : {shift : IntervalShift} {by : ℕ → ℕ → ℕ} (are : AreShifts shift by) (b : Limits) (v w v2 : Val) (y : ℕ) → IsValue b v → IsValue b w → IsValue b v2 → IsValue b (Set (y ∷ []))
+by_one : {shift : IntervalShift} {by : ℕ → ℕ → ℕ} (are : AreShifts shift by) (b : Limits) (v w v2 : Val) (y : ℕ) → IsInLattice b v → IsInLattice b w → IsInLattice b v2 → IsInLattice b (Set (y ∷ []))
     → Within (members v) (members v2) → Within (members w) (y ∷ [])
-    → Within (interval_words (shift_by_count shift (low v) (high v) (step v) w)) (interval_words (shift_by_count shift (low v2) (high v2) (step v2) (Set (y ∷ []))))
+    → Within (interval_words (shifted_interval shift (least_member v) (greatest_member v) (step_of_value v) w)) (interval_words (shifted_interval shift (least_member v2) (greatest_member v2) (step_of_value v2) (Set (y ∷ []))))
 by_one are b v (Set []) v2 y vv vw vv2 vy there here = absurd (omega (arith, vw.well.some))
 by_one are b v (Set (u ∷ [])) v2 y vv vw vv2 vy there here =
     let e : u ≡ y = elim (here u (inl refl)) [ inl e ↦ e | inr n ↦ absurd n ] in
     let n = narrower v v2 vv.well vv2.well there in
-    rw e (are.grow (low v) (high v) (step v) (y % 64) (low v2) (high v2) (step v2) (bounds_of v vv.well).small (high_below v vv.well) n.low_in n.high_in n.step_in)
+    rw e (are.grow (least_member v) (greatest_member v) (step_of_value v) (y % 64) (least_member v2) (greatest_member v2) (step_of_value v2) (bounds_of v vv.well).small (high_below v vv.well) n.low_in n.high_in n.step_in)
 by_one are b v (Set (u ∷ t ∷ us)) v2 y vv vw vv2 vy there here =
     let e : u ≡ y = elim (here u (inl refl)) [ inl e ↦ e | inr n ↦ absurd n ] in
     let f : t ≡ y = elim (here t (inr (inl refl))) [ inl e ↦ e | inr n ↦ absurd n ] in
@@ -311,67 +311,67 @@ by_one are b v (Set (u ∷ t ∷ us)) v2 y vv vw vv2 vy there here =
 by_one are b v (Span lo last s) v2 y vv vw vv2 vy there here =
     absurd (span_not_below b lo last s (y ∷ []) vw vy (λ z m. here z (among_member (Span lo last s) z vw.well.0 m)))
 
-by_grows : {shift : IntervalShift} {by : ℕ → ℕ → ℕ} (are : AreShifts shift by) (b : Limits) (v w v2 w2 : Val) → IsValue b v → IsValue b w → IsValue b v2 → IsValue b w2
+by_grows : {shift : IntervalShift} {by : ℕ → ℕ → ℕ} (are : AreShifts shift by) (b : Limits) (v w v2 w2 : Val) → IsInLattice b v → IsInLattice b w → IsInLattice b v2 → IsInLattice b w2
     → Within (members v) (members v2) → Within (members w) (members w2)
-    → Within (interval_words (shift_by_count shift (low v) (high v) (step v) w)) (interval_words (shift_by_count shift (low v2) (high v2) (step v2) w2))
+    → Within (interval_words (shifted_interval shift (least_member v) (greatest_member v) (step_of_value v) w)) (interval_words (shifted_interval shift (least_member v2) (greatest_member v2) (step_of_value v2) w2))
 by_grows are b v w v2 (Set []) vv vw vv2 vw2 there here = absurd (omega (arith, vw2.well.some))
 by_grows are b v w v2 (Set (y ∷ [])) vv vw vv2 vw2 there here = by_one are b v w v2 y vv vw vv2 vw2 there here
-by_grows {shift} are b v w v2 (Set (y ∷ u ∷ ys)) vv vw vv2 vw2 there here = into_all (interval_words (shift_by_count shift (low v) (high v) (step v) w)) (by_below are v w vv.well)
-by_grows {shift} are b v w v2 (Span lo last s) vv vw vv2 vw2 there here = into_all (interval_words (shift_by_count shift (low v) (high v) (step v) w)) (by_below are v w vv.well)
+by_grows {shift} are b v w v2 (Set (y ∷ u ∷ ys)) vv vw vv2 vw2 there here = into_all (interval_words (shifted_interval shift (least_member v) (greatest_member v) (step_of_value v) w)) (by_below are v w vv.well)
+by_grows {shift} are b v w v2 (Span lo last s) vv vw vv2 vw2 there here = into_all (interval_words (shifted_interval shift (least_member v) (greatest_member v) (step_of_value v) w)) (by_below are v w vv.well)
 
-pub row_grows : (b : Limits) (op : Op) (v w v2 w2 : Val) → IsValue b v → IsValue b w → IsValue b v2 → IsValue b w2 → Within (members v) (members v2) → Within (members w) (members w2)
+pub row_grows : (b : Limits) (op : Op) (v w v2 w2 : Val) → IsInLattice b v → IsInLattice b w → IsInLattice b v2 → IsInLattice b w2 → Within (members v) (members v2) → Within (members w) (members w2)
     → Within (results_by_extents op v w) (results_by_extents op v2 w2)
 unfolding results_by_extents result_interval is_comparison
 row_grows b Second v w v2 w2 vv vw vv2 vw2 there here = here
 row_grows b Add v w v2 w2 vv vw vv2 vw2 there here =
     let n = narrower v v2 vv.well vv2.well there in
     let m = narrower w w2 vw.well vw2.well here in
-    sums_grow (low v) (high v) (low w) (high w) (min (step v) (step w)) (low v2) (high v2) (low w2) (high w2) (min (step v2) (step w2))
+    sums_grow (least_member v) (greatest_member v) (least_member w) (greatest_member w) (min (step_of_value v) (step_of_value w)) (least_member v2) (greatest_member v2) (least_member w2) (greatest_member w2) (min (step_of_value v2) (step_of_value w2))
     (omega (arith, (bounds_of v vv.well).small)) (omega (arith, n.step_in, m.step_in)) (low_high v vv.well) (low_high w vw.well) n.low_in n.high_in m.low_in m.high_in
     (high_below v2 vv2.well) (high_below w2 vw2.well)
 row_grows b Sub v w v2 w2 vv vw vv2 vw2 there here =
     let n = narrower v v2 vv.well vv2.well there in
     let m = narrower w w2 vw.well vw2.well here in
-    differences_grow (low v) (high v) (low w) (high w) (min (step v) (step w)) (low v2) (high v2) (low w2) (high w2) (min (step v2) (step w2))
+    differences_grow (least_member v) (greatest_member v) (least_member w) (greatest_member w) (min (step_of_value v) (step_of_value w)) (least_member v2) (greatest_member v2) (least_member w2) (greatest_member w2) (min (step_of_value v2) (step_of_value w2))
     (omega (arith, (bounds_of v vv.well).small)) (omega (arith, n.step_in, m.step_in)) (low_high v vv.well) (low_high w vw.well) n.low_in n.high_in m.low_in m.high_in
     (high_below v2 vv2.well) (high_below w2 vw2.well)
 row_grows b And v w v2 w2 vv vw vv2 vw2 there here =
     let n = narrower v v2 vv.well vv2.well there in
     let m = narrower w w2 vw.well vw2.well here in
-    ands_grow (high v) (high w) (step v) (step w) (high v2) (high w2) (step v2) (step w2) (bounds_of v vv.well).small (bounds_of w vw.well).small n.high_in m.high_in n.step_in m.step_in
+    ands_grow (greatest_member v) (greatest_member w) (step_of_value v) (step_of_value w) (greatest_member v2) (greatest_member w2) (step_of_value v2) (step_of_value w2) (bounds_of v vv.well).small (bounds_of w vw.well).small n.high_in m.high_in n.step_in m.step_in
 row_grows b Sh v w v2 w2 vv vw vv2 vw2 there here = by_grows logical b v w v2 w2 vv vw vv2 vw2 there here
 row_grows b Sha v w v2 w2 vv vw vv2 vw2 there here = by_grows arithmetic b v w v2 w2 vv vw vv2 vw2 there here
 row_grows b _ v w v2 w2 vv vw vv2 vw2 there here = λ z i. i
 
 -- the results aren't none
-pub some_results : (op : Op) (v w : Val) → IsWellFormed v → IsWellFormed w → 1 ≤ length (results op v w)
+pub some_results : (op : Op) (v w : Val) → IsWellFormed v → IsWellFormed w → 1 ≤ length (possible_results op v w)
 some_results op v w wv ww =
-    some_length (results op v w) (alu_of op (low v) (low w)) (results_have op v w wv ww (low v) (low w) (bounds_of v wv).low_in (bounds_of w ww).low_in)
+    some_length (possible_results op v w) (alu_of op (least_member v) (least_member w)) (results_have op v w wv ww (least_member v) (least_member w) (bounds_of v wv).low_in (bounds_of w ww).low_in)
 
-pub within_members : (b : Limits) (v w : Val) → IsValue b v → IsValue b w → IsBelow v w → Within (members v) (members w)
+pub within_members : (b : Limits) (v w : Val) → IsInLattice b v → IsInLattice b w → IsBelow v w → Within (members v) (members w)
 within_members b v w vv vw below z i = among_member w z (has_step w vw.well) (below z (member_among v z (has_step v vv.well) i))
 
 -- if both are Sets, each result is a result of the larger pair
-sets_below : (b : Limits) (op : Op) (xs ys : List ℕ) (v2 w2 : Val) → IsValue b (Set xs) → IsValue b (Set ys) → IsValue b v2 → IsValue b w2
-    → IsBelow (Set xs) v2 → IsBelow (Set ys) w2 → IsBelow (value_of b op (Set xs) (Set ys)) (value_of b op v2 w2)
-unfolding results
+sets_below : (b : Limits) (op : Op) (xs ys : List ℕ) (v2 w2 : Val) → IsInLattice b (Set xs) → IsInLattice b (Set ys) → IsInLattice b v2 → IsInLattice b w2
+    → IsBelow (Set xs) v2 → IsBelow (Set ys) w2 → IsBelow (operation_value b op (Set xs) (Set ys)) (operation_value b op v2 w2)
+unfolding possible_results
 sets_below b op xs ys v2 w2 vv vw vv2 vw2 there here =
-    cover_below b (results_of_pairs op xs ys) (results op v2 w2) (some_results op (Set xs) (Set ys) vv.well vw.well) (some_results op v2 w2 vv2.well vw2.well)
+    cover_below b (results_of_pairs op xs ys) (possible_results op v2 w2) (some_results op (Set xs) (Set ys) vv.well vw.well) (some_results op v2 w2 vv2.well vw2.well)
     (λ z i.
     let r = pairs_among op z xs ys i in
-    subst (λ (n : ℕ). IsMember n (cover b (results op v2 w2))) (sym r.4)
-    (cover_holds b (results op v2 w2) (alu_of op r.0 r.1)
+    subst (λ (n : ℕ). IsMember n (cover b (possible_results op v2 w2))) (sym r.4)
+    (cover_holds b (possible_results op v2 w2) (alu_of op r.0 r.1)
     (results_have op v2 w2 vv2.well vw2.well r.0 r.1 (within_members b (Set xs) v2 vv vv2 there r.0 r.2) (within_members b (Set ys) w2 vw vw2 here r.1 r.3))))
 
 -- if one is a Span, its larger value is one too
-rows_below : (b : Limits) (op : Op) (v w v2 w2 : Val) → IsValue b v → IsValue b w → IsValue b v2 → IsValue b w2 → IsBelow v v2 → IsBelow w w2
-    → results op v w ≡ results_by_extents op v w → results op v2 w2 ≡ results_by_extents op v2 w2 → IsBelow (value_of b op v w) (value_of b op v2 w2)
+rows_below : (b : Limits) (op : Op) (v w v2 w2 : Val) → IsInLattice b v → IsInLattice b w → IsInLattice b v2 → IsInLattice b w2 → IsBelow v v2 → IsBelow w w2
+    → possible_results op v w ≡ results_by_extents op v w → possible_results op v2 w2 ≡ results_by_extents op v2 w2 → IsBelow (operation_value b op v w) (operation_value b op v2 w2)
 rows_below b op v w v2 w2 vv vw vv2 vw2 there here e f =
-    cover_mono b (results op v w) (results op v2 w2) (some_results op v w vv.well vw.well)
+    cover_mono b (possible_results op v w) (possible_results op v2 w2) (some_results op v w vv.well vw.well)
     (rw (e, f) (row_grows b op v w v2 w2 vv vw vv2 vw2 (within_members b v v2 vv vv2 there) (within_members b w w2 vw vw2 here)))
 
 pub monotone : OperationsAreMonotone
-unfolding results
+unfolding possible_results
 monotone b op (Set xs) (Set ys) v2 w2 limits vv vw vv2 vw2 there here = sets_below b op xs ys v2 w2 vv vw vv2 vw2 there here
 monotone b op (Set xs) (Span lo last s) v2 (Set ys) limits vv vw vv2 vw2 there here = absurd (span_not_below b lo last s ys vw vw2 here)
 monotone b op (Set xs) (Span lo last s) (Set xs2) (Span lo2 last2 s2) limits vv vw vv2 vw2 there here =
@@ -388,8 +388,8 @@ pub same_bounds : (e : Extent) (v : Val) → IsWellFormed v → IsExtent (member
 same_bounds e v w h =
     let only = extent_only (members v) h (bounds_of v w) in
     ap (λ n. record { least = n; greatest = e.greatest; step = e.step }) only.0
-    ∙ ap (λ n. record { least = low v; greatest = n; step = e.step }) only.1
-    ∙ ap (λ n. record { least = low v; greatest = high v; step = n }) only.2
+    ∙ ap (λ n. record { least = least_member v; greatest = n; step = e.step }) only.1
+    ∙ ap (λ n. record { least = least_member v; greatest = greatest_member v; step = n }) only.2
 
 pub row_intervals : (op : Op) (v w : Val) (e f : Extent) → (op ≡ Second → ⊥) → is_comparison op ≡ false → e ≡ extent_of_value v → f ≡ extent_of_value w → interval_words (result_interval op e f w) ≡ results_by_extents op v w
 unfolding results_by_extents is_comparison
@@ -402,23 +402,23 @@ row_intervals Ge v w e f n t a c = cc
 row_intervals GeU v w e f n t a c = cc
 row_intervals _ v w e f n t a c = rw (a, c) refl
 
-sums_step : (a b c d m : ℕ) → (sums a b c d m).step ≡ m
-unfolding sums
+sums_step : (a b c d m : ℕ) → (sum_interval a b c d m).step ≡ m
+unfolding sum_interval
 sums_step a b c d m =
     elim (cases_Bool (ltb (b + d) (2 ^ 32))) [
       | inl t ↦ rw t refl
       | inr f ↦ rw f (elim (cases_Bool (leb (2 ^ 32) (a + c))) [ inl t ↦ rw t refl | inr g ↦ rw g refl ])
     ]
 
-differences_step : (a b c d m : ℕ) → (differences a b c d m).step ≡ m
-unfolding differences
+differences_step : (a b c d m : ℕ) → (difference_interval a b c d m).step ≡ m
+unfolding difference_interval
 differences_step a b c d m =
     elim (cases_Bool (leb d a)) [
       | inl t ↦ rw t refl
       | inr f ↦ rw f (elim (cases_Bool (ltb b c)) [ inl t ↦ rw t refl | inr g ↦ rw g refl ])
     ]
 
-by_count_step : {shift : IntervalShift} {by : ℕ → ℕ → ℕ} (are : AreShifts shift by) (a b p : ℕ) (w : Val) → (shift_by_count shift a b p w).step ≤ 2
+by_count_step : {shift : IntervalShift} {by : ℕ → ℕ → ℕ} (are : AreShifts shift by) (a b p : ℕ) (w : Val) → (shifted_interval shift a b p w).step ≤ 2
 by_count_step are a b p (Set (y ∷ [])) = are.small a b p (y % 64)
 by_count_step are a b p _ = omega arith
 
@@ -433,11 +433,11 @@ interval_of_row_step _ e f w a b = omega arith
 -- the interval that a row covers isn't empty
 pub interval_some : (r : StridedInterval) (op : Op) (v w : Val) → IsWellFormed v → IsWellFormed w → interval_words r ≡ results_by_extents op v w → 1 ≤ span_len r.first r.last r.step
 interval_some r op v w wv ww e =
-    let i = row_has op v w wv ww (low v) (low w) (bounds_of v wv).low_in (bounds_of w ww).low_in in
-    let j : Among (alu_of op (low v) (low w)) (interval_words r) = rw e i in
-    omega (arith, some_length (interval_words r) (alu_of op (low v) (low w)) j, length-multiples (span_len r.first r.last r.step) (first_in_span r.first r.step) (2 ^ r.step))
+    let i = row_has op v w wv ww (least_member v) (least_member w) (bounds_of v wv).low_in (bounds_of w ww).low_in in
+    let j : Among (alu_of op (least_member v) (least_member w)) (interval_words r) = rw e i in
+    omega (arith, some_length (interval_words r) (alu_of op (least_member v) (least_member w)) j, length-multiples (span_len r.first r.last r.step) (first_member_quotient r.first r.step) (2 ^ r.step))
 
-pub row-Second : (b : Limits) (v w : Val) → IsValue b w → w ≡ cover b (results_by_extents Second v w)
+pub row-Second : (b : Limits) (v w : Val) → IsInLattice b w → w ≡ cover b (results_by_extents Second v w)
 unfolding results_by_extents
 row-Second b v w value = sym value.own
 
@@ -537,7 +537,7 @@ words_next b v out words i j n well e same =
     ∙ cover-part b (members v ++ take i words) (take n (drop i words)) (omega (arith, length-append (members v) (take i words), some_members v well))
     ∙ ap (cover b) (append_assoc (members v) (take i words) (take n (drop i words)) ∙ ap (λ (l : List ℕ). members v ++ l) (sym (take-add i n words) ∙ ap (λ (k : ℕ). take k words) (sym e)))
 
-pub met_all : (b : Limits) (v : Val) (ms ws : List ℕ) → IsValue b v → HasMembers v ms → Within ws ms → v ≡ cover b (members v ++ ws)
+pub met_all : (b : Limits) (v : Val) (ms ws : List ℕ) → IsInLattice b v → HasMembers v ms → Within ws ms → v ≡ cover b (members v ++ ws)
 met_all b v ms ws value met within =
     sym value.own
     ∙ cover-same b (members v) (members v ++ ws)
@@ -550,7 +550,7 @@ met_all b v ms ws value met within =
     ])
 
 -- eight words that were met together add nothing
-pub met_eight : (b : Limits) (v out : Val) (ms ws : List ℕ) (k i : ℕ) → IsWellFormed v → IsValue b out → HasMembers out ms → k + 8 ≤ length ms
+pub met_eight : (b : Limits) (v out : Val) (ms ws : List ℕ) (k i : ℕ) → IsWellFormed v → IsInLattice b out → HasMembers out ms → k + 8 ≤ length ms
     → ((n : ℕ) → n < 8 → get_or ms (k + n) 0 ≡ get_or ws (i + n) 0) → out ≡ cover b (members v ++ take i ws) → out ≡ cover b (members v ++ take (i + 8) ws)
 met_eight b v out ms ws k i well value met fits same e =
     met_all b out ms (take 8 (drop i ws)) value met (same_within ms ws k i 8 fits same) ∙ words_next b v out ws i (i + 8) 8 well refl e
@@ -615,8 +615,8 @@ pair_one b op (x ∷ []) (y ∷ []) limits left right small = cover-one b (alu_o
 pair_one b op (x ∷ []) (y ∷ z ∷ ys) limits left right small = absurd (omega (arith, right))
 pair_one b op (x ∷ w ∷ xs) (y ∷ ys) limits left right small = absurd (omega (arith, left))
 
-pub words_result : (b : Limits) (op : Op) (x y : ℕ) → AreLimits b → alu_of op x y < 2 ^ 32 → Set (alu_of op x y ∷ []) ≡ value_of b op (Set (x ∷ [])) (Set (y ∷ []))
-unfolding results results_of_pairs
+pub words_result : (b : Limits) (op : Op) (x y : ℕ) → AreLimits b → alu_of op x y < 2 ^ 32 → Set (alu_of op x y ∷ []) ≡ operation_value b op (Set (x ∷ [])) (Set (y ∷ []))
+unfolding possible_results results_of_pairs
 words_result b op x y limits small = cover-one b (alu_of op x y) limits small
 
 pub pairs-none : (op : Op) (x : ℕ) (ys : List ℕ) → x ∷ [] ≡ x ∷ results_of_pairs op [] ys

@@ -4,17 +4,17 @@ use Rattle.std.specs.List.{filter, list_any}
 use Rattle.std.proofs.lemmas.Bool.{cases_lt, cases_Bool, lt-ltb, le-ltb, le-leb, lt-leb, eqb-true, eqb-false, ne_eqb}
 use Rattle.tc_isa.specs.declared.shapes.Cond.{Cond}
 use Rattle.tc_isa.specs.declared.shapes.Cond.TheVariants as cond
-use Rattle.tc_isa.specs.Arithmetic.{taken_of, signed_order_place}
+use Rattle.tc_isa.specs.Arithmetic.{taken_of, signed_rank}
 use Rattle.value_domain.specs.declared.values.Val.{Val}
 use Rattle.value_domain.specs.Limits.{Limits}
-use Rattle.value_domain.specs.Values.{IsValue, members}
+use Rattle.value_domain.specs.Values.{IsInLattice, members}
 use Rattle.value_domain.proofs.RangeLaws.{some_members}
 use Rattle.vd_transfer.specs.declared.refinement.Relation.{Relation}
 use Rattle.vd_transfer.specs.declared.refinement.Relation.TheVariants.{Same, Other}
-use Rattle.vd_transfer.specs.Relations.{is_related, related_words, relation_of, converse}
+use Rattle.vd_transfer.specs.Relations.{is_related, related_words, relation_on_side, converse}
 use Rattle.vd_transfer.specs.Signs.{is_signed_condition, signed_related_words}
-use Rattle.vd_transfer.specs.Branches.{goes_to_side_if_equal}
-use Rattle.vd_transfer.specs.Refinement.{condition_goes_to_side, kept_left, kept_right, kept_against_itself}
+use Rattle.vd_transfer.specs.Branches.{is_side_taken_by_equal_words}
+use Rattle.vd_transfer.specs.Refinement.{is_side_taken, kept_left_words, kept_right_words, kept_self_compared_words}
 use Rattle.value_domain.specs.Meets.{cover_if_any}
 use Rattle.value_domain.proofs.MeetLaws.{cover_some-some}
 
@@ -36,8 +36,8 @@ eqb_swapped x y =
     ]
 
 -- the relation of a condition's side
-pub related_holds : (c : Cond) (side : Bool) (x y : ℕ) → is_signed_condition c ≡ false → is_related (relation_of c side) x y ≡ condition_goes_to_side c side x y
-unfolding is_related relation_of is_signed_condition taken_of
+pub related_holds : (c : Cond) (side : Bool) (x y : ℕ) → is_signed_condition c ≡ false → is_related (relation_on_side c side) x y ≡ is_side_taken c side x y
+unfolding is_related relation_on_side is_signed_condition taken_of
 related_holds cond.Eq true x y e = refl
 related_holds cond.Eq false x y e = refl
 related_holds cond.Ne true x y e = refl
@@ -50,15 +50,15 @@ related_holds cond.GeU true x y e = refl
 related_holds cond.GeU false x y e = sym (not_leb y x)
 
 -- the laws in the signed order
-pub related_signed : (c : Cond) (side : Bool) (x y : ℕ) → is_signed_condition c ≡ true → is_related (relation_of c side) (signed_order_place x) (signed_order_place y) ≡ condition_goes_to_side c side x y
-unfolding is_related relation_of is_signed_condition taken_of
+pub related_signed : (c : Cond) (side : Bool) (x y : ℕ) → is_signed_condition c ≡ true → is_related (relation_on_side c side) (signed_rank x) (signed_rank y) ≡ is_side_taken c side x y
+unfolding is_related relation_on_side is_signed_condition taken_of
 related_signed cond.Eq side x y e = cc
 related_signed cond.Ne side x y e = cc
 related_signed cond.Lt true x y e = refl
-related_signed cond.Lt false x y e = sym (not_ltb (signed_order_place x) (signed_order_place y))
+related_signed cond.Lt false x y e = sym (not_ltb (signed_rank x) (signed_rank y))
 related_signed cond.LtU side x y e = cc
 related_signed cond.Ge true x y e = refl
-related_signed cond.Ge false x y e = sym (not_leb (signed_order_place y) (signed_order_place x))
+related_signed cond.Ge false x y e = sym (not_leb (signed_rank y) (signed_rank x))
 related_signed cond.GeU side x y e = cc
 
 pub converse_related : (rel : Relation) (x y : ℕ) → is_related (converse rel) y x ≡ is_related rel x y
@@ -68,8 +68,8 @@ converse_related Other x y = ap not (eqb_swapped x y)
 converse_related _ x y = refl
 
 -- a signed condition isn't equality
-pub signed_order : (c : Cond) (side : Bool) → is_signed_condition c ≡ true → relation_of c side ≡ Same → ⊥
-unfolding relation_of is_signed_condition
+pub signed_order : (c : Cond) (side : Bool) → is_signed_condition c ≡ true → relation_on_side c side ≡ Same → ⊥
+unfolding relation_on_side is_signed_condition
 signed_order cond.Eq side e f = absurd (let g : false ≡ true = e in cc)
 signed_order cond.Ne side e f = absurd (let g : false ≡ true = e in cc)
 signed_order cond.Lt true e f = cc
@@ -93,21 +93,21 @@ filter_same : (p q : ℕ → Bool) (vs : List ℕ) → ((x : ℕ) → p x ≡ q 
 filter_same p q [] h = refl
 filter_same p q (v ∷ vs) h = rw (h v, filter_same p q vs h) refl
 
-pub left_plain : (c : Cond) (side : Bool) (vs ws : List ℕ) → is_signed_condition c ≡ false → related_words (relation_of c side) vs ws ≡ kept_left c side vs ws
-unfolding related_words kept_left
+pub left_plain : (c : Cond) (side : Bool) (vs ws : List ℕ) → is_signed_condition c ≡ false → related_words (relation_on_side c side) vs ws ≡ kept_left_words c side vs ws
+unfolding related_words kept_left_words
 left_plain c side vs ws e = filter_same _ _ vs (λ x. any_same _ _ ws (λ y. related_holds c side x y e))
 
-pub left_signed : (c : Cond) (side : Bool) (vs ws : List ℕ) → is_signed_condition c ≡ true → signed_related_words (relation_of c side) vs ws ≡ kept_left c side vs ws
-unfolding signed_related_words kept_left
+pub left_signed : (c : Cond) (side : Bool) (vs ws : List ℕ) → is_signed_condition c ≡ true → signed_related_words (relation_on_side c side) vs ws ≡ kept_left_words c side vs ws
+unfolding signed_related_words kept_left_words
 left_signed c side vs ws e = filter_same _ _ vs (λ x. any_same _ _ ws (λ y. related_signed c side x y e))
 
-pub right_plain : (c : Cond) (side : Bool) (vs ws : List ℕ) → is_signed_condition c ≡ false → related_words (converse (relation_of c side)) ws vs ≡ kept_right c side vs ws
-unfolding related_words kept_right
-right_plain c side vs ws e = filter_same _ _ ws (λ y. any_same _ _ vs (λ x. converse_related (relation_of c side) x y ∙ related_holds c side x y e))
+pub right_plain : (c : Cond) (side : Bool) (vs ws : List ℕ) → is_signed_condition c ≡ false → related_words (converse (relation_on_side c side)) ws vs ≡ kept_right_words c side vs ws
+unfolding related_words kept_right_words
+right_plain c side vs ws e = filter_same _ _ ws (λ y. any_same _ _ vs (λ x. converse_related (relation_on_side c side) x y ∙ related_holds c side x y e))
 
-pub right_signed : (c : Cond) (side : Bool) (vs ws : List ℕ) → is_signed_condition c ≡ true → signed_related_words (converse (relation_of c side)) ws vs ≡ kept_right c side vs ws
-unfolding signed_related_words kept_right
-right_signed c side vs ws e = filter_same _ _ ws (λ y. any_same _ _ vs (λ x. converse_related (relation_of c side) (signed_order_place x) (signed_order_place y) ∙ related_signed c side x y e))
+pub right_signed : (c : Cond) (side : Bool) (vs ws : List ℕ) → is_signed_condition c ≡ true → signed_related_words (converse (relation_on_side c side)) ws vs ≡ kept_right_words c side vs ws
+unfolding signed_related_words kept_right_words
+right_signed c side vs ws e = filter_same _ _ ws (λ y. any_same _ _ vs (λ x. converse_related (relation_on_side c side) (signed_rank x) (signed_rank y) ∙ related_signed c side x y e))
 
 -- ---- one register twice
 ltb_self : (z : ℕ) → ltb z z ≡ false
@@ -116,18 +116,18 @@ ltb_self z = le-ltb z z (omega arith)
 leb_self : (z : ℕ) → leb z z ≡ true
 leb_self z = le-leb z z (omega arith)
 
-pub self_is : (c : Cond) (side : Bool) (z : ℕ) → condition_goes_to_side c side z z ≡ goes_to_side_if_equal c side
-unfolding goes_to_side_if_equal taken_of
+pub self_is : (c : Cond) (side : Bool) (z : ℕ) → is_side_taken c side z z ≡ is_side_taken_by_equal_words c side
+unfolding is_side_taken_by_equal_words taken_of
 self_is cond.Eq true z = eq-eqb z z refl
 self_is cond.Eq false z = ap not (eq-eqb z z refl)
 self_is cond.Ne true z = ap not (eq-eqb z z refl)
 self_is cond.Ne false z = ap (λ b. not (not b)) (eq-eqb z z refl)
-self_is cond.Lt true z = ltb_self (signed_order_place z)
-self_is cond.Lt false z = ap not (ltb_self (signed_order_place z))
+self_is cond.Lt true z = ltb_self (signed_rank z)
+self_is cond.Lt false z = ap not (ltb_self (signed_rank z))
 self_is cond.LtU true z = ltb_self z
 self_is cond.LtU false z = ap not (ltb_self z)
-self_is cond.Ge true z = leb_self (signed_order_place z)
-self_is cond.Ge false z = ap not (leb_self (signed_order_place z))
+self_is cond.Ge true z = leb_self (signed_rank z)
+self_is cond.Ge false z = ap not (leb_self (signed_rank z))
 self_is cond.GeU true z = leb_self z
 self_is cond.GeU false z = ap not (leb_self z)
 
@@ -139,12 +139,12 @@ pub filter_none : (p : ℕ → Bool) (zs : List ℕ) → ((z : ℕ) → p z ≡ 
 filter_none p [] h = refl
 filter_none p (z ∷ zs) h = rw (h z) (filter_none p zs h)
 
-pub both_all : (b : Limits) (c : Cond) (side : Bool) (v : Val) → IsValue b v → goes_to_side_if_equal c side ≡ true → Some v ≡ cover_if_any b (kept_against_itself c side (members v))
-unfolding kept_against_itself
+pub both_all : (b : Limits) (c : Cond) (side : Bool) (v : Val) → IsInLattice b v → is_side_taken_by_equal_words c side ≡ true → Some v ≡ cover_if_any b (kept_self_compared_words c side (members v))
+unfolding kept_self_compared_words
 both_all b c side v value e =
-    let all : filter (λ z. condition_goes_to_side c side z z) (members v) ≡ members v = filter_all (λ z. condition_goes_to_side c side z z) (members v) (λ z. self_is c side z ∙ e) in
+    let all : filter (λ z. is_side_taken c side z z) (members v) ≡ members v = filter_all (λ z. is_side_taken c side z z) (members v) (λ z. self_is c side z ∙ e) in
     ap (λ (u : Val). Some u) (sym value.own) ∙ cover_some-some b (members v) (some_members v value.well) ∙ ap (cover_if_any b) (sym all)
 
-pub both_none : (b : Limits) (c : Cond) (side : Bool) (v : Val) → goes_to_side_if_equal c side ≡ false → None ≡ cover_if_any b (kept_against_itself c side (members v))
-unfolding kept_against_itself
-both_none b c side v e = ap (cover_if_any b) (sym (filter_none (λ z. condition_goes_to_side c side z z) (members v) (λ z. self_is c side z ∙ e)))
+pub both_none : (b : Limits) (c : Cond) (side : Bool) (v : Val) → is_side_taken_by_equal_words c side ≡ false → None ≡ cover_if_any b (kept_self_compared_words c side (members v))
+unfolding kept_self_compared_words
+both_none b c side v e = ap (cover_if_any b) (sym (filter_none (λ z. is_side_taken c side z z) (members v) (λ z. self_is c side z ∙ e)))

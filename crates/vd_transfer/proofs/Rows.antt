@@ -5,14 +5,14 @@ use Rattle.std.proofs.lemmas.Nat.{and_le_l, and_le_r, shr_le}
 use Rattle.std.proofs.Math.Pow.{shr_mono}
 use Rattle.std.proofs.Math.Nat.{mul-le-mul_right}
 use Rattle.value_domain.specs.Sets.{Among, Within, alignment_log2}
-use Rattle.value_domain.specs.Values.{range}
+use Rattle.value_domain.specs.Values.{multiples_in_range}
 use Rattle.value_domain.proofs.CoverLaws.{range_among, among_range, from_units}
 use Rattle.tc_isa.specs.Arithmetic.{logical_shift}
-use Rattle.vd_transfer.specs.Intervals.{sums, differences, shifts, interval_words}
+use Rattle.vd_transfer.specs.Intervals.{sum_interval, difference_interval, logical_shift_interval, interval_words}
 use Rattle.vd_transfer.proofs.Steps.{twos_add, twos_sub, twos_mod, twos_and_both, twos_shift}
 
 -- a range inside another
-pub range_inside : (lo last s lo2 last2 s2 : ℕ) → s ≤ 2 → lo2 ≤ lo → last ≤ last2 → s2 ≤ s → Within (range lo last s) (range lo2 last2 s2)
+pub range_inside : (lo last s lo2 last2 s2 : ℕ) → s ≤ 2 → lo2 ≤ lo → last ≤ last2 → s2 ≤ s → Within (multiples_in_range lo last s) (multiples_in_range lo2 last2 s2)
 range_inside lo last s lo2 last2 s2 small a b c z i =
     let m = range_among z lo last s small i in
     among_range z lo2 last2 s2 (omega arith) (omega (arith, m.0), omega (arith, m.1), omega (arith, m.2))
@@ -24,8 +24,8 @@ pub record Lies (x a b p : ℕ) : Type 0 where
   pub fits : p ≤ alignment_log2 x
 
 -- ---- Add
-pub sums_have : (x y a b c d m : ℕ) → m ≤ 2 → Lies x a b m → Lies y c d m → b < 2 ^ 32 → d < 2 ^ 32 → Among ((x + y) % 2 ^ 32) (interval_words (sums a b c d m))
-unfolding sums
+pub sums_have : (x y a b c d m : ℕ) → m ≤ 2 → Lies x a b m → Lies y c d m → b < 2 ^ 32 → d < 2 ^ 32 → Among ((x + y) % 2 ^ 32) (interval_words (sum_interval a b c d m))
+unfolding sum_interval
 sums_have x y a b c d m small lx ly bb dd =
     let f : m ≤ alignment_log2 ((x + y) % 2 ^ 32) = twos_mod m small (x + y) (twos_add m small x y lx.fits ly.fits) in
     let r : (x + y) % 2 ^ 32 < 2 ^ 32 = omega arith in
@@ -42,8 +42,8 @@ sums_have x y a b c d m small lx ly bb dd =
     ]
 
 pub sums_grow : (a b c d m a2 b2 c2 d2 m2 : ℕ) → m ≤ 2 → m2 ≤ m → a ≤ b → c ≤ d → a2 ≤ a → b ≤ b2 → c2 ≤ c → d ≤ d2 → b2 < 2 ^ 32 → d2 < 2 ^ 32
-    → Within (interval_words (sums a b c d m)) (interval_words (sums a2 b2 c2 d2 m2))
-unfolding sums
+    → Within (interval_words (sum_interval a b c d m)) (interval_words (sum_interval a2 b2 c2 d2 m2))
+unfolding sum_interval
 sums_grow a b c d m a2 b2 c2 d2 m2 small step ab cd la hb lc hd bb dd =
     elim (cases_lt (b2 + d2) (2 ^ 32)) [
       | inl fit2 ↦
@@ -70,17 +70,17 @@ sums_grow a b c d m a2 b2 c2 d2 m2 small step ab cd la hb lc hd bb dd =
     ]
 
 -- ---- And
-pub ands_have : (x y b d p q : ℕ) → p ≤ 2 → q ≤ 2 → x ≤ b → y ≤ d → p ≤ alignment_log2 x → q ≤ alignment_log2 y → Among (bit_and x y) (range 0 (min b d) (max p q))
+pub ands_have : (x y b d p q : ℕ) → p ≤ 2 → q ≤ 2 → x ≤ b → y ≤ d → p ≤ alignment_log2 x → q ≤ alignment_log2 y → Among (bit_and x y) (multiples_in_range 0 (min b d) (max p q))
 ands_have x y b d p q sp sq hx hy fx fy =
     among_range (bit_and x y) 0 (min b d) (max p q) (omega arith)
     (omega arith, omega (arith, and_le_l x y, and_le_r x y), twos_and_both x y p q sp sq fx fy)
 
-pub ands_grow : (b d p q b2 d2 p2 q2 : ℕ) → p ≤ 2 → q ≤ 2 → b ≤ b2 → d ≤ d2 → p2 ≤ p → q2 ≤ q → Within (range 0 (min b d) (max p q)) (range 0 (min b2 d2) (max p2 q2))
+pub ands_grow : (b d p q b2 d2 p2 q2 : ℕ) → p ≤ 2 → q ≤ 2 → b ≤ b2 → d ≤ d2 → p2 ≤ p → q2 ≤ q → Within (multiples_in_range 0 (min b d) (max p q)) (multiples_in_range 0 (min b2 d2) (max p2 q2))
 ands_grow b d p q b2 d2 p2 q2 sp sq hb hd hp hq = range_inside 0 (min b d) (max p q) 0 (min b2 d2) (max p2 q2) (omega arith) (omega arith) (omega arith) (omega arith)
 
 -- ---- Sh by n
-pub shifts_have : (x a b p n : ℕ) → p ≤ 2 → Lies x a b p → b < 2 ^ 32 → Among (logical_shift x n) (interval_words (shifts a b p n))
-unfolding shifts
+pub shifts_have : (x a b p n : ℕ) → p ≤ 2 → Lies x a b p → b < 2 ^ 32 → Among (logical_shift x n) (interval_words (logical_shift_interval a b p n))
+unfolding logical_shift_interval
 shifts_have x a b p n small l bb =
     elim (cases_lt n 32) [
       | inl left ↦
@@ -103,8 +103,8 @@ shifts_have x a b p n small l bb =
           (shr_mono (64 - n) l.from, shr_mono (64 - n) l.to, omega arith))
     ]
 
-pub shifts_grow : (a b p n a2 b2 p2 : ℕ) → p ≤ 2 → a2 ≤ a → b ≤ b2 → p2 ≤ p → Within (interval_words (shifts a b p n)) (interval_words (shifts a2 b2 p2 n))
-unfolding shifts
+pub shifts_grow : (a b p n a2 b2 p2 : ℕ) → p ≤ 2 → a2 ≤ a → b ≤ b2 → p2 ≤ p → Within (interval_words (logical_shift_interval a b p n)) (interval_words (logical_shift_interval a2 b2 p2 n))
+unfolding logical_shift_interval
 shifts_grow a b p n a2 b2 p2 small la hb hp =
     let low : a2 * 2 ^ n ≤ a * 2 ^ n = mul-le-mul_right (2 ^ n) la in
     let high : b * 2 ^ n ≤ b2 * 2 ^ n = mul-le-mul_right (2 ^ n) hb in
@@ -128,8 +128,8 @@ shifts_grow a b p n a2 b2 p2 small la hb hp =
     ]
 
 -- a shift's set has words alone
-pub shifts_below : (a b p n z : ℕ) → p ≤ 2 → b < 2 ^ 32 → Among z (interval_words (shifts a b p n)) → z < 2 ^ 32
-unfolding shifts
+pub shifts_below : (a b p n z : ℕ) → p ≤ 2 → b < 2 ^ 32 → Among z (interval_words (logical_shift_interval a b p n)) → z < 2 ^ 32
+unfolding logical_shift_interval
 shifts_below a b p n z small bb i =
     elim (cases_lt n 32) [
       | inl left ↦
@@ -148,8 +148,8 @@ shifts_below a b p n z small bb i =
     ]
 
 -- ---- Sub
-pub differences_have : (x y a b c d m : ℕ) → m ≤ 2 → Lies x a b m → Lies y c d m → b < 2 ^ 32 → d < 2 ^ 32 → Among ((x + 2 ^ 32 - y) % 2 ^ 32) (interval_words (differences a b c d m))
-unfolding differences
+pub differences_have : (x y a b c d m : ℕ) → m ≤ 2 → Lies x a b m → Lies y c d m → b < 2 ^ 32 → d < 2 ^ 32 → Among ((x + 2 ^ 32 - y) % 2 ^ 32) (interval_words (difference_interval a b c d m))
+unfolding difference_interval
 differences_have x y a b c d m small lx ly bb dd =
     let lift : m ≤ alignment_log2 (x + 2 ^ 32) = twos_add m small x (2 ^ 32) lx.fits (le_trans_2 m small) in
     let f : m ≤ alignment_log2 ((x + 2 ^ 32 - y) % 2 ^ 32) = twos_mod m small (x + 2 ^ 32 - y) (twos_sub m small (x + 2 ^ 32) y lift ly.fits) in
@@ -169,8 +169,8 @@ differences_have x y a b c d m small lx ly bb dd =
     le_trans_2 m small = let t : 2 ≤ alignment_log2 (2 ^ 32) = from_units 2 (omega arith) (2 ^ 30) (2 ^ 32) refl in omega arith
 
 pub differences_grow : (a b c d m a2 b2 c2 d2 m2 : ℕ) → m ≤ 2 → m2 ≤ m → a ≤ b → c ≤ d → a2 ≤ a → b ≤ b2 → c2 ≤ c → d ≤ d2 → b2 < 2 ^ 32 → d2 < 2 ^ 32
-    → Within (interval_words (differences a b c d m)) (interval_words (differences a2 b2 c2 d2 m2))
-unfolding differences
+    → Within (interval_words (difference_interval a b c d m)) (interval_words (difference_interval a2 b2 c2 d2 m2))
+unfolding difference_interval
 differences_grow a b c d m a2 b2 c2 d2 m2 small step ab cd la hb lc hd bb dd =
     elim (cases_lt a2 d2) [
       | inr fit2 ↦

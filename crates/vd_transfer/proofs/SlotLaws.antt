@@ -2,7 +2,7 @@
 use Rattle.std.proofs.Common.{◌≡◌, ℕ, ◌+◌, ◌-◌, ◌<◌, ◌≤◌, inl, inr, false, refl, sym, ap, ◌∙◌, arith, Some, None, leb, ltb, eqb, ◌&&◌, if◌then◌else◌}
 use Rattle.std.proofs.lemmas.Bool.{cases_lt, cases_Bool, lt-ltb, le-ltb, le-leb, lt-leb, eqb-true, leb-true, and_parts}
 use Rattle.tcd_base.proofs.OptionLaws.{some_same}
-use Rattle.vd_transfer.specs.Registers.{slot, is_lower_register}
+use Rattle.vd_transfer.specs.Registers.{register_slot, is_lower_register}
 use Rattle.value_domain.specs.State.{is_lower_slot}
 
 none_some : {A : Type 0} (i : ℕ) → None ≡ Some i → A
@@ -48,8 +48,8 @@ last_slots r i low high e =
 stack_slot : (r i : ℕ) → r ≡ 26 → 22 ≡ i → IsSlot r i
 stack_slot r i a e = rw (← e, a) (record { within = omega arith; back = refl; lower = refl })
 
-pub slot_is : (r i : ℕ) → slot r ≡ Some i → IsSlot r i
-unfolding slot
+pub slot_is : (r i : ℕ) → register_slot r ≡ Some i → IsSlot r i
+unfolding register_slot
 slot_is r i e =
     elim (cases_lt r 16) [
       | inl first ↦ first_slots r i first (some_same r i (rw (lt-ltb r 16 first) at e))
@@ -72,12 +72,12 @@ slot_is r i e =
     ]
 
 -- two registers don't share a place
-pub slot_apart : (q r i j : ℕ) → slot q ≡ Some j → slot r ≡ Some i → i ≡ j → q ≡ r
+pub slot_apart : (q r i j : ℕ) → register_slot q ≡ Some j → register_slot r ≡ Some i → i ≡ j → q ≡ r
 slot_apart q r i j e f same = sym (slot_is q j e).back ∙ ap unslot (sym same) ∙ (slot_is r i f).back
 
 -- a register without a place isn't a lower one
-pub not_lower : (r : ℕ) → slot r ≡ None → is_lower_register r ≡ false
-unfolding slot
+pub not_lower : (r : ℕ) → register_slot r ≡ None → is_lower_register r ≡ false
+unfolding register_slot
 not_lower r e =
     elim (cases_lt r 16) [
       | inl first ↦ absurd (let f : Some r ≡ None = rw (lt-ltb r 16 first) at e in cc)

@@ -7,29 +7,29 @@ use Rattle.vd_transfer.specs.declared.change.Base.{Base}
 use Rattle.vd_transfer.specs.declared.change.Base.TheVariants.{Same, Forgotten, Any}
 use Rattle.vd_transfer.specs.declared.change.RegisterWrite.{RegisterWrite}
 use Rattle.vd_transfer.specs.declared.change.Change.{Change}
-use Rattle.vd_transfer.specs.Registers.{slot}
+use Rattle.vd_transfer.specs.Registers.{register_slot}
 use Rattle.vd_transfer.specs.EffectsOnStates.{with_lower_unknown_from}
 
 -- the values that a change starts from: the state's own, those with the lower registers unknown, or
 -- unknown everywhere
-abbrev pub base_of : Base → List Val → List Val
-base_of Same regs = regs
-base_of Forgotten regs = with_lower_unknown_from 0 regs
-base_of Any regs = replicate 27 any_val
+abbrev pub base_values : Base → List Val → List Val
+base_values Same regs = regs
+base_values Forgotten regs = with_lower_unknown_from 0 regs
+base_values Any regs = replicate 27 any_val
 
 -- the values with one at a place, if there is a place
-abbrev pub values_changed_at : List Val → Val → Option ℕ → List Val
-values_changed_at vs v None = vs
-values_changed_at vs v (Some i) = slice_set vs i v
+abbrev pub with_value_in_slot : List Val → Val → Option ℕ → List Val
+with_value_in_slot vs v None = vs
+with_value_in_slot vs v (Some i) = slice_set vs i v
 
 -- the values with what is put at its place
-abbrev pub with_put : List Val → RegisterWrite → List Val
-with_put vs write = values_changed_at vs write.value write.at
+abbrev pub with_write : List Val → RegisterWrite → List Val
+with_write vs write = with_value_in_slot vs write.value write.at
 
 -- the state after a change
 abbrev pub state_after : State → Change → State
 state_after s c = record {
-  regs = with_put (with_put (with_put (base_of c.base s.regs) c.first) c.second) c.third;
+  regs = with_write (with_write (with_write (base_values c.base s.regs) c.first) c.second) c.third;
   ie = c.ie;
   ccpn = c.ccpn;
   lower = c.lower;
@@ -37,20 +37,20 @@ state_after s c = record {
 }
 
 -- nothing is put
-abbrev pub no_put : RegisterWrite
-no_put = record { at = None; value = any_val }
+abbrev pub no_write : RegisterWrite
+no_write = record { at = None; value = any_val }
 
 -- the put of a register's value, if a state has one for it
-abbrev pub put_of_register : ℕ → Val → RegisterWrite
-put_of_register r v = record { at = slot r; value = v }
+abbrev pub register_write : ℕ → Val → RegisterWrite
+register_write r v = record { at = register_slot r; value = v }
 
 -- the identity change of a state, which keeps the whole state
 abbrev pub identity_change_of : State → Change
 identity_change_of s = record {
   base = Same;
-  first = no_put;
-  second = no_put;
-  third = no_put;
+  first = no_write;
+  second = no_write;
+  third = no_write;
   ie = s.ie;
   ccpn = s.ccpn;
   lower = s.lower;
@@ -58,5 +58,5 @@ identity_change_of s = record {
 }
 
 -- the identity change of a state, with the values of another change at no place
-abbrev pub identity_change_over : Change → State → Change
-identity_change_over c s = record (identity_change_of s) { first = record c.first { at = None }; second = record c.second { at = None }; third = record c.third { at = None } }
+abbrev pub identity_keeping_values : Change → State → Change
+identity_keeping_values c s = record (identity_change_of s) { first = record c.first { at = None }; second = record c.second { at = None }; third = record c.third { at = None } }

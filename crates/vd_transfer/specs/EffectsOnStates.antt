@@ -8,20 +8,20 @@ use Rattle.tc_isa.specs.declared.shapes.Shape.{Shape}
 use Rattle.tc_isa.specs.declared.shapes.Shape.TheVariants.{Compute, Scaled, Load, Store, Branch, Jump, Call, Ret, Rfe, Svlcx, Rslcx, Bisr, Enable, Disable, Syscall, Mfcr, Mtcr, Nothing}
 use Rattle.value_domain.specs.declared.values.Val.{Val}
 use Rattle.value_domain.specs.declared.states.State.{State}
-use Rattle.value_domain.specs.Values.{any_val, IsValue, word_val}
+use Rattle.value_domain.specs.Values.{any_val, IsInLattice, word_val}
 use Rattle.value_domain.specs.Limits.{Limits}
-use Rattle.vd_transfer.specs.Operations.{value_of}
-use Rattle.vd_transfer.specs.Registers.{reg_of, arg_of, write_reg}
+use Rattle.vd_transfer.specs.Operations.{operation_value}
+use Rattle.vd_transfer.specs.Registers.{reg_of, arg_of, state_after_reg_write}
 use Rattle.value_domain.specs.State.{is_lower_slot}
 
 -- the state after the access increased its base register by the offset, if the access does that
 abbrev pub state_with_increased_base : Limits → PlanData → State → Arg → ℕ → Bool → State
-state_with_increased_base b p s (Reg r) offset after = if after then write_reg s r (value_of b Add (reg_of p s r) (word_val offset)) else s
+state_with_increased_base b p s (Reg r) offset after = if after then state_after_reg_write s r (operation_value b Add (reg_of p s r) (word_val offset)) else s
 state_with_increased_base b p s (Word w) offset after = s
 
 -- the address of an access: the base, or base plus offset
 abbrev pub access_of : Limits → PlanData → State → Arg → ℕ → Bool → Val
-access_of b p s base offset after = if after then arg_of p s base else value_of b Add (arg_of p s base) (word_val offset)
+access_of b p s base offset after = if after then arg_of p s base else operation_value b Add (arg_of p s base) (word_val offset)
 
 -- a lower context is saved: the mark that the lower registers are those of the entry becomes a
 -- local
@@ -46,9 +46,9 @@ state_after_lower_restore s = record s {
 -- the state after an instruction that stays in its frame and isn't a branch or a jump; a load
 -- writes the value that was loaded
 unfoldable pub transfer_of : Limits → PlanData → Shape → State → Val → State
-transfer_of b p (Compute op dst x y) s loaded = write_reg s dst (value_of b op (arg_of p s x) (arg_of p s y))
-transfer_of b p (Scaled dst base index n) s loaded = write_reg s dst (value_of b Add (reg_of p s base) (value_of b Sh (reg_of p s index) (word_val n)))
-transfer_of b p (Load dst base offset size signed after) s loaded = write_reg (state_with_increased_base b p s base offset after) dst loaded
+transfer_of b p (Compute op dst x y) s loaded = state_after_reg_write s dst (operation_value b op (arg_of p s x) (arg_of p s y))
+transfer_of b p (Scaled dst base index n) s loaded = state_after_reg_write s dst (operation_value b Add (reg_of p s base) (operation_value b Sh (reg_of p s index) (word_val n)))
+transfer_of b p (Load dst base offset size signed after) s loaded = state_after_reg_write (state_with_increased_base b p s base offset after) dst loaded
 transfer_of b p (Store src base offset size after) s loaded = state_with_increased_base b p s base offset after
 transfer_of b p (Branch cond x y by lowers) s loaded = s
 transfer_of b p (Jump to) s loaded = s
@@ -61,25 +61,25 @@ transfer_of b p (Bisr c) s loaded = record (state_after_lower_save s) { ie = tru
 transfer_of b p Enable s loaded = record s { ie = true }
 transfer_of b p Disable s loaded = record s { ie = false }
 transfer_of b p (Syscall tin) s loaded = s
-transfer_of b p (Mfcr dst number) s loaded = write_reg s dst any_val
+transfer_of b p (Mfcr dst number) s loaded = state_after_reg_write s dst any_val
 transfer_of b p (Mtcr src number) s loaded = s
 transfer_of b p Nothing s loaded = s
 
 -- the addresses that an instruction, a load or a store, computes from the registers of a state
-unfoldable pub address_of : Limits → PlanData → Shape → State → Val
-address_of b p (Load dst base offset size signed after) s = access_of b p s base offset after
-address_of b p (Store src base offset size after) s = access_of b p s base offset after
-address_of b p _ s = any_val
+unfoldable pub address_of_access : Limits → PlanData → Shape → State → Val
+address_of_access b p (Load dst base offset size signed after) s = access_of b p s base offset after
+address_of_access b p (Store src base offset size after) s = access_of b p s base offset after
+address_of_access b p _ s = any_val
 
 -- an instruction's effect on a state is defined: there is room for a local if it saves a lower
 -- context, and a local if it restores one
-abbrev pub EffectHasRoom : Limits → Shape → State → Type 0
-EffectHasRoom b Svlcx s = length s.locals.items < b.most_locals
-EffectHasRoom b (Bisr c) s = length s.locals.items < b.most_locals
-EffectHasRoom b Rslcx s = 1 ≤ length s.locals.items
-EffectHasRoom b _ s = Unit {0}
+abbrev pub LocalsFitInstruction : Limits → Shape → State → Type 0
+LocalsFitInstruction b Svlcx s = length s.locals.items < b.most_locals
+LocalsFitInstruction b (Bisr c) s = length s.locals.items < b.most_locals
+LocalsFitInstruction b Rslcx s = 1 ≤ length s.locals.items
+LocalsFitInstruction b _ s = Unit {0}
 
 -- what was loaded is a value of the limits, if an instruction of this shape writes it
-abbrev pub EffectLoadsValue : Limits → Shape → Val → Type 0
-EffectLoadsValue b (Load dst base offset size signed after) loaded = IsValue b loaded
-EffectLoadsValue b _ loaded = Unit {0}
+abbrev pub LoadedIsInLattice : Limits → Shape → Val → Type 0
+LoadedIsInLattice b (Load dst base offset size signed after) loaded = IsInLattice b loaded
+LoadedIsInLattice b _ loaded = Unit {0}

@@ -11,13 +11,13 @@ abbrev pub words_with_register : (ℕ → ℕ) → ℕ → ℕ → ℕ → ℕ
 words_with_register word r w q = if q == r then w else word q
 
 -- the word of an operand: a register's, or the constant
-abbrev pub word_of : (ℕ → ℕ) → Arg → ℕ
-word_of word (Reg r) = word r
-word_of word (Word w) = w
+abbrev pub operand_word : (ℕ → ℕ) → Arg → ℕ
+operand_word word (Reg r) = word r
+operand_word word (Word w) = w
 
 -- the address that a load or a store computes from the words of registers
-abbrev pub access_word : (ℕ → ℕ) → Arg → ℕ → Bool → ℕ
-access_word word base offset after = if after then word_of word base else (word_of word base + offset) % 2 ^ 32
+abbrev pub accessed_address : (ℕ → ℕ) → Arg → ℕ → Bool → ℕ
+accessed_address word base offset after = if after then operand_word word base else (operand_word word base + offset) % 2 ^ 32
 
 -- the words of registers after the access increased its base register by the offset, if the access
 -- does that
@@ -28,7 +28,7 @@ words_with_increased_base word (Word w) offset after = word
 -- the words after an instruction that read this word from memory or a peripheral; saving and
 -- restoring contexts is defined elsewhere
 unfoldable pub words_after : Shape → ℕ → (ℕ → ℕ) → ℕ → ℕ
-words_after (Compute op dst x y) input word = words_with_register word dst (alu_of op (word_of word x) (word_of word y))
+words_after (Compute op dst x y) input word = words_with_register word dst (alu_of op (operand_word word x) (operand_word word y))
 words_after (Scaled dst base index n) input word = words_with_register word dst ((word base + word index * 2 ^ n) % 2 ^ 32)
 words_after (Load dst base offset size signed after) input word = words_with_register (words_with_increased_base word base offset after) dst input
 words_after (Store src base offset size after) input word = words_with_increased_base word base offset after

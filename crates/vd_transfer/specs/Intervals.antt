@@ -6,52 +6,52 @@ use Rattle.value_domain.specs.declared.values.Val.{Val}
 use Rattle.value_domain.specs.declared.values.Val.TheVariants.{Set, Span}
 use Rattle.value_domain.specs.declared.lattice.Extent.{Extent}
 use Rattle.value_domain.specs.Sets.{least, greatest}
-use Rattle.value_domain.specs.Values.{range, high, low, step}
+use Rattle.value_domain.specs.Values.{multiples_in_range, greatest_member, least_member, step_of_value}
 use Rattle.vd_transfer.specs.declared.strided_interval.StridedInterval.{StridedInterval}
 use Rattle.vd_transfer.specs.declared.refinement.Interval.{Interval}
 
 -- the words of a strided interval
 abbrev pub interval_words : StridedInterval → List ℕ
-interval_words r = range r.first r.last r.step
+interval_words r = multiples_in_range r.first r.last r.step
 
 -- the strided interval of the multiples of 2 ^ step from the first word to the last
 abbrev pub interval : ℕ → ℕ → ℕ → StridedInterval
 interval first last step = record { first = first; last = last; step = step }
 
 -- the strided interval of all words that are multiples of 2 ^ s
-abbrev pub whole : ℕ → StridedInterval
-whole s = interval 0 (2 ^ 32 - 1) s
+abbrev pub all_multiples : ℕ → StridedInterval
+all_multiples s = interval 0 (2 ^ 32 - 1) s
 
 -- the words that are multiples of 2 ^ s
-abbrev pub whole_interval_words : ℕ → List ℕ
-whole_interval_words s = interval_words (whole s)
+abbrev pub words_of_all_multiples : ℕ → List ℕ
+words_of_all_multiples s = interval_words (all_multiples s)
 
 -- the strided interval of the sums of a..=b and c..=d of step m, modulo 2 ^ 32
-unfoldable pub sums : ℕ → ℕ → ℕ → ℕ → ℕ → StridedInterval
-sums a b c d m =
+unfoldable pub sum_interval : ℕ → ℕ → ℕ → ℕ → ℕ → StridedInterval
+sum_interval a b c d m =
     if nat_lt (b + d) (2 ^ 32) then interval (a + c) (b + d) m
     else if nat_le (2 ^ 32) (a + c) then interval (a + c - 2 ^ 32) (b + d - 2 ^ 32) m
-    else whole m
+    else all_multiples m
 
 -- the strided interval of the differences of a..=b and c..=d of step m, modulo 2 ^ 32
-unfoldable pub differences : ℕ → ℕ → ℕ → ℕ → ℕ → StridedInterval
-differences a b c d m =
+unfoldable pub difference_interval : ℕ → ℕ → ℕ → ℕ → ℕ → StridedInterval
+difference_interval a b c d m =
     if nat_le d a then interval (a - d) (b - c) m
     else if nat_lt b c then interval (a + 2 ^ 32 - d) (b + 2 ^ 32 - c) m
-    else whole m
+    else all_multiples m
 
 -- shifts of a..=b of step p by the six bits n: to the left by n if it is below 32, else to the
 -- right by 64 - n, filled with zeros
-unfoldable pub shifts : ℕ → ℕ → ℕ → ℕ → StridedInterval
-shifts a b p n =
+unfoldable pub logical_shift_interval : ℕ → ℕ → ℕ → ℕ → StridedInterval
+logical_shift_interval a b p n =
     if nat_lt n 32
-    then (if nat_lt (b * 2 ^ n) (2 ^ 32) then interval (a * 2 ^ n) (b * 2 ^ n) (min 2 (p + n)) else whole (min 2 (p + n)))
+    then (if nat_lt (b * 2 ^ n) (2 ^ 32) then interval (a * 2 ^ n) (b * 2 ^ n) (min 2 (p + n)) else all_multiples (min 2 (p + n)))
     else interval (a / 2 ^ (64 - n)) (b / 2 ^ (64 - n)) 0
 
 -- shifts of a..=b of step p by the six bits n: to the left by n if it is below 32, else to the
 -- right by 64 - n, filled with the sign bit
-unfoldable pub signed_shifts : ℕ → ℕ → ℕ → ℕ → StridedInterval
-signed_shifts a b p n = if nat_lt n 32 || nat_lt b (2 ^ 31) then shifts a b p n else whole 0
+unfoldable pub arithmetic_shift_interval : ℕ → ℕ → ℕ → ℕ → StridedInterval
+arithmetic_shift_interval a b p n = if nat_lt n 32 || nat_lt b (2 ^ 31) then logical_shift_interval a b p n else all_multiples 0
 
 -- a shift of strided intervals: it gives the interval of the results by the ends and the step of
 -- the words and by the six bits of the count
@@ -59,38 +59,38 @@ abbrev pub IntervalShift : Type 0
 IntervalShift = ℕ → ℕ → ℕ → ℕ → StridedInterval
 
 -- the interval of shifts by the count, if the count's value is one word; else all words
-abbrev pub shift_by_count : IntervalShift → ℕ → ℕ → ℕ → Val → StridedInterval
-shift_by_count shift a b p (Set (y ∷ [])) = shift a b p (y % 64)
-shift_by_count shift a b p (Set []) = whole 0
-shift_by_count shift a b p (Set (x ∷ y ∷ ys)) = whole 0
-shift_by_count shift a b p (Span lo last s) = whole 0
+abbrev pub shifted_interval : IntervalShift → ℕ → ℕ → ℕ → Val → StridedInterval
+shifted_interval shift a b p (Set (y ∷ [])) = shift a b p (y % 64)
+shifted_interval shift a b p (Set []) = all_multiples 0
+shifted_interval shift a b p (Set (x ∷ y ∷ ys)) = all_multiples 0
+shifted_interval shift a b p (Span lo last s) = all_multiples 0
 
 -- the strided interval that covers an operation's results, by the extents e and f of its operands;
 -- a shift goes by the count w
 unfoldable pub result_interval : Op → Extent → Extent → Val → StridedInterval
-result_interval Second e f w = whole 0
-result_interval Add e f w = sums e.least e.greatest f.least f.greatest (min e.step f.step)
-result_interval Sub e f w = differences e.least e.greatest f.least f.greatest (min e.step f.step)
+result_interval Second e f w = all_multiples 0
+result_interval Add e f w = sum_interval e.least e.greatest f.least f.greatest (min e.step f.step)
+result_interval Sub e f w = difference_interval e.least e.greatest f.least f.greatest (min e.step f.step)
 result_interval And e f w = interval 0 (min e.greatest f.greatest) (max e.step f.step)
-result_interval Nand e f w = whole 0
-result_interval Or e f w = whole 0
-result_interval Nor e f w = whole 0
-result_interval Xor e f w = whole 0
-result_interval Xnor e f w = whole 0
-result_interval Andn e f w = whole 0
-result_interval Orn e f w = whole 0
-result_interval Eq e f w = whole 0
-result_interval Ne e f w = whole 0
-result_interval Lt e f w = whole 0
-result_interval LtU e f w = whole 0
-result_interval Ge e f w = whole 0
-result_interval GeU e f w = whole 0
-result_interval Sh e f w = shift_by_count shifts e.least e.greatest e.step w
-result_interval Sha e f w = shift_by_count signed_shifts e.least e.greatest e.step w
+result_interval Nand e f w = all_multiples 0
+result_interval Or e f w = all_multiples 0
+result_interval Nor e f w = all_multiples 0
+result_interval Xor e f w = all_multiples 0
+result_interval Xnor e f w = all_multiples 0
+result_interval Andn e f w = all_multiples 0
+result_interval Orn e f w = all_multiples 0
+result_interval Eq e f w = all_multiples 0
+result_interval Ne e f w = all_multiples 0
+result_interval Lt e f w = all_multiples 0
+result_interval LtU e f w = all_multiples 0
+result_interval Ge e f w = all_multiples 0
+result_interval GeU e f w = all_multiples 0
+result_interval Sh e f w = shifted_interval logical_shift_interval e.least e.greatest e.step w
+result_interval Sha e f w = shifted_interval arithmetic_shift_interval e.least e.greatest e.step w
 
 -- the extent of an abstract value: its least and its greatest member, and its step
 abbrev pub extent_of_value : Val → Extent
-extent_of_value v = record { least = low v; greatest = high v; step = step v }
+extent_of_value v = record { least = least_member v; greatest = greatest_member v; step = step_of_value v }
 
 -- a word is in an interval that refinement by a condition keeps
 abbrev pub IsInInterval : Interval → ℕ → Type 0

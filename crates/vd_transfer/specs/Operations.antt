@@ -35,14 +35,14 @@ is_comparison Sha = false
 
 -- the words that cover the results of an operation on a Span: 0 and 1 for a comparison, else an
 -- interval by the extents
-abbrev pub results_by_extents_of : Bool → Op → Val → Val → List ℕ
-results_by_extents_of true op v w = 0 ∷ 1 ∷ []
-results_by_extents_of false op v w = interval_words (result_interval op (extent_of_value v) (extent_of_value w) w)
+abbrev pub comparison_or_interval_words : Bool → Op → Val → Val → List ℕ
+comparison_or_interval_words true op v w = 0 ∷ 1 ∷ []
+comparison_or_interval_words false op v w = interval_words (result_interval op (extent_of_value v) (extent_of_value w) w)
 
 -- the words that cover the results of an operation on a Span, by the extents of both operands
 unfoldable pub results_by_extents : Op → Val → Val → List ℕ
 results_by_extents Second v w = members w
-results_by_extents op v w = results_by_extents_of (is_comparison op) op v w
+results_by_extents op v w = comparison_or_interval_words (is_comparison op) op v w
 
 -- the results of an operation on all pairs of words of two lists
 unfoldable pub results_of_pairs : Op → List ℕ → List ℕ → List ℕ
@@ -51,14 +51,14 @@ results_of_pairs op (x ∷ xs) ys = map (alu_of op x) ys ++ results_of_pairs op 
 
 -- the words that the value of an operation covers: the results of all pairs for two Sets, else what
 -- the extents give
-unfoldable pub results : Op → Val → Val → List ℕ
-results op (Set xs) (Set ys) = results_of_pairs op xs ys
-results op (Set xs) (Span lo last s) = results_by_extents op (Set xs) (Span lo last s)
-results op (Span lo last s) w = results_by_extents op (Span lo last s) w
+unfoldable pub possible_results : Op → Val → Val → List ℕ
+possible_results op (Set xs) (Set ys) = results_of_pairs op xs ys
+possible_results op (Set xs) (Span lo last s) = results_by_extents op (Set xs) (Span lo last s)
+possible_results op (Span lo last s) w = results_by_extents op (Span lo last s) w
 
 -- the value of an operation: the least one that holds its results
-abbrev pub value_of : Limits → Op → Val → Val → Val
-value_of b op v w = cover b (results op v w)
+abbrev pub operation_value : Limits → Op → Val → Val → Val
+operation_value b op v w = cover b (possible_results op v w)
 
 -- each of these results of an operation, which were added lately, is a member of the operation's
 -- value

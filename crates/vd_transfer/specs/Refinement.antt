@@ -2,41 +2,41 @@
 use Rattle.std.specs.Prelude.{ℕ, Bool, not, if◌then◌else◌, List, filter, ◌≡◌, true}
 use Rattle.std.specs.List.{list_any}
 use Rattle.tc_isa.specs.declared.shapes.Cond.{Cond}
-use Rattle.tc_isa.specs.Arithmetic.{taken_of, signed_order_place}
+use Rattle.tc_isa.specs.Arithmetic.{taken_of, signed_rank}
 use Rattle.value_domain.specs.Sets.{Among, Within}
 use Rattle.vd_transfer.specs.declared.refinement.Relation.{Relation}
 use Rattle.vd_transfer.specs.Relations.{is_related, related_words}
 use Rattle.vd_transfer.specs.Signs.{signed_related_words}
 
 -- the condition of a refinement goes to a side for two words
-abbrev pub condition_goes_to_side : Cond → Bool → ℕ → ℕ → Bool
-condition_goes_to_side cond side x y = if side then taken_of cond x y else not (taken_of cond x y)
+abbrev pub is_side_taken : Cond → Bool → ℕ → ℕ → Bool
+is_side_taken cond side x y = if side then taken_of cond x y else not (taken_of cond x y)
 
 -- what refinement keeps of the left one of two values: the words of vs for which some word of ws
 -- makes the condition go to the side
-unfoldable pub kept_left : Cond → Bool → List ℕ → List ℕ → List ℕ
-kept_left cond side vs ws = filter (λ x. list_any (λ y. condition_goes_to_side cond side x y) ws) vs
+unfoldable pub kept_left_words : Cond → Bool → List ℕ → List ℕ → List ℕ
+kept_left_words cond side vs ws = filter (λ x. list_any (λ y. is_side_taken cond side x y) ws) vs
 
 -- what refinement keeps of the right one of two values: the words of ws for which some word of vs
 -- makes the condition go to the side
-unfoldable pub kept_right : Cond → Bool → List ℕ → List ℕ → List ℕ
-kept_right cond side vs ws = filter (λ y. list_any (λ x. condition_goes_to_side cond side x y) vs) ws
+unfoldable pub kept_right_words : Cond → Bool → List ℕ → List ℕ → List ℕ
+kept_right_words cond side vs ws = filter (λ y. list_any (λ x. is_side_taken cond side x y) vs) ws
 
 -- what refinement keeps of a value compared with itself: the words that make the condition go to
 -- the side if compared with themselves
-unfoldable pub kept_against_itself : Cond → Bool → List ℕ → List ℕ
-kept_against_itself cond side zs = filter (λ z. condition_goes_to_side cond side z z) zs
+unfoldable pub kept_self_compared_words : Cond → Bool → List ℕ → List ℕ
+kept_self_compared_words cond side zs = filter (λ z. is_side_taken cond side z z) zs
 
 -- Refinement keeps each word for which the relation holds, and it grows with both sets: by the
 -- unsigned order of words, and by the signed one.
-pub record IsSoundAndMonotone (rel : Relation) : Type 0 where
+pub record HasSoundMonotoneRefinement (rel : Relation) : Type 0 where
   pub sound : (vs ws : List ℕ) (x y : ℕ) → Among x vs → Among y ws → is_related rel x y ≡ true → Among x (related_words rel vs ws)
   pub monotone : (vs ws vs2 ws2 : List ℕ) → Within vs vs2 → Within ws ws2 → Within (related_words rel vs ws) (related_words rel vs2 ws2)
   pub signed_sound :
-      (vs ws : List ℕ) (x y : ℕ) → Among x vs → Among y ws → is_related rel (signed_order_place x) (signed_order_place y) ≡ true
+      (vs ws : List ℕ) (x y : ℕ) → Among x vs → Among y ws → is_related rel (signed_rank x) (signed_rank y) ≡ true
       → Among x (signed_related_words rel vs ws)
   pub signed_monotone : (vs ws vs2 ws2 : List ℕ) → Within vs vs2 → Within ws ws2 → Within (signed_related_words rel vs ws) (signed_related_words rel vs2 ws2)
 
 -- refinement by each relation is sound and monotone
 abbrev pub RefinementIsSoundAndMonotone : Type 0
-RefinementIsSoundAndMonotone = (rel : Relation) → IsSoundAndMonotone rel
+RefinementIsSoundAndMonotone = (rel : Relation) → HasSoundMonotoneRefinement rel

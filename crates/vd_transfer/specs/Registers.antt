@@ -12,8 +12,8 @@ use Rattle.tc_isa.specs.declared.shapes.Shape.{Shape}
 use Rattle.tc_isa.specs.declared.shapes.Shape.TheVariants.{Compute, Scaled, Load, Store, Branch, Mfcr, Mtcr}
 
 -- the place of a register among the 27 values of a state, if there is one
-unfoldable pub slot : ℕ → Option ℕ
-slot r =
+unfoldable pub register_slot : ℕ → Option ℕ
+register_slot r =
     if nat_lt r 16 then Some r
     else if nat_le 18 r && nat_le r 23 then Some (r - 2)
     else if r == 26 then Some 22
@@ -21,17 +21,17 @@ slot r =
     else None
 
 -- the fixed value of a register that a state has no place for: the plan's word, or any word for A11
-abbrev pub fixed_value_of : PlanData → ℕ → Val
-fixed_value_of p r = if r == 27 then any_val else word_val (global_of p r)
+abbrev pub fixed_register_value : PlanData → ℕ → Val
+fixed_register_value p r = if r == 27 then any_val else word_val (global_of p r)
 
 -- the value of a register by its place in a state, or its fixed value if it has no place
 abbrev pub register_value_at : PlanData → State → ℕ → Option ℕ → Val
 register_value_at p s r (Some i) = slice_index_or s.regs i any_val
-register_value_at p s r None = fixed_value_of p r
+register_value_at p s r None = fixed_register_value p r
 
 -- the abstract value of a register: the state's, or the fixed one
 abbrev pub reg_of : PlanData → State → ℕ → Val
-reg_of p s r = register_value_at p s r (slot r)
+reg_of p s r = register_value_at p s r (register_slot r)
 
 -- the abstract value of an instruction's operand: a register's, or the Set of the constant
 abbrev pub arg_of : PlanData → State → Arg → Val
@@ -39,13 +39,13 @@ arg_of p s (Reg r) = reg_of p s r
 arg_of p s (Word w) = word_val w
 
 -- the state with a value at a register's place, if it has one
-abbrev pub set_slot : State → Val → Option ℕ → State
-set_slot s v (Some i) = record s { regs = slice_set s.regs i v }
-set_slot s v None = s
+abbrev pub with_slot_value : State → Val → Option ℕ → State
+with_slot_value s v (Some i) = record s { regs = slice_set s.regs i v }
+with_slot_value s v None = s
 
 -- the state with a register's value, if it has one
-abbrev pub set_reg : State → ℕ → Val → State
-set_reg s r v = set_slot s v (slot r)
+abbrev pub with_reg_value : State → ℕ → Val → State
+with_reg_value s r v = with_slot_value s v (register_slot r)
 
 -- the register of a state with this number, 0 to 15 for D and 16 to 31 for A, is a lower one:
 -- D0..D7 or A2..A7
@@ -53,21 +53,21 @@ abbrev pub is_lower_register : ℕ → Bool
 is_lower_register r = nat_lt r 8 || (nat_le 18 r && nat_le r 23)
 
 -- the state after an instruction wrote a register
-abbrev pub write_reg : State → ℕ → Val → State
-write_reg s r v = record (set_reg s r v) { lower = s.lower && not (is_lower_register r) }
+abbrev pub state_after_reg_write : State → ℕ → Val → State
+state_after_reg_write s r v = record (with_reg_value s r v) { lower = s.lower && not (is_lower_register r) }
 
 -- the register is one that states have a value for: it is none of A0, A1, A8, A9 and A11
 abbrev pub RegisterHasValue : ℕ → Type 0
-RegisterHasValue r = IsSome (slot r)
+RegisterHasValue r = IsSome (register_slot r)
 
 -- the state with the register that an operand names set to a value; a constant sets none
-abbrev pub set_arg : State → Arg → Val → State
-set_arg s (Reg r) v = set_reg s r v
-set_arg s (Word w) v = s
+abbrev pub with_arg_value : State → Arg → Val → State
+with_arg_value s (Reg r) v = with_reg_value s r v
+with_arg_value s (Word w) v = s
 
 -- the place of an operand's value in a state
 abbrev pub arg_slot : Arg → Option ℕ
-arg_slot (Reg r) = slot r
+arg_slot (Reg r) = register_slot r
 arg_slot (Word w) = None
 
 -- if the access increases its base register, as `after` says, states have a value for it
@@ -88,9 +88,9 @@ WritesNoFixedRegister (Mtcr src number) = ⊥
 WritesNoFixedRegister _ = Unit {0}
 
 -- the operand is this register of a state
-abbrev pub is_operand_register : ℕ → Arg → Bool
-is_operand_register x (Reg y) = x == y
-is_operand_register x (Word w) = false
+abbrev pub is_same_register : ℕ → Arg → Bool
+is_same_register x (Reg y) = x == y
+is_same_register x (Word w) = false
 
 -- the value of the register A10, the stack pointer, in a state: it is at place 22
 abbrev pub a10_of : State → Val

@@ -7,13 +7,13 @@ use Rattle.vd_transfer.specs.declared.refinement.Relation.TheVariants.{Same, Oth
 use Rattle.std.specs.List.{list_any}
 
 -- a condition as a relation: the one that its operands are in on this side
-unfoldable pub relation_of : Cond → Bool → Relation
-relation_of cond.Eq side = if side then Same else Other
-relation_of cond.Ne side = if side then Other else Same
-relation_of cond.Lt side = if side then Less else AtLeast
-relation_of cond.LtU side = if side then Less else AtLeast
-relation_of cond.Ge side = if side then AtLeast else Less
-relation_of cond.GeU side = if side then AtLeast else Less
+unfoldable pub relation_on_side : Cond → Bool → Relation
+relation_on_side cond.Eq side = if side then Same else Other
+relation_on_side cond.Ne side = if side then Other else Same
+relation_on_side cond.Lt side = if side then Less else AtLeast
+relation_on_side cond.LtU side = if side then Less else AtLeast
+relation_on_side cond.Ge side = if side then AtLeast else Less
+relation_on_side cond.GeU side = if side then AtLeast else Less
 
 -- the relation with its operands exchanged
 unfoldable pub converse : Relation → Relation

@@ -11,20 +11,20 @@ use Rattle.value_domain.specs.declared.values.Val.{Val}
 use Rattle.value_domain.specs.declared.states.State.{State}
 use Rattle.value_domain.specs.Limits.{Limits, AreLimits}
 use Rattle.value_domain.specs.Values.{IsMember}
-use Rattle.value_domain.specs.State.{AreValues}
+use Rattle.value_domain.specs.State.{AreInLattice}
 use Rattle.vd_transfer.specs.Registers.{is_lower_register, WritesNoFixedRegister}
-use Rattle.vd_transfer.specs.EffectsOnStates.{transfer_of, address_of, state_after_lower_restore}
-use Rattle.vd_transfer.specs.EffectsOnWords.{ie_after, word_of, access_word, words_after, ccpn_after}
+use Rattle.vd_transfer.specs.EffectsOnStates.{transfer_of, address_of_access, state_after_lower_restore}
+use Rattle.vd_transfer.specs.EffectsOnWords.{ie_after, operand_word, accessed_address, words_after, ccpn_after}
 use Rattle.vd_transfer.specs.Branches.{refine_of}
 use Rattle.vd_transfer.specs.Holding.{Holds}
 
 -- what the laws of soundness suppose: limits, a plan, and a state whose 27 registers have values of
 -- the lattice
-pub record IsSoundSetting (b : Limits) (p : PlanData) (s : State) : Type 0 where
+pub record MeetSoundnessPremises (b : Limits) (p : PlanData) (s : State) : Type 0 where
   pub limits : AreLimits b
   pub plan : IsPlan p
   pub regs : length s.regs ≡ 27
-  pub values : AreValues b s.regs
+  pub values : AreInLattice b s.regs
 
 -- a premise of the law that effects are sound: the instruction stays in its frame, is followed by
 -- the next one, and restores nothing
@@ -39,15 +39,15 @@ IsStraightLine Rslcx = ⊥
 IsStraightLine _ = Unit {0}
 
 -- a load reads a member of the value that was loaded
-abbrev pub ReadsSoundly : Shape → ℕ → Val → Type 0
-ReadsSoundly (Load dst base offset size signed after) input loaded = IsMember input loaded
-ReadsSoundly _ input loaded = Unit {0}
+abbrev pub LoadedIsMember : Shape → ℕ → Val → Type 0
+LoadedIsMember (Load dst base offset size signed after) input loaded = IsMember input loaded
+LoadedIsMember _ input loaded = Unit {0}
 
 -- after an instruction that restores nothing, the changed state holds the words
 abbrev pub TransferIsSound : Type 0
 TransferIsSound =
-    (b : Limits) (p : PlanData) (shape : Shape) (s : State) (loaded : Val) (word : ℕ → ℕ) (ie : Bool) (ccpn input : ℕ) → IsSoundSetting b p s
-    → IsShape shape → WritesNoFixedRegister shape → IsStraightLine shape → input < 2 ^ 32 → ReadsSoundly shape input loaded → Holds p word ie ccpn s
+    (b : Limits) (p : PlanData) (shape : Shape) (s : State) (loaded : Val) (word : ℕ → ℕ) (ie : Bool) (ccpn input : ℕ) → MeetSoundnessPremises b p s
+    → IsShape shape → WritesNoFixedRegister shape → IsStraightLine shape → input < 2 ^ 32 → LoadedIsMember shape input loaded → Holds p word ie ccpn s
     → Holds p (words_after shape input word) (ie_after shape ie) (ccpn_after shape ccpn) (transfer_of b p shape s loaded)
 
 -- after a lower context was restored, the changed state holds the words, whatever the context had
@@ -60,17 +60,17 @@ RestoreIsSound =
 abbrev pub BranchIsSound : Type 0
 BranchIsSound =
     (b : Limits) (p : PlanData) (cond : Cond) (x : ℕ) (y : Arg) (by : ℕ) (lowers : Bool) (s : State) (side : Bool) (word : ℕ → ℕ) (ie : Bool) (ccpn : ℕ)
-    → IsSoundSetting b p s → IsShape (Branch cond x y by lowers) → WritesNoFixedRegister (Branch cond x y by lowers) → Holds p word ie ccpn s
-    → taken_of cond (word x) (word_of word y) ≡ side
+    → MeetSoundnessPremises b p s → IsShape (Branch cond x y by lowers) → WritesNoFixedRegister (Branch cond x y by lowers) → Holds p word ie ccpn s
+    → taken_of cond (word x) (operand_word word y) ≡ side
     → IsSomeAnd (refine_of b p (Branch cond x y by lowers) s side) (Holds p (words_after (Branch cond x y by lowers) 0 word) ie ccpn)
 
 -- the address of an access is one of its addresses
 pub record AddressIsSound : Type 0 where
   pub load :
       (b : Limits) (p : PlanData) (dst : ℕ) (base : Arg) (offset size : ℕ) (signed after : Bool) (s : State) (word : ℕ → ℕ) (ie : Bool) (ccpn : ℕ)
-      → IsSoundSetting b p s → IsArg base → offset < 2 ^ 32 → Holds p word ie ccpn s
-      → IsMember (access_word word base offset after) (address_of b p (Load dst base offset size signed after) s)
+      → MeetSoundnessPremises b p s → IsArg base → offset < 2 ^ 32 → Holds p word ie ccpn s
+      → IsMember (accessed_address word base offset after) (address_of_access b p (Load dst base offset size signed after) s)
   pub store :
       (b : Limits) (p : PlanData) (src : ℕ) (base : Arg) (offset size : ℕ) (after : Bool) (s : State) (word : ℕ → ℕ) (ie : Bool) (ccpn : ℕ)
-      → IsSoundSetting b p s → IsArg base → offset < 2 ^ 32 → Holds p word ie ccpn s
-      → IsMember (access_word word base offset after) (address_of b p (Store src base offset size after) s)
+      → MeetSoundnessPremises b p s → IsArg base → offset < 2 ^ 32 → Holds p word ie ccpn s
+      → IsMember (accessed_address word base offset after) (address_of_access b p (Store src base offset size after) s)

@@ -1,9 +1,9 @@
 // The addresses of loads and stores.
 ghost use Rattle.std.specs.Prelude.{◌≡◌};
-ghost use Rattle.value_domain.specs.Values.{IsValue};
-ghost use Rattle.value_domain.specs.State.{AreValues};
+ghost use Rattle.value_domain.specs.Values.{IsInLattice};
+ghost use Rattle.value_domain.specs.State.{AreInLattice};
 ghost use Rattle.tc_isa.specs.InBounds.{IsShape, IsArg};
-ghost use Rattle.vd_transfer.specs.EffectsOnStates.{address_of, access_of};
+ghost use Rattle.vd_transfer.specs.EffectsOnStates.{address_of_access, access_of};
 
 use crate::operands::{Operation, write_arg};
 use crate::operations::evaluate_operation;
@@ -36,12 +36,12 @@ impl Addressing {
 
 /// Overwrites an abstract value with the addresses that a load or store of this shape may access in
 /// a state.
-#[tactic(auto, unfolding(crate::specs::EffectsOnStates::address_of))]
+#[tactic(auto, unfolding(crate::specs::EffectsOnStates::address_of_access))]
 pub fn write_address_by_shape(b: &Bounds, plan: &Plan, shape: Shape, s: &State, out: &mut Val)
     requires shape { IsShape shape }
-    requires values { AreValues b.now s.now.regs }
-    ensures address { out.new ≡ address_of b.now plan.now shape s.now }
-    ensures value { IsValue b.now out.new }
+    requires values { AreInLattice b.now s.now.regs }
+    ensures address { out.new ≡ address_of_access b.now plan.now shape s.now }
+    ensures value { IsInLattice b.now out.new }
 {
     let _most_words = b.most_words();
     match shape {
@@ -66,9 +66,9 @@ pub fn write_address_by_shape(b: &Bounds, plan: &Plan, shape: Shape, s: &State, 
 #[inline(always)]
 pub fn address_by_shape(b: &Bounds, plan: &Plan, shape: Shape, s: &State) -> Val
     requires shape { IsShape shape }
-    requires values { AreValues b.now s.now.regs }
-    ensures address { result ≡ address_of b.now plan.now shape s.now }
-    ensures value { IsValue b.now result }
+    requires values { AreInLattice b.now s.now.regs }
+    ensures address { result ≡ address_of_access b.now plan.now shape s.now }
+    ensures value { IsInLattice b.now result }
 {
     let mut out = Val::any();
     write_address_by_shape(b, plan, shape, s, &mut out);
@@ -78,9 +78,9 @@ pub fn address_by_shape(b: &Bounds, plan: &Plan, shape: Shape, s: &State) -> Val
 /// Overwrites an abstract value with the addresses of a load or store by its base and offset.
 fn write_address_by_mode(b: &Bounds, plan: &Plan, s: &State, at: Addressing, out: &mut Val)
     requires base { IsArg at.base }
-    requires values { AreValues b.now s.now.regs }
+    requires values { AreInLattice b.now s.now.regs }
     ensures access { out.new ≡ access_of b.now plan.now s.now at.base at.offset at.after }
-    ensures value { IsValue b.now out.new }
+    ensures value { IsInLattice b.now out.new }
 {
     if at.after {
         write_arg(b, plan, s, at.base, out);

@@ -1,16 +1,16 @@
 // The change of a state on a side of a branch.
 ghost use Rattle.std.specs.Prelude.{◌≡◌, ◌<◌, ◌∷◌, [], Some, None};
-ghost use Rattle.value_domain.specs.Values.{IsValue, members, word_val};
-ghost use Rattle.value_domain.specs.State.{AreValues};
+ghost use Rattle.value_domain.specs.Values.{IsInLattice, members, word_val};
+ghost use Rattle.value_domain.specs.State.{AreInLattice};
 ghost use Rattle.tc_isa.specs.InBounds.{IsArg, IsShape};
 ghost use Rattle.tc_isa.specs.declared.shapes.Arg.TheVariants.{Word};
 ghost use Rattle.tc_isa.specs.declared.shapes.Op.TheVariants.{Sub};
-ghost use Rattle.vd_transfer.specs.Refinement.{condition_goes_to_side, kept_left, kept_right};
+ghost use Rattle.vd_transfer.specs.Refinement.{is_side_taken, kept_left_words, kept_right_words};
 ghost use Rattle.value_domain.specs.Meets.{cover_if_any};
-ghost use Rattle.vd_transfer.specs.Relations.{relation_of};
-ghost use Rattle.vd_transfer.specs.Branches.{goes_to_side_if_equal, refine_of, state_if_possible, side_with_register, side_with_operands, state_on_side, with_decremented_counter};
-ghost use Rattle.vd_transfer.specs.Registers.{reg_of, arg_of, write_reg};
-ghost use Rattle.vd_transfer.specs.Operations.{value_of};
+ghost use Rattle.vd_transfer.specs.Relations.{relation_on_side};
+ghost use Rattle.vd_transfer.specs.Branches.{is_side_taken_by_equal_words, refine_of, state_if_possible, state_with_narrowed_register, state_with_narrowed_operands, state_on_side, with_decremented_counter};
+ghost use Rattle.vd_transfer.specs.Registers.{reg_of, arg_of, state_after_reg_write};
+ghost use Rattle.vd_transfer.specs.Operations.{operation_value};
 ghost use Rattle.vd_transfer.specs.Changes.{state_after};
 
 use crate::change::{Change, set_third_write_slot};
@@ -33,9 +33,9 @@ pub(crate) struct Comparison {
 }
 
 /// Returns the relation that the operands of a branch are in if its condition goes to this side.
-#[tactic(auto, unfolding(crate::specs::Relations::relation_of))]
+#[tactic(auto, unfolding(crate::specs::Relations::relation_on_side))]
 pub(crate) fn relation_on_side(cond: Cond, side: bool) -> Relation
-    ensures { result ≡ relation_of cond side }
+    ensures { result ≡ relation_on_side cond side }
 {
     match cond {
         Cond::Eq => {
@@ -70,9 +70,9 @@ pub(crate) fn relation_on_side(cond: Cond, side: bool) -> Relation
 }
 
 /// Returns true if a branch that compares a word with itself goes to this side.
-#[tactic(auto, unfolding(crate::specs::Branches::goes_to_side_if_equal))]
+#[tactic(auto, unfolding(crate::specs::Branches::is_side_taken_by_equal_words))]
 fn is_side_taken_by_equal_words(cond: Cond, side: bool) -> bool
-    ensures { result ≡ goes_to_side_if_equal cond side }
+    ensures { result ≡ is_side_taken_by_equal_words cond side }
 {
     match cond {
         Cond::Eq | Cond::Ge | Cond::GeU => side,
@@ -82,7 +82,7 @@ fn is_side_taken_by_equal_words(cond: Cond, side: bool) -> bool
 
 /// Returns true if a branch that compares the words `x` and `y` goes to this side.
 fn is_side_taken(cond: Cond, side: bool, x: u32, y: u32) -> bool
-    ensures { result ≡ condition_goes_to_side cond side x y }
+    ensures { result ≡ is_side_taken cond side x y }
 {
     if side {
         taken(cond, x, y)
@@ -103,13 +103,13 @@ pub(crate) fn narrow_left_register(
     w: &Val,
     c: &mut Change,
 ) -> bool
-    requires values { AreValues b.now s.now.regs }
-    requires left { IsValue b.now v.now }
-    requires right { IsValue b.now w.now }
+    requires values { AreInLattice b.now s.now.regs }
+    requires left { IsInLattice b.now v.now }
+    requires right { IsInLattice b.now w.now }
     ensures one { state_if_possible result (state_after s.now c.new)
-        ≡ side_with_register s.now test.x
-        (cover_if_any b.now (kept_left test.cond test.side (members v.now) (members w.now))) }
-    ensures values { AreValues b.now (state_after s.now c.new).regs }
+        ≡ state_with_narrowed_register s.now test.x
+        (cover_if_any b.now (kept_left_words test.cond test.side (members v.now) (members w.now))) }
+    ensures values { AreInLattice b.now (state_after s.now c.new).regs }
     ensures free { (c.new.second.at ≡ None) × (c.new.third.at ≡ None) }
 {
     c.set_to_identity(s);
@@ -132,10 +132,10 @@ pub fn write_branch_change(
     c: &mut Change,
 ) -> bool
     requires shape { IsShape shape }
-    requires values { AreValues b.now s.now.regs }
+    requires values { AreInLattice b.now s.now.regs }
     ensures refine { state_if_possible result (state_after s.now c.new)
         ≡ refine_of b.now plan.now shape s.now side }
-    ensures values { AreValues b.now (state_after s.now c.new).regs }
+    ensures values { AreInLattice b.now (state_after s.now c.new).regs }
 {
     match shape {
         Shape::Branch {
@@ -163,11 +163,11 @@ fn write_comparison_change(
     c: &mut Change,
 ) -> bool
     requires operands { (test.x < 32) × IsArg test.y }
-    requires values { AreValues b.now s.now.regs }
+    requires values { AreInLattice b.now s.now.regs }
     ensures refine { state_if_possible result (state_after s.now c.new)
         ≡ with_decremented_counter b.now plan.now test.x lowers
         (state_on_side b.now plan.now test.cond test.x test.y s.now test.side) }
-    ensures values { AreValues b.now (state_after s.now c.new).regs }
+    ensures values { AreInLattice b.now (state_after s.now c.new).regs }
 {
     if !narrow_operands(b, plan, test, s, c) {
         return false;
@@ -180,10 +180,10 @@ fn write_comparison_change(
 /// side isn't possible. Two constants stay as they are.
 fn narrow_operands(b: &Bounds, plan: &Plan, test: Comparison, s: &State, c: &mut Change) -> bool
     requires operands { (test.x < 32) × IsArg test.y }
-    requires values { AreValues b.now s.now.regs }
+    requires values { AreInLattice b.now s.now.regs }
     ensures refined { state_if_possible result (state_after s.now c.new)
         ≡ state_on_side b.now plan.now test.cond test.x test.y s.now test.side }
-    ensures values { AreValues b.now (state_after s.now c.new).regs }
+    ensures values { AreInLattice b.now (state_after s.now c.new).regs }
     ensures free { c.new.third.at ≡ None }
 {
     let _most_words = b.most_words();
@@ -208,11 +208,11 @@ fn narrow_operands(b: &Bounds, plan: &Plan, test: Comparison, s: &State, c: &mut
 /// one.
 fn decrement_if_loop(b: &Bounds, plan: &Plan, x: u8, lowers: bool, s: &State, c: &mut Change)
     requires register { x < 32 }
-    requires values { AreValues b.now (state_after s.now c.old).regs }
+    requires values { AreInLattice b.now (state_after s.now c.old).regs }
     requires free { c.old.third.at ≡ None }
     ensures lowered { Some (state_after s.now c.new)
         ≡ with_decremented_counter b.now plan.now x lowers (Some (state_after s.now c.old)) }
-    ensures values { AreValues b.now (state_after s.now c.new).regs }
+    ensures values { AreInLattice b.now (state_after s.now c.new).regs }
 {
     if lowers {
         decrement_register(b, plan, x, s, c);
@@ -229,15 +229,15 @@ fn narrow_by_values(
     c: &mut Change,
 ) -> bool
     requires operands { (test.x < 32) × IsArg test.y }
-    requires values { AreValues b.now s.now.regs }
+    requires values { AreInLattice b.now s.now.regs }
     ensures two { state_if_possible result (state_after s.now c.new)
-        ≡ side_with_operands s.now test.x test.y
-        (cover_if_any b.now (kept_left test.cond test.side (members (reg_of plan.now s.now test.x))
+        ≡ state_with_narrowed_operands s.now test.x test.y
+        (cover_if_any b.now (kept_left_words test.cond test.side (members (reg_of plan.now s.now test.x))
         (members (arg_of plan.now s.now test.y))))
-        (cover_if_any b.now (kept_right test.cond test.side
+        (cover_if_any b.now (kept_right_words test.cond test.side
         (members (reg_of plan.now s.now test.x))
         (members (arg_of plan.now s.now test.y)))) }
-    ensures values { AreValues b.now (state_after s.now c.new).regs }
+    ensures values { AreInLattice b.now (state_after s.now c.new).regs }
     ensures free { c.new.third.at ≡ None }
 {
     match reg_in_state(b, plan, s, test.x) {
@@ -262,13 +262,13 @@ fn narrow_against_constant(
     z: u32,
     c: &mut Change,
 ) -> bool
-    requires values { AreValues b.now s.now.regs }
-    requires left { IsValue b.now v.now }
+    requires values { AreInLattice b.now s.now.regs }
+    requires left { IsInLattice b.now v.now }
     ensures two { state_if_possible result (state_after s.now c.new)
-        ≡ side_with_operands s.now test.x (Word z)
-        (cover_if_any b.now (kept_left test.cond test.side (members v.now) (z ∷ [])))
-        (cover_if_any b.now (kept_right test.cond test.side (members v.now) (z ∷ []))) }
-    ensures values { AreValues b.now (state_after s.now c.new).regs }
+        ≡ state_with_narrowed_operands s.now test.x (Word z)
+        (cover_if_any b.now (kept_left_words test.cond test.side (members v.now) (z ∷ [])))
+        (cover_if_any b.now (kept_right_words test.cond test.side (members v.now) (z ∷ []))) }
+    ensures values { AreInLattice b.now (state_after s.now c.new).regs }
     ensures free { c.new.third.at ≡ None }
 {
     c.set_to_identity(s);
@@ -291,15 +291,15 @@ fn narrow_built_operands(
     c: &mut Change,
 ) -> bool
     requires operands { (test.x < 32) × IsArg test.y }
-    requires values { AreValues b.now s.now.regs }
+    requires values { AreInLattice b.now s.now.regs }
     ensures two { state_if_possible result (state_after s.now c.new)
-        ≡ side_with_operands s.now test.x test.y
-        (cover_if_any b.now (kept_left test.cond test.side (members (reg_of plan.now s.now test.x))
+        ≡ state_with_narrowed_operands s.now test.x test.y
+        (cover_if_any b.now (kept_left_words test.cond test.side (members (reg_of plan.now s.now test.x))
         (members (arg_of plan.now s.now test.y))))
-        (cover_if_any b.now (kept_right test.cond test.side
+        (cover_if_any b.now (kept_right_words test.cond test.side
         (members (reg_of plan.now s.now test.x))
         (members (arg_of plan.now s.now test.y)))) }
-    ensures values { AreValues b.now (state_after s.now c.new).regs }
+    ensures values { AreInLattice b.now (state_after s.now c.new).regs }
     ensures free { c.new.third.at ≡ None }
 {
     let v = reg_in_lattice(b, plan, s, test.x);
@@ -310,12 +310,12 @@ fn narrow_built_operands(
 #[inline(never)]
 fn decrement_register(b: &Bounds, plan: &Plan, x: u8, s: &State, c: &mut Change)
     requires register { x < 32 }
-    requires values { AreValues b.now (state_after s.now c.old).regs }
+    requires values { AreInLattice b.now (state_after s.now c.old).regs }
     requires free { c.old.third.at ≡ None }
     ensures lowered { state_after s.now c.new
-        ≡ write_reg (state_after s.now c.old) x
-        (value_of b.now Sub (reg_of plan.now (state_after s.now c.old) x) (word_val 1)) }
-    ensures values { AreValues b.now (state_after s.now c.new).regs }
+        ≡ state_after_reg_write (state_after s.now c.old) x
+        (operation_value b.now Sub (reg_of plan.now (state_after s.now c.old) x) (word_val 1)) }
+    ensures values { AreInLattice b.now (state_after s.now c.new).regs }
 {
     let v = changed_reg(b, plan, s, c, x);
     write_operation_value(b, Op::Sub, &v, &constant_value(b, 1), &mut c.third.value);

@@ -1,9 +1,9 @@
 // States built whole from changes, and the addresses of accesses.
 ghost use Rattle.std.specs.Prelude.{◌≡◌, IfSome};
-ghost use Rattle.value_domain.specs.Values.{IsValue};
-ghost use Rattle.value_domain.specs.State.{AreValues};
+ghost use Rattle.value_domain.specs.Values.{IsInLattice};
+ghost use Rattle.value_domain.specs.State.{AreInLattice};
 ghost use Rattle.tc_isa.specs.Meanings.{shape_of};
-ghost use Rattle.vd_transfer.specs.EffectsOnStates.{EffectHasRoom, address_of, transfer_of};
+ghost use Rattle.vd_transfer.specs.EffectsOnStates.{LocalsFitInstruction, address_of_access, transfer_of};
 ghost use Rattle.vd_transfer.specs.Branches.{refine_of};
 ghost use Rattle.vd_transfer.specs.Changes.{state_after};
 
@@ -18,9 +18,9 @@ use value_domain::{Bounds, State, Val, copy_locals};
 
 /// Returns the addresses that a load or a store may access in a state, as one abstract value.
 pub fn address(b: &Bounds, plan: &Plan, inst: &Inst, s: &State) -> Val
-    requires { AreValues b.now s.now.regs }
-    ensures address { result ≡ address_of b.now plan.now (shape_of inst.now) s.now }
-    ensures value { IsValue b.now result }
+    requires { AreInLattice b.now s.now.regs }
+    ensures address { result ≡ address_of_access b.now plan.now (shape_of inst.now) s.now }
+    ensures value { IsInLattice b.now result }
 {
     address_by_shape(b, plan, shape(inst), s)
 }
@@ -28,9 +28,9 @@ pub fn address(b: &Bounds, plan: &Plan, inst: &Inst, s: &State) -> Val
 /// Builds the whole state after a branch, on one of the branch's sides, or returns `None` if that
 /// side isn't possible.
 pub fn refine(b: &Bounds, plan: &Plan, inst: &Inst, s: &State, side: bool) -> Option<State>
-    requires { AreValues b.now s.now.regs }
+    requires { AreInLattice b.now s.now.regs }
     ensures refine { result ≡ refine_of b.now plan.now (shape_of inst.now) s.now side }
-    ensures values { IfSome result (λ t. AreValues b.now t.regs) }
+    ensures values { IfSome result (λ t. AreInLattice b.now t.regs) }
 {
     let mut c = identity_change(s);
     if write_branch_change(b, plan, shape(inst), s, side, &mut c) {
@@ -43,11 +43,11 @@ pub fn refine(b: &Bounds, plan: &Plan, inst: &Inst, s: &State, side: bool) -> Op
 /// Builds the whole state after an instruction that stays in its frame and isn't a branch or a
 /// jump; only a load uses `loaded`. A local that it saves has room, one that it restores is there.
 pub fn transfer(b: &Bounds, plan: &Plan, inst: &Inst, s: &State, loaded: &Val) -> State
-    requires values { AreValues b.now s.now.regs }
-    requires loaded { IsValue b.now loaded.now }
-    requires room { EffectHasRoom b.now (shape_of inst.now) s.now }
+    requires values { AreInLattice b.now s.now.regs }
+    requires loaded { IsInLattice b.now loaded.now }
+    requires room { LocalsFitInstruction b.now (shape_of inst.now) s.now }
     ensures transfer { result ≡ transfer_of b.now plan.now (shape_of inst.now) s.now loaded.now }
-    ensures values { AreValues b.now result.regs }
+    ensures values { AreInLattice b.now result.regs }
 {
     let mut c = identity_change(s);
     c.third.value = loaded.copy();

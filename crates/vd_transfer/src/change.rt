@@ -1,9 +1,9 @@
 // Changes: what an instruction changes of a state.
 ghost use Rattle.std.specs.Prelude.{◌≡◌, ◌&&◌, not, None};
-ghost use Rattle.value_domain.specs.Values.{IsValue};
-ghost use Rattle.value_domain.specs.State.{AreValues};
-ghost use Rattle.vd_transfer.specs.Registers.{slot, is_lower_register, write_reg};
-ghost use Rattle.vd_transfer.specs.Changes.{state_after, no_put, put_of_register, identity_change_of};
+ghost use Rattle.value_domain.specs.Values.{IsInLattice};
+ghost use Rattle.value_domain.specs.State.{AreInLattice};
+ghost use Rattle.vd_transfer.specs.Registers.{register_slot, is_lower_register, state_after_reg_write};
+ghost use Rattle.vd_transfer.specs.Changes.{state_after, no_write, register_write, identity_change_of};
 
 use crate::registers::register_slot;
 use arrayvec::ArrayVec;
@@ -44,7 +44,7 @@ pub struct Change {
 /// Returns a put of a change that changes nothing: a value for no place of a state.
 #[inline(always)]
 pub(crate) fn no_write() -> RegisterWrite
-    ensures { result ≡ no_put }
+    ensures { result ≡ no_write }
 {
     RegisterWrite {
         at: None,
@@ -56,7 +56,7 @@ pub(crate) fn no_write() -> RegisterWrite
 /// place for the register, nothing changes.
 #[inline(always)]
 pub fn register_write(r: u8, v: Val) -> RegisterWrite
-    ensures { result ≡ put_of_register r v }
+    ensures { result ≡ register_write r v }
 {
     RegisterWrite {
         at: register_slot(r),
@@ -84,11 +84,11 @@ pub fn identity_change(s: &State) -> Change
 
 impl Change {
     ghost use Rattle.std.specs.Prelude.{◌≡◌};
-    ghost use Rattle.vd_transfer.specs.Changes.{identity_change_over, state_after};
+    ghost use Rattle.vd_transfer.specs.Changes.{identity_keeping_values, state_after};
 
     /// Overwrites a change with the identity, which keeps a whole abstract state.
     pub fn set_to_identity(&mut self, s: &State)
-        ensures kept { self.new ≡ identity_change_over self.old s.now }
+        ensures kept { self.new ≡ identity_keeping_values self.old s.now }
         ensures same { state_after s.now self.new ≡ s.now }
     {
         self.base = Base::Same;
@@ -106,7 +106,7 @@ impl Change {
 /// clears the mark that those are the entry's.
 #[inline(always)]
 pub(crate) fn set_write_slot(write: &mut RegisterWrite, mark: &mut bool, r: u8)
-    ensures slot { write.new ≡ record write.old { at = slot r } }
+    ensures slot { write.new ≡ record write.old { at = register_slot r } }
     ensures mark { mark.new ≡ (mark.old && not (is_lower_register r)) }
 {
     let lower = r < 8 || 18 <= r && r <= 23;
@@ -118,12 +118,12 @@ pub(crate) fn set_write_slot(write: &mut RegisterWrite, mark: &mut bool, r: u8)
 /// already.
 #[inline(always)]
 pub(crate) fn set_third_write_slot(b: &Bounds, s: &State, c: &mut Change, r: u8)
-    requires values { AreValues b.now (state_after s.now c.old).regs }
+    requires values { AreInLattice b.now (state_after s.now c.old).regs }
     requires free { c.old.third.at ≡ None }
-    requires value { IsValue b.now c.old.third.value }
+    requires value { IsInLattice b.now c.old.third.value }
     ensures written { state_after s.now c.new
-        ≡ write_reg (state_after s.now c.old) r c.old.third.value }
-    ensures values { AreValues b.now (state_after s.now c.new).regs }
+        ≡ state_after_reg_write (state_after s.now c.old) r c.old.third.value }
+    ensures values { AreInLattice b.now (state_after s.now c.new).regs }
 {
     set_write_slot(&mut c.third, &mut c.lower, r);
 }

@@ -1,9 +1,9 @@
 // The values of a changed state, which is never built.
 ghost use Rattle.std.specs.Prelude.{◌≡◌, ◌<◌, ◌↔◌, IsTrue, Some, slice_index_or};
-ghost use Rattle.value_domain.specs.Values.{IsValue, any_val};
-ghost use Rattle.value_domain.specs.State.{AreValues};
+ghost use Rattle.value_domain.specs.Values.{IsInLattice, any_val};
+ghost use Rattle.value_domain.specs.State.{AreInLattice};
 ghost use Rattle.vd_transfer.specs.Registers.{reg_of};
-ghost use Rattle.vd_transfer.specs.Changes.{base_of, state_after};
+ghost use Rattle.vd_transfer.specs.Changes.{base_values, state_after};
 
 use crate::change::{Base, Change, RegisterWrite};
 use crate::registers::{fixed_register_value, is_lower_slot, register_slot};
@@ -34,9 +34,9 @@ pub fn changed_value<'a>(s: &'a State, c: &'a Change, any: &'a Val, i: usize) ->
 /// Returns the value of a register after a change of a state, which isn't built.
 pub(crate) fn changed_reg(b: &Bounds, plan: &Plan, s: &State, c: &Change, r: u8) -> Val
     requires register { r < 32 }
-    requires values { AreValues b.now (state_after s.now c.now).regs }
+    requires values { AreInLattice b.now (state_after s.now c.now).regs }
     ensures reg { result ≡ reg_of plan.now (state_after s.now c.now) r }
-    ensures value { IsValue b.now result }
+    ensures value { IsInLattice b.now result }
 {
     let _most_words = b.most_words();
     let _globals = &plan.globals;
@@ -63,7 +63,7 @@ fn is_write_to_slot(write: &RegisterWrite, i: usize) -> bool
 fn base_value_in_slot<'a>(s: &'a State, base: Base, any: &'a Val, i: usize) -> &'a Val
     requires place { i < 27 }
     requires any { any.now ≡ any_val }
-    ensures { result.now ≡ slice_index_or (base_of base s.now.regs) i any_val }
+    ensures { result.now ≡ slice_index_or (base_values base s.now.regs) i any_val }
 {
     let _regs = &s.regs[..];
     match base {

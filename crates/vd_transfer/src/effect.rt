@@ -1,12 +1,12 @@
 // The change of a state by each instruction.
 ghost use Rattle.std.specs.Prelude.{◌≡◌, ◌<◌, ◌≤◌, length, true, None};
-ghost use Rattle.value_domain.specs.Values.{IsValue, any_val, word_val};
-ghost use Rattle.value_domain.specs.State.{AreValues};
+ghost use Rattle.value_domain.specs.Values.{IsInLattice, any_val, word_val};
+ghost use Rattle.value_domain.specs.State.{AreInLattice};
 ghost use Rattle.tc_isa.specs.InBounds.{IsArg, IsShape};
 ghost use Rattle.tc_isa.specs.declared.shapes.Op.TheVariants.{Add, Sh};
-ghost use Rattle.vd_transfer.specs.Operations.{value_of};
-ghost use Rattle.vd_transfer.specs.Registers.{reg_of, arg_of, write_reg};
-ghost use Rattle.vd_transfer.specs.EffectsOnStates.{state_with_increased_base, state_after_lower_save, state_after_lower_restore, EffectHasRoom, transfer_of, EffectLoadsValue};
+ghost use Rattle.vd_transfer.specs.Operations.{operation_value};
+ghost use Rattle.vd_transfer.specs.Registers.{reg_of, arg_of, state_after_reg_write};
+ghost use Rattle.vd_transfer.specs.EffectsOnStates.{state_with_increased_base, state_after_lower_save, state_after_lower_restore, LocalsFitInstruction, transfer_of, LoadedIsInLattice};
 ghost use Rattle.vd_transfer.specs.Changes.{state_after};
 
 use crate::access::Addressing;
@@ -39,11 +39,11 @@ pub(crate) fn write_operation_change(
     c: &mut Change,
 )
     requires operands { IsArg of.x × IsArg of.y }
-    requires values { AreValues b.now s.now.regs }
+    requires values { AreInLattice b.now s.now.regs }
     ensures write { state_after s.now c.new
-        ≡ write_reg s.now dst
-        (value_of b.now of.op (arg_of plan.now s.now of.x) (arg_of plan.now s.now of.y)) }
-    ensures values { AreValues b.now (state_after s.now c.new).regs }
+        ≡ state_after_reg_write s.now dst
+        (operation_value b.now of.op (arg_of plan.now s.now of.x) (arg_of plan.now s.now of.y)) }
+    ensures values { AreInLattice b.now (state_after s.now c.new).regs }
     ensures third { c.new.third ≡ record c.old.third { at = None } }
 {
     c.set_to_identity(s);
@@ -63,12 +63,12 @@ pub(crate) fn write_scaled_address_change(
     c: &mut Change,
 )
     requires registers { (at.base < 32) × (at.index < 32) }
-    requires values { AreValues b.now s.now.regs }
+    requires values { AreInLattice b.now s.now.regs }
     ensures write { state_after s.now c.new
-        ≡ write_reg s.now dst
-        (value_of b.now Add (reg_of plan.now s.now at.base)
-        (value_of b.now Sh (reg_of plan.now s.now at.index) (word_val at.n))) }
-    ensures values { AreValues b.now (state_after s.now c.new).regs }
+        ≡ state_after_reg_write s.now dst
+        (operation_value b.now Add (reg_of plan.now s.now at.base)
+        (operation_value b.now Sh (reg_of plan.now s.now at.index) (word_val at.n))) }
+    ensures values { AreInLattice b.now (state_after s.now c.new).regs }
 {
     let by = Operation {
         op: Op::Sh,
@@ -91,10 +91,10 @@ pub(crate) fn write_scaled_address_change(
 /// increased by the offset, if the access does that.
 pub(crate) fn write_base_change(b: &Bounds, plan: &Plan, s: &State, at: Addressing, c: &mut Change)
     requires base { IsArg at.base }
-    requires values { AreValues b.now s.now.regs }
+    requires values { AreInLattice b.now s.now.regs }
     ensures base { state_after s.now c.new
         ≡ state_with_increased_base b.now plan.now s.now at.base at.offset at.after }
-    ensures values { AreValues b.now (state_after s.now c.new).regs }
+    ensures values { AreInLattice b.now (state_after s.now c.new).regs }
     ensures third { c.new.third ≡ record c.old.third { at = None } }
 {
     if !at.after {
@@ -123,12 +123,12 @@ pub(crate) fn write_load_change(
     c: &mut Change,
 )
     requires base { IsArg at.base }
-    requires values { AreValues b.now s.now.regs }
-    requires loaded { IsValue b.now c.old.third.value }
+    requires values { AreInLattice b.now s.now.regs }
+    requires loaded { IsInLattice b.now c.old.third.value }
     ensures write { state_after s.now c.new
-        ≡ write_reg (state_with_increased_base b.now plan.now s.now at.base at.offset at.after) dst
+        ≡ state_after_reg_write (state_with_increased_base b.now plan.now s.now at.base at.offset at.after) dst
         c.old.third.value }
-    ensures values { AreValues b.now (state_after s.now c.new).regs }
+    ensures values { AreInLattice b.now (state_after s.now c.new).regs }
 {
     write_base_change(b, plan, s, at, c);
     set_third_write_slot(b, s, c, dst);
@@ -137,9 +137,9 @@ pub(crate) fn write_load_change(
 /// Writes the change of a state by an instruction whose result is unknown, as MFCR's: the register
 /// may have any word.
 pub(crate) fn write_unknown_result_change(b: &Bounds, s: &State, dst: u8, c: &mut Change)
-    requires { AreValues b.now s.now.regs }
-    ensures write { state_after s.now c.new ≡ write_reg s.now dst any_val }
-    ensures values { AreValues b.now (state_after s.now c.new).regs }
+    requires { AreInLattice b.now s.now.regs }
+    ensures write { state_after s.now c.new ≡ state_after_reg_write s.now dst any_val }
+    ensures values { AreInLattice b.now (state_after s.now c.new).regs }
 {
     let _most_words = b.most_words();
     c.set_to_identity(s);
@@ -172,9 +172,9 @@ pub(crate) fn write_bisr_change(s: &State, number: u8, c: &mut Change)
 /// registers become unknown.
 pub(crate) fn write_lower_restore_change(b: &Bounds, s: &State, c: &mut Change)
     requires some { 1 ≤ length s.now.locals.items }
-    requires values { AreValues b.now s.now.regs }
+    requires values { AreInLattice b.now s.now.regs }
     ensures restored { state_after s.now c.new ≡ state_after_lower_restore s.now }
-    ensures values { AreValues b.now (state_after s.now c.new).regs }
+    ensures values { AreInLattice b.now (state_after s.now c.new).regs }
 {
     let _most_words = b.most_words();
     c.set_to_identity(s);
@@ -200,12 +200,12 @@ pub(crate) fn write_ie_change(s: &State, ie: bool, c: &mut Change)
 #[tactic(auto, unfolding(crate::specs::EffectsOnStates::transfer_of))]
 pub fn write_instruction_change(b: &Bounds, plan: &Plan, shape: Shape, s: &State, c: &mut Change)
     requires shape { IsShape shape }
-    requires values { AreValues b.now s.now.regs }
-    requires loaded { EffectLoadsValue b.now shape c.old.third.value }
-    requires room { EffectHasRoom b.now shape s.now }
+    requires values { AreInLattice b.now s.now.regs }
+    requires loaded { LoadedIsInLattice b.now shape c.old.third.value }
+    requires room { LocalsFitInstruction b.now shape s.now }
     ensures change { state_after s.now c.new
         ≡ transfer_of b.now plan.now shape s.now c.old.third.value }
-    ensures values { AreValues b.now (state_after s.now c.new).regs }
+    ensures values { AreInLattice b.now (state_after s.now c.new).regs }
 {
     let _most_locals = b.most_locals();
     match shape {

@@ -1,9 +1,9 @@
 // Operands: registers of a state, or constants. An operation with its operands.
 ghost use Rattle.std.specs.Prelude.{◌≡◌, ◌<◌, IfSome};
-ghost use Rattle.value_domain.specs.Values.{IsValue, word_val};
-ghost use Rattle.value_domain.specs.State.{AreValues};
+ghost use Rattle.value_domain.specs.Values.{IsInLattice, word_val};
+ghost use Rattle.value_domain.specs.State.{AreInLattice};
 ghost use Rattle.tc_isa.specs.InBounds.{IsArg};
-ghost use Rattle.vd_transfer.specs.Registers.{arg_of, arg_slot, is_operand_register};
+ghost use Rattle.vd_transfer.specs.Registers.{arg_of, arg_slot, is_same_register};
 ghost use Rattle.tc_isa.specs.declared.shapes.Arg.TheVariants.{Word};
 
 use crate::operations::write_operation_value;
@@ -36,9 +36,9 @@ pub(crate) fn operand_slot(a: Arg) -> Option<usize>
 #[inline(always)]
 pub(crate) fn arg_in_state<'a>(b: &Bounds, plan: &Plan, s: &'a State, a: Arg) -> Option<&'a Val>
     requires operand { IsArg a }
-    requires values { AreValues b.now s.now.regs }
+    requires values { AreInLattice b.now s.now.regs }
     ensures arg { IfSome result (λ v. v.now ≡ arg_of plan.now s.now a) }
-    ensures value { IfSome result (λ v. IsValue b.now v.now) }
+    ensures value { IfSome result (λ v. IsInLattice b.now v.now) }
 {
     match a {
         Arg::Reg(r) => reg_in_state(b, plan, s, r),
@@ -51,9 +51,9 @@ pub(crate) fn arg_in_state<'a>(b: &Bounds, plan: &Plan, s: &'a State, a: Arg) ->
 #[inline(always)]
 pub fn arg_word(b: &Bounds, plan: &Plan, s: &State, a: Arg) -> Option<u32>
     requires operand { IsArg a }
-    requires values { AreValues b.now s.now.regs }
+    requires values { AreInLattice b.now s.now.regs }
     ensures arg { IfSome result (λ w. arg_of plan.now s.now a ≡ word_val w) }
-    ensures value { IfSome result (λ w. IsValue b.now (word_val w)) }
+    ensures value { IfSome result (λ w. IsInLattice b.now (word_val w)) }
 {
     let _most_words = b.most_words();
     match a {
@@ -69,7 +69,7 @@ pub fn arg_word(b: &Bounds, plan: &Plan, s: &State, a: Arg) -> Option<u32>
 #[inline(always)]
 pub(crate) fn constant_value(b: &Bounds, w: u32) -> Val
     ensures word { result ≡ word_val w }
-    ensures value { IsValue b.now result }
+    ensures value { IsInLattice b.now result }
 {
     let _most_words = b.most_words();
     Val::one(w)
@@ -80,9 +80,9 @@ pub(crate) fn constant_value(b: &Bounds, w: u32) -> Val
 #[inline(never)]
 pub(crate) fn build_arg(b: &Bounds, plan: &Plan, s: &State, a: Arg) -> Val
     requires operand { IsArg a }
-    requires values { AreValues b.now s.now.regs }
+    requires values { AreInLattice b.now s.now.regs }
     ensures arg { result ≡ arg_of plan.now s.now a }
-    ensures value { IsValue b.now result }
+    ensures value { IsInLattice b.now result }
 {
     match a {
         Arg::Reg(r) => reg_in_lattice(b, plan, s, r),
@@ -93,9 +93,9 @@ pub(crate) fn build_arg(b: &Bounds, plan: &Plan, s: &State, a: Arg) -> Val
 /// Overwrites an abstract value with that of an instruction's operand.
 pub(crate) fn write_arg(b: &Bounds, plan: &Plan, s: &State, a: Arg, out: &mut Val)
     requires operand { IsArg a }
-    requires values { AreValues b.now s.now.regs }
+    requires values { AreInLattice b.now s.now.regs }
     ensures arg { out.new ≡ arg_of plan.now s.now a }
-    ensures value { IsValue b.now out.new }
+    ensures value { IsInLattice b.now out.new }
 {
     match arg_in_state(b, plan, s, a) {
         Some(v) => copy_to(v, out),
@@ -105,7 +105,7 @@ pub(crate) fn write_arg(b: &Bounds, plan: &Plan, s: &State, a: Arg, out: &mut Va
 
 /// Returns true if the right operand of a comparison is the left register itself.
 pub(crate) fn is_same_register(x: u8, y: Arg) -> bool
-    ensures { result ≡ is_operand_register x y }
+    ensures { result ≡ is_same_register x y }
 {
     match y {
         Arg::Reg(r) => x == r,
@@ -117,7 +117,7 @@ pub(crate) fn is_same_register(x: u8, y: Arg) -> bool
 #[inline(always)]
 pub(crate) fn write_constant(b: &Bounds, x: u32, out: &mut Val)
     ensures word { out.new ≡ word_val x }
-    ensures value { IsValue b.now out.new }
+    ensures value { IsInLattice b.now out.new }
 {
     let _most_words = b.most_words();
     set_word(out, x);
@@ -128,9 +128,9 @@ pub(crate) fn write_constant(b: &Bounds, x: u32, out: &mut Val)
 #[inline(never)]
 fn write_built_arg(b: &Bounds, plan: &Plan, s: &State, a: Arg, out: &mut Val)
     requires operand { IsArg a }
-    requires values { AreValues b.now s.now.regs }
+    requires values { AreInLattice b.now s.now.regs }
     ensures arg { out.new ≡ arg_of plan.now s.now a }
-    ensures value { IsValue b.now out.new }
+    ensures value { IsInLattice b.now out.new }
 {
     *out = build_arg(b, plan, s, a);
 }

@@ -1,10 +1,10 @@
 // The value of an operation on two values, or on two operands.
 ghost use Rattle.std.specs.Prelude.{◌≡◌, ◌≤◌, ◌<◌, ◌+◌, length, ◌++◌, ◌∷◌, map, IsNone};
-ghost use Rattle.value_domain.specs.Values.{IsValue, cover, members, words_of};
+ghost use Rattle.value_domain.specs.Values.{IsInLattice, cover, members, words_of};
 ghost use Rattle.tc_isa.specs.Arithmetic.{alu_of};
-ghost use Rattle.vd_transfer.specs.Operations.{results, results_by_extents, results_of_pairs, HasMembers, value_of, is_comparison};
+ghost use Rattle.vd_transfer.specs.Operations.{possible_results, results_by_extents, results_of_pairs, HasMembers, operation_value, is_comparison};
 ghost use Rattle.vd_transfer.specs.Registers.{arg_of};
-ghost use Rattle.value_domain.specs.State.{AreValues};
+ghost use Rattle.value_domain.specs.State.{AreInLattice};
 ghost use Rattle.tc_isa.specs.InBounds.{IsArg};
 
 use crate::operands::{Operation, arg_in_state, arg_word, build_arg, write_constant};
@@ -19,10 +19,10 @@ use value_domain::{
 /// Overwrites `out` with the abstract value of an operation: the least one that holds the results
 /// on the members of `v` and `w`.
 pub fn write_operation_value(b: &Bounds, op: Op, v: &Val, w: &Val, out: &mut Val)
-    requires left { IsValue b.now v.now }
-    requires right { IsValue b.now w.now }
-    ensures cover { out.new ≡ cover b.now (results op v.now w.now) }
-    ensures value { IsValue b.now out.new }
+    requires left { IsInLattice b.now v.now }
+    requires right { IsInLattice b.now w.now }
+    ensures cover { out.new ≡ cover b.now (possible_results op v.now w.now) }
+    ensures value { IsInLattice b.now out.new }
 {
     match v {
         Val::Set(xs) => match w {
@@ -37,10 +37,10 @@ pub fn write_operation_value(b: &Bounds, op: Op, v: &Val, w: &Val, out: &mut Val
 /// words are computed directly; a value that the state has isn't copied.
 pub(crate) fn evaluate_operation(b: &Bounds, plan: &Plan, s: &State, of: Operation, out: &mut Val)
     requires operands { IsArg of.x × IsArg of.y }
-    requires values { AreValues b.now s.now.regs }
+    requires values { AreInLattice b.now s.now.regs }
     ensures of { out.new
-        ≡ value_of b.now of.op (arg_of plan.now s.now of.x) (arg_of plan.now s.now of.y) }
-    ensures value { IsValue b.now out.new }
+        ≡ operation_value b.now of.op (arg_of plan.now s.now of.x) (arg_of plan.now s.now of.y) }
+    ensures value { IsInLattice b.now out.new }
 {
     let _most_words = b.most_words();
     match arg_word(b, plan, s, of.x) {
@@ -70,7 +70,7 @@ fn write_results_of_pairs(b: &Bounds, op: Op, xs: &[u32], ys: &[u32], out: &mut 
     requires right { 1 ≤ length ys.now }
     requires few { length ys.now ≤ 128 }
     ensures cover { out.new ≡ cover b.now (results_of_pairs op xs.now ys.now) }
-    ensures value { IsValue b.now out.new }
+    ensures value { IsInLattice b.now out.new }
 {
     let _most_words = b.most_words();
     if xs.len() == 1 && ys.len() == 1 {
@@ -87,10 +87,10 @@ fn write_results_of_pairs(b: &Bounds, op: Op, xs: &[u32], ys: &[u32], out: &mut 
 /// Writes the abstract value of an operation on a Span: the cover of an interval that both
 /// operands' extents give, or of 0 and 1.
 fn write_results_by_extents(b: &Bounds, op: Op, v: &Val, w: &Val, out: &mut Val)
-    requires left { IsValue b.now v.now }
-    requires right { IsValue b.now w.now }
+    requires left { IsInLattice b.now v.now }
+    requires right { IsInLattice b.now w.now }
     ensures cover { out.new ≡ cover b.now (results_by_extents op v.now w.now) }
-    ensures value { IsValue b.now out.new }
+    ensures value { IsInLattice b.now out.new }
 {
     let _most_words = b.most_words();
     if is_comparison(op) {
@@ -112,7 +112,7 @@ fn write_results_of_few_pairs(b: &Bounds, op: Op, xs: &[u32], ys: &[u32], out: &
     requires left { 1 ≤ length xs.now }
     requires right { 1 ≤ length ys.now }
     ensures cover { out.new ≡ cover b.now (results_of_pairs op xs.now ys.now) }
-    ensures value { IsValue b.now out.new }
+    ensures value { IsInLattice b.now out.new }
 {
     let _most_words = b.most_words();
     write_constant(b, alu(op, xs[0], ys[0]), out);
@@ -129,7 +129,7 @@ fn write_results_of_many_pairs(b: &Bounds, op: Op, xs: &[u32], ys: &[u32], out: 
     requires right { 1 ≤ length ys.now }
     requires few { length ys.now ≤ 128 }
     ensures cover { out.new ≡ cover b.now (results_of_pairs op xs.now ys.now) }
-    ensures value { IsValue b.now out.new }
+    ensures value { IsInLattice b.now out.new }
 {
     let _most_words = b.most_words();
     let first = alu(op, xs[0], ys[0]);
@@ -151,9 +151,9 @@ fn write_results_of_many_pairs(b: &Bounds, op: Op, xs: &[u32], ys: &[u32], out: 
 
 /// Joins the results of an operation on a word with each of the others into an abstract value.
 fn join_results_of_word(b: &Bounds, v: &mut Val, op: Op, x: u32, ys: &[u32])
-    requires { IsValue b.now v.old }
+    requires { IsInLattice b.now v.old }
     ensures cover { v.new ≡ cover b.now (members v.old ++ map (alu_of op x) ys.now) }
-    ensures value { IsValue b.now v.new }
+    ensures value { IsInLattice b.now v.new }
 {
     for y in ys {
         join_word(b, v, alu(op, x, *y));
@@ -198,11 +198,11 @@ fn join_result_row(
     eights: &mut [u32; 2048],
     words: &[u32],
 )
-    requires value { IsValue b.now v.old }
+    requires value { IsInLattice b.now v.old }
     requires met { HasMembers v.old met.old }
     requires eights { HasMembers v.old eights.old }
     ensures cover { v.new ≡ cover b.now (members v.old ++ words.now) }
-    ensures value { IsValue b.now v.new }
+    ensures value { IsInLattice b.now v.new }
     ensures met { HasMembers v.new met.new }
     ensures eights { HasMembers v.new eights.new }
 {
@@ -228,10 +228,10 @@ fn join_result_row(
 /// results.
 fn widen_by_results(b: &Bounds, v: &mut Val, op: Op, xs: &[u32], ys: &[u32], row: &mut [u32])
     requires span { IsNone (words_of v.old) }
-    requires value { IsValue b.now v.old }
+    requires value { IsInLattice b.now v.old }
     requires room { length row.old ≡ length ys.now }
     ensures cover { v.new ≡ cover b.now (members v.old ++ results_of_pairs op xs.now ys.now) }
-    ensures value { IsValue b.now v.new }
+    ensures value { IsInLattice b.now v.new }
 {
     let _most_words = b.most_words();
     let mut e = extent_of(v);
@@ -272,13 +272,13 @@ fn join_eight_results(
     k: usize,
     words: &[u32],
 )
-    requires value { IsValue b.now v.old }
+    requires value { IsInLattice b.now v.old }
     requires met { HasMembers v.old met.old }
     requires eights { HasMembers v.old eights.old }
     requires place { k + 8 ≤ 2048 }
     requires eight { length words.now ≡ 8 }
     ensures cover { v.new ≡ cover b.now (members v.old ++ words.now) }
-    ensures value { IsValue b.now v.new }
+    ensures value { IsInLattice b.now v.new }
     ensures met { HasMembers v.new met.new }
     ensures eights { HasMembers v.new eights.new }
 {
@@ -291,10 +291,10 @@ fn join_eight_results(
 /// Joins a result of an operation into an abstract value, unless the result was added lately.
 #[inline(always)]
 fn join_result(b: &Bounds, v: &mut Val, met: &mut [u32; 512], z: u32)
-    requires value { IsValue b.now v.old }
+    requires value { IsInLattice b.now v.old }
     requires met { HasMembers v.old met.old }
     ensures cover { v.new ≡ cover b.now (z ∷ members v.old) }
-    ensures value { IsValue b.now v.new }
+    ensures value { IsInLattice b.now v.new }
     ensures met { HasMembers v.new met.new }
 {
     let k = recent_result_slot(z);
@@ -309,10 +309,10 @@ fn join_result(b: &Bounds, v: &mut Val, met: &mut [u32; 512], z: u32)
 /// has isn't copied; any other is built first.
 fn evaluate_on_state_values(b: &Bounds, plan: &Plan, s: &State, of: Operation, out: &mut Val)
     requires operands { IsArg of.x × IsArg of.y }
-    requires values { AreValues b.now s.now.regs }
+    requires values { AreInLattice b.now s.now.regs }
     ensures of { out.new
-        ≡ value_of b.now of.op (arg_of plan.now s.now of.x) (arg_of plan.now s.now of.y) }
-    ensures value { IsValue b.now out.new }
+        ≡ operation_value b.now of.op (arg_of plan.now s.now of.x) (arg_of plan.now s.now of.y) }
+    ensures value { IsInLattice b.now out.new }
 {
     match arg_in_state(b, plan, s, of.x) {
         Some(v) => match arg_in_state(b, plan, s, of.y) {
@@ -328,10 +328,10 @@ fn evaluate_on_state_values(b: &Bounds, plan: &Plan, s: &State, of: Operation, o
 #[inline(never)]
 fn evaluate_built_right(b: &Bounds, plan: &Plan, s: &State, of: Operation, v: &Val, out: &mut Val)
     requires operand { IsArg of.y }
-    requires values { AreValues b.now s.now.regs }
-    requires left { IsValue b.now v.now }
-    ensures of { out.new ≡ value_of b.now of.op v.now (arg_of plan.now s.now of.y) }
-    ensures value { IsValue b.now out.new }
+    requires values { AreInLattice b.now s.now.regs }
+    requires left { IsInLattice b.now v.now }
+    ensures of { out.new ≡ operation_value b.now of.op v.now (arg_of plan.now s.now of.y) }
+    ensures value { IsInLattice b.now out.new }
 {
     write_operation_value(b, of.op, v, &build_arg(b, plan, s, of.y), out);
 }
@@ -341,10 +341,10 @@ fn evaluate_built_right(b: &Bounds, plan: &Plan, s: &State, of: Operation, v: &V
 #[inline(never)]
 fn evaluate_built_left(b: &Bounds, plan: &Plan, s: &State, of: Operation, out: &mut Val)
     requires operands { IsArg of.x × IsArg of.y }
-    requires values { AreValues b.now s.now.regs }
+    requires values { AreInLattice b.now s.now.regs }
     ensures of { out.new
-        ≡ value_of b.now of.op (arg_of plan.now s.now of.x) (arg_of plan.now s.now of.y) }
-    ensures value { IsValue b.now out.new }
+        ≡ operation_value b.now of.op (arg_of plan.now s.now of.x) (arg_of plan.now s.now of.y) }
+    ensures value { IsInLattice b.now out.new }
 {
     let v = build_arg(b, plan, s, of.x);
     evaluate_built_right(b, plan, s, of, &v, out);

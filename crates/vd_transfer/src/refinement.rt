@@ -1,15 +1,15 @@
 // Refinement: the members of two values for which a comparison holds.
 ghost use Rattle.std.specs.Prelude.{◌≡◌, ◌==◌, ◌<◌, ◌≤◌, ◌+◌, ◌-◌, ◌^◌, ◌++◌, filter, List, ℕ, IfSome, Some, ◌↔◌, ◌⊎◌, ◌≢◌, None};
-ghost use Rattle.value_domain.specs.Values.{IsValue, members, is_in_span};
+ghost use Rattle.value_domain.specs.Values.{IsInLattice, members, is_in_span};
 ghost use Rattle.value_domain.specs.declared.values.Val.TheVariants.{Set, Span};
 ghost use Rattle.value_domain.specs.Meets.{cover_if_any, value_if_found};
 ghost use Rattle.vd_transfer.specs.Relations.{MayBeRelated, related_words, converse};
-ghost use Rattle.vd_transfer.specs.Refinement.{kept_left, kept_right};
+ghost use Rattle.vd_transfer.specs.Refinement.{kept_left_words, kept_right_words};
 ghost use Rattle.vd_transfer.specs.Intervals.{IsInInterval};
 ghost use Rattle.vd_transfer.specs.declared.refinement.Relation.TheVariants.{Same};
-ghost use Rattle.value_domain.specs.State.{AreValues};
+ghost use Rattle.value_domain.specs.State.{AreInLattice};
 ghost use Rattle.vd_transfer.specs.Signs.{is_signed_condition};
-ghost use Rattle.vd_transfer.specs.Branches.{state_if_possible, side_with_operands};
+ghost use Rattle.vd_transfer.specs.Branches.{state_if_possible, state_with_narrowed_operands};
 ghost use Rattle.vd_transfer.specs.Changes.{state_after};
 
 use crate::branch_sides::{Comparison, narrow_left_register, relation_on_side};
@@ -58,11 +58,11 @@ pub(crate) fn related_intervals(rel: Relation, low: u32, high: u32) -> (Interval
 /// Overwrites `out` with the cover of the members of `v` that are in a relation to some member of
 /// `w`. Returns false if there are none; then `out` may be any value.
 pub fn refine_by_relation(b: &Bounds, rel: Relation, v: &Val, w: &Val, out: &mut Val) -> bool
-    requires left { IsValue b.now v.now }
-    requires right { IsValue b.now w.now }
+    requires left { IsInLattice b.now v.now }
+    requires right { IsInLattice b.now w.now }
     ensures kept { value_if_found result out.new
         ≡ cover_if_any b.now (related_words rel (members v.now) (members w.now)) }
-    ensures value { IfSome (value_if_found result out.new) (IsValue b.now) }
+    ensures value { IfSome (value_if_found result out.new) (IsInLattice b.now) }
 {
     match rel {
         Relation::Same => refine_to_common_members(b, v, w, out),
@@ -79,12 +79,12 @@ pub(crate) fn join_members_in_interval(
     found: bool,
     out: &mut Val,
 ) -> bool
-    requires value { IsValue b.now v.now }
-    requires before { IfSome (value_if_found found out.old) (IsValue b.now) }
+    requires value { IsInLattice b.now v.now }
+    requires before { IfSome (value_if_found found out.old) (IsInLattice b.now) }
     ensures more { (xs : List ℕ) → value_if_found found out.old ≡ cover_if_any b.now xs
         → value_if_found result out.new
         ≡ cover_if_any b.now (xs ++ filter (is_in_span i.lo i.last 0) (members v.now)) }
-    ensures value { IfSome (value_if_found result out.new) (IsValue b.now) }
+    ensures value { IfSome (value_if_found result out.new) (IsInLattice b.now) }
 {
     if i.last < i.lo {
         return found;
@@ -106,11 +106,11 @@ pub(crate) fn refine_left_operand(
     w: &Val,
     out: &mut Val,
 ) -> bool
-    requires left { IsValue b.now v.now }
-    requires right { IsValue b.now w.now }
+    requires left { IsInLattice b.now v.now }
+    requires right { IsInLattice b.now w.now }
     ensures kept { value_if_found result out.new
-        ≡ cover_if_any b.now (kept_left test.cond test.side (members v.now) (members w.now)) }
-    ensures value { IfSome (value_if_found result out.new) (IsValue b.now) }
+        ≡ cover_if_any b.now (kept_left_words test.cond test.side (members v.now) (members w.now)) }
+    ensures value { IfSome (value_if_found result out.new) (IsInLattice b.now) }
 {
     let rel = relation_on_side(test.cond, test.side);
     if is_signed_condition(test.cond) {
@@ -130,14 +130,14 @@ pub(crate) fn refine_both_operands(
     w: &Val,
     c: &mut Change,
 ) -> bool
-    requires values { AreValues b.now s.now.regs }
-    requires left { IsValue b.now v.now }
-    requires right { IsValue b.now w.now }
+    requires values { AreInLattice b.now s.now.regs }
+    requires left { IsInLattice b.now v.now }
+    requires right { IsInLattice b.now w.now }
     ensures two { state_if_possible result (state_after s.now c.new)
-        ≡ side_with_operands s.now test.x test.y
-        (cover_if_any b.now (kept_left test.cond test.side (members v.now) (members w.now)))
-        (cover_if_any b.now (kept_right test.cond test.side (members v.now) (members w.now))) }
-    ensures values { AreValues b.now (state_after s.now c.new).regs }
+        ≡ state_with_narrowed_operands s.now test.x test.y
+        (cover_if_any b.now (kept_left_words test.cond test.side (members v.now) (members w.now)))
+        (cover_if_any b.now (kept_right_words test.cond test.side (members v.now) (members w.now))) }
+    ensures values { AreInLattice b.now (state_after s.now c.new).regs }
     ensures free { c.new.third.at ≡ None }
 {
     if !narrow_left_register(b, test, s, v, w, c) {
@@ -191,11 +191,11 @@ fn words_above(low: u32) -> Interval
 /// Refines by equality: overwrites `out` with the cover of the members of both values. Returns
 /// false if there are none.
 fn refine_to_common_members(b: &Bounds, v: &Val, w: &Val, out: &mut Val) -> bool
-    requires left { IsValue b.now v.now }
-    requires right { IsValue b.now w.now }
+    requires left { IsInLattice b.now v.now }
+    requires right { IsInLattice b.now w.now }
     ensures kept { value_if_found result out.new
         ≡ cover_if_any b.now (related_words Same (members v.now) (members w.now)) }
-    ensures value { IfSome (value_if_found result out.new) (IsValue b.now) }
+    ensures value { IfSome (value_if_found result out.new) (IsInLattice b.now) }
 {
     match w {
         Val::Set(words) => write_meet_with_set(b, words.as_slice(), v, out),
@@ -206,12 +206,12 @@ fn refine_to_common_members(b: &Bounds, v: &Val, w: &Val, out: &mut Val) -> bool
 /// Refines as `refine_by_relation` does, for a relation other than Same, by the intervals of words
 /// that are in the relation.
 fn refine_by_intervals(b: &Bounds, rel: Relation, v: &Val, w: &Val, out: &mut Val) -> bool
-    requires left { IsValue b.now v.now }
-    requires right { IsValue b.now w.now }
+    requires left { IsInLattice b.now v.now }
+    requires right { IsInLattice b.now w.now }
     requires order { rel ≢ Same }
     ensures kept { value_if_found result out.new
         ≡ cover_if_any b.now (related_words rel (members v.now) (members w.now)) }
-    ensures value { IfSome (value_if_found result out.new) (IsValue b.now) }
+    ensures value { IfSome (value_if_found result out.new) (IsInLattice b.now) }
 {
     let e = extent_of(w);
     let (first, second) = related_intervals(rel, e.least, e.greatest);
@@ -223,12 +223,12 @@ fn refine_by_intervals(b: &Bounds, rel: Relation, v: &Val, w: &Val, out: &mut Va
 /// that its callers need no stack for a value.
 #[inline(never)]
 fn join_meet_with_interval(b: &Bounds, v: &Val, i: Interval, out: &mut Val)
-    requires value { IsValue b.now v.now }
-    requires before { IsValue b.now out.old }
+    requires value { IsInLattice b.now v.now }
+    requires before { IsInLattice b.now out.old }
     ensures more { (xs : List ℕ) → Some out.old ≡ cover_if_any b.now xs
         → Some out.new
         ≡ cover_if_any b.now (xs ++ filter (is_in_span i.lo i.last 0) (members v.now)) }
-    ensures value { IsValue b.now out.new }
+    ensures value { IsInLattice b.now out.new }
 {
     let mut others = Val::any();
     if !write_span_meet(b, v, i.lo, i.last, 0, &mut others) {
@@ -240,11 +240,11 @@ fn join_meet_with_interval(b: &Bounds, v: &Val, i: Interval, out: &mut Val)
 /// Overwrites `out` with a branch's right operand, refined: the cover of the members of `w` with
 /// which the branch may go to the side. Returns false if there are none.
 fn refine_right_operand(b: &Bounds, test: Comparison, v: &Val, w: &Val, out: &mut Val) -> bool
-    requires left { IsValue b.now v.now }
-    requires right { IsValue b.now w.now }
+    requires left { IsInLattice b.now v.now }
+    requires right { IsInLattice b.now w.now }
     ensures kept { value_if_found result out.new
-        ≡ cover_if_any b.now (kept_right test.cond test.side (members v.now) (members w.now)) }
-    ensures value { IfSome (value_if_found result out.new) (IsValue b.now) }
+        ≡ cover_if_any b.now (kept_right_words test.cond test.side (members v.now) (members w.now)) }
+    ensures value { IfSome (value_if_found result out.new) (IsInLattice b.now) }
 {
     let rel = converse(relation_on_side(test.cond, test.side));
     if is_signed_condition(test.cond) {

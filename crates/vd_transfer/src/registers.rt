@@ -1,8 +1,8 @@
 // Reads the registers of a state.
 ghost use Rattle.std.specs.Prelude.{◌≡◌, ◌<◌, IfSome};
-ghost use Rattle.value_domain.specs.Values.{IsValue, word_val};
-ghost use Rattle.value_domain.specs.State.{AreValues, is_lower_slot};
-ghost use Rattle.vd_transfer.specs.Registers.{slot, reg_of, fixed_value_of};
+ghost use Rattle.value_domain.specs.Values.{IsInLattice, word_val};
+ghost use Rattle.value_domain.specs.State.{AreInLattice, is_lower_slot};
+ghost use Rattle.vd_transfer.specs.Registers.{register_slot, reg_of, fixed_register_value};
 
 use tcd_plan::Plan;
 use value_domain::{A10_SLOT, Bounds, State, Val};
@@ -12,10 +12,10 @@ pub const A10: u8 = 26;
 
 /// Returns the place of a register among the 27 values of a state, or `None` for A0, A1, A8, A9 and
 /// A11.
-#[tactic(auto, unfolding(crate::specs::Registers::slot))]
+#[tactic(auto, unfolding(crate::specs::Registers::register_slot))]
 #[inline(always)]
 pub(crate) fn register_slot(r: u8) -> Option<usize>
-    ensures slot { result ≡ slot r }
+    ensures slot { result ≡ register_slot r }
     ensures within { IfSome result (λ i. i < 27) }
 {
     if r < 16 {
@@ -66,7 +66,7 @@ pub fn reg(plan: &Plan, s: &State, r: u8) -> Val
 /// A1, A8 and A9, any for A11.
 #[inline(always)]
 pub(crate) fn fixed_register_value(plan: &Plan, r: u8) -> Val
-    ensures { result ≡ fixed_value_of plan.now r }
+    ensures { result ≡ fixed_register_value plan.now r }
 {
     if r == 27 {
         return Val::any();
@@ -88,9 +88,9 @@ pub(crate) fn fixed_register_value(plan: &Plan, r: u8) -> Val
 #[inline(always)]
 pub(crate) fn reg_in_lattice(b: &Bounds, plan: &Plan, s: &State, r: u8) -> Val
     requires register { r < 32 }
-    requires values { AreValues b.now s.now.regs }
+    requires values { AreInLattice b.now s.now.regs }
     ensures reg { result ≡ reg_of plan.now s.now r }
-    ensures value { IsValue b.now result }
+    ensures value { IsInLattice b.now result }
 {
     let _most_words = b.most_words();
     let _globals = &plan.globals;
@@ -102,9 +102,9 @@ pub(crate) fn reg_in_lattice(b: &Bounds, plan: &Plan, s: &State, r: u8) -> Val
 #[inline(always)]
 pub(crate) fn reg_in_state<'a>(b: &Bounds, plan: &Plan, s: &'a State, r: u8) -> Option<&'a Val>
     requires register { r < 32 }
-    requires values { AreValues b.now s.now.regs }
+    requires values { AreInLattice b.now s.now.regs }
     ensures reg { IfSome result (λ v. v.now ≡ reg_of plan.now s.now r) }
-    ensures value { IfSome result (λ v. IsValue b.now v.now) }
+    ensures value { IfSome result (λ v. IsInLattice b.now v.now) }
 {
     let _most_words = b.most_words();
     let _regs = &s.regs[..];

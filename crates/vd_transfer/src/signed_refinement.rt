@@ -1,9 +1,9 @@
 // Refinement by signed comparisons.
 ghost use Rattle.std.specs.Prelude.{◌≡◌, ◌≢◌, ◌<◌, ◌≤◌, ◌+◌, ◌^◌, length, ℕ, IfSome, ◌↔◌, ◌⊎◌, ◌-◌};
-ghost use Rattle.value_domain.specs.Values.{IsValue, IsWellFormed, members, range};
+ghost use Rattle.value_domain.specs.Values.{IsInLattice, IsWellFormed, members, multiples_in_range};
 ghost use Rattle.value_domain.specs.declared.values.Val.TheVariants.{Set, Span};
 ghost use Rattle.value_domain.specs.Meets.{cover_if_any, value_if_found};
-ghost use Rattle.tc_isa.specs.Arithmetic.{signed_order_place};
+ghost use Rattle.tc_isa.specs.Arithmetic.{signed_rank};
 ghost use Rattle.vd_transfer.specs.Intervals.{IsInInterval};
 ghost use Rattle.vd_transfer.specs.Signs.{IsSignedRange, signed_related_words, is_signed_condition};
 ghost use Rattle.vd_transfer.specs.declared.refinement.Relation.TheVariants.{Same};
@@ -17,12 +17,12 @@ const HALF: u32 = 1 << 31;
 /// Overwrites `out` with the cover of the members of `v` that are in a relation to some member of
 /// `w` in the signed order. Returns false if there are none; then `out` may be any value.
 pub fn refine_by_signed_relation(b: &Bounds, rel: Relation, v: &Val, w: &Val, out: &mut Val) -> bool
-    requires left { IsValue b.now v.now }
-    requires right { IsValue b.now w.now }
+    requires left { IsInLattice b.now v.now }
+    requires right { IsInLattice b.now w.now }
     requires order { rel ≢ Same }
     ensures kept { value_if_found result out.new
         ≡ cover_if_any b.now (signed_related_words rel (members v.now) (members w.now)) }
-    ensures value { IfSome (value_if_found result out.new) (IsValue b.now) }
+    ensures value { IfSome (value_if_found result out.new) (IsInLattice b.now) }
 {
     let (low, high) = signed_range(w);
     let (i, j) = related_intervals(rel, signed_rank(low), signed_rank(high));
@@ -36,7 +36,7 @@ pub fn refine_by_signed_relation(b: &Bounds, rel: Relation, v: &Val, w: &Val, ou
 
 /// Returns a word's place in the signed order of all words: 80000000 is at 0, 0 is at 2^31.
 pub(crate) fn signed_rank(x: u32) -> u32
-    ensures { result ≡ signed_order_place x }
+    ensures { result ≡ signed_rank x }
 {
     x.wrapping_add(1 << 31)
 }
@@ -66,7 +66,7 @@ fn signed_range(v: &Val) -> (u32, u32)
 /// Returns the words whose positions in the signed order are in an interval, as two intervals.
 fn words_in_signed_interval(i: Interval) -> (Interval, Interval)
     ensures { (x : ℕ) → x < 2 ^ 32 → (IsInInterval result.0 x ⊎ IsInInterval result.1 x)
-        ↔ IsInInterval i (signed_order_place x) }
+        ↔ IsInInterval i (signed_rank x) }
 {
     let first = if i.lo < HALF {
         Interval {
@@ -104,7 +104,7 @@ fn signed_range_of_words(words: &[u32]) -> (u32, u32)
 /// Returns the least and the greatest member of a Span in the signed order.
 fn signed_range_of_span(lo: u32, last: u32, step: u8) -> (u32, u32)
     requires { IsWellFormed (Span lo last step) }
-    ensures { IsSignedRange (range lo last step) result.0 result.1 }
+    ensures { IsSignedRange (multiples_in_range lo last step) result.0 result.1 }
 {
     let v = Val::Span { lo, last, step };
     let e = extent_of(&v);
@@ -118,8 +118,8 @@ fn signed_range_of_span(lo: u32, last: u32, step: u8) -> (u32, u32)
 /// Returns the lesser of two words in the signed order.
 fn signed_min(x: u32, low: u32) -> u32
     ensures either { (result ≡ x) ⊎ (result ≡ low) }
-    ensures below_x { signed_order_place result ≤ signed_order_place x }
-    ensures below_low { signed_order_place result ≤ signed_order_place low }
+    ensures below_x { signed_rank result ≤ signed_rank x }
+    ensures below_low { signed_rank result ≤ signed_rank low }
 {
     if signed_rank(x) < signed_rank(low) {
         x
@@ -131,8 +131,8 @@ fn signed_min(x: u32, low: u32) -> u32
 /// Returns the greater of two words in the signed order.
 fn signed_max(x: u32, high: u32) -> u32
     ensures either { (result ≡ x) ⊎ (result ≡ high) }
-    ensures above_x { signed_order_place x ≤ signed_order_place result }
-    ensures above_high { signed_order_place high ≤ signed_order_place result }
+    ensures above_x { signed_rank x ≤ signed_rank result }
+    ensures above_high { signed_rank high ≤ signed_rank result }
 {
     if signed_rank(high) < signed_rank(x) {
         x

@@ -1,6 +1,6 @@
 // The sets that the rows of the table of operations cover: multiples of a power of two in a range.
 ghost use Rattle.std.specs.Prelude.{◌≡◌, ◌<◌, ◌≤◌, ◌||◌, min, max};
-ghost use Rattle.vd_transfer.specs.Intervals.{sums, differences, shifts, signed_shifts, result_interval};
+ghost use Rattle.vd_transfer.specs.Intervals.{sum_interval, difference_interval, logical_shift_interval, arithmetic_shift_interval, result_interval};
 
 use tc_isa::Op;
 use value_domain::{Extent, Val};
@@ -51,12 +51,12 @@ pub(crate) fn result_interval(op: Op, e: &Extent, f: &Extent, w: &Val) -> Stride
 }
 
 /// Returns the strided interval of all sums of two extents of abstract values, modulo 2^32.
-#[tactic(auto, unfolding(crate::specs::Intervals::sums))]
+#[tactic(auto, unfolding(crate::specs::Intervals::sum_interval))]
 fn sum_interval(e: &Extent, f: &Extent) -> StridedInterval
     requires left { e.now.least ≤ e.now.greatest }
     requires right { f.now.least ≤ f.now.greatest }
     ensures { result
-        ≡ sums e.now.least e.now.greatest f.now.least f.now.greatest (min e.now.step f.now.step) }
+        ≡ sum_interval e.now.least e.now.greatest f.now.least f.now.greatest (min e.now.step f.now.step) }
 {
     let first = u64::from(e.least) + u64::from(f.least);
     let last = u64::from(e.greatest) + u64::from(f.greatest);
@@ -83,12 +83,12 @@ fn sum_interval(e: &Extent, f: &Extent) -> StridedInterval
 }
 
 /// Returns the strided interval of all differences of two extents of abstract values, modulo 2^32.
-#[tactic(auto, unfolding(crate::specs::Intervals::differences))]
+#[tactic(auto, unfolding(crate::specs::Intervals::difference_interval))]
 fn difference_interval(e: &Extent, f: &Extent) -> StridedInterval
     requires left { e.now.least ≤ e.now.greatest }
     requires right { f.now.least ≤ f.now.greatest }
     ensures { result
-        ≡ differences e.now.least e.now.greatest f.now.least f.now.greatest
+        ≡ difference_interval e.now.least e.now.greatest f.now.least f.now.greatest
         (min e.now.step f.now.step) }
 {
     let step = e.step.min(f.step);
@@ -117,11 +117,11 @@ fn difference_interval(e: &Extent, f: &Extent) -> StridedInterval
 
 /// Returns the strided interval of an extent shifted by the six bits `n`, filled with zeros, as SH
 /// does.
-#[tactic(auto, unfolding(crate::specs::Intervals::shifts))]
+#[tactic(auto, unfolding(crate::specs::Intervals::logical_shift_interval))]
 fn logical_shift_interval(e: &Extent, n: u8) -> StridedInterval
     requires count { n < 64 }
     requires order { e.now.least ≤ e.now.greatest }
-    ensures { result ≡ shifts e.now.least e.now.greatest e.now.step n }
+    ensures { result ≡ logical_shift_interval e.now.least e.now.greatest e.now.step n }
 {
     if n < 32 {
         let first = u64::from(e.least) << n;
@@ -152,11 +152,11 @@ fn logical_shift_interval(e: &Extent, n: u8) -> StridedInterval
 
 /// Returns the strided interval of an extent shifted by the six bits `n`, filled with the sign bit,
 /// as SHA does.
-#[tactic(auto, unfolding(crate::specs::Intervals::signed_shifts))]
+#[tactic(auto, unfolding(crate::specs::Intervals::arithmetic_shift_interval))]
 fn arithmetic_shift_interval(e: &Extent, n: u8) -> StridedInterval
     requires count { n < 64 }
     requires order { e.now.least ≤ e.now.greatest }
-    ensures { result ≡ signed_shifts e.now.least e.now.greatest e.now.step n }
+    ensures { result ≡ arithmetic_shift_interval e.now.least e.now.greatest e.now.step n }
 {
     if n < 32 || e.greatest < 0x8000_0000 {
         logical_shift_interval(e, n)

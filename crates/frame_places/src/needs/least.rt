@@ -1,6 +1,6 @@
 // The least needs.
 ghost use Rattle.std.specs.Prelude.{Ok, IfOk, IfSome, IsTrue, Some, ℕ, ◌+◌, ◌<◌, ◌≤◌, ◌^◌, Contains, length, slice_index, MatchOption, EachIndex};
-ghost use Rattle.frame_places.specs.RowNeeds.{AreRowsWithin, AreLowerBounds, MeetsRowUpToCap, RaisesNeedByRow, RaisesNeedsByRows, LeastNeeds};
+ghost use Rattle.frame_places.specs.RowNeeds.{AreRowsWithin, AreLowerBounds, MeetsRowUpToCap, RaisesNeedByRow, RaisesNeedsByRows, IsLeastNeedsResult};
 ghost use Rattle.frame_places.specs.declared.needs.row.NeedRow.{NeedRow};
 
 use crate::needs::row::{NeedRow, need_by_row};
@@ -71,7 +71,7 @@ pub fn least_needs(
     requires cap { cap < 2 ^ 16 }
     requires nodes { nodes < 2 ^ 16 }
     requires within { AreRowsWithin rows.now nodes }
-    ensures { LeastNeeds nodes rows.now cap result }
+    ensures { IsLeastNeedsResult nodes rows.now cap result }
 {
     let mut needs = vec![in alloc; 0u32; nodes]?;
     raise_needs_until_met(&mut needs, rows, cap);
@@ -93,7 +93,7 @@ pub fn needs_in_few_passes(
     requires nodes { nodes < 2 ^ 16 }
     requires within { AreRowsWithin rows.now nodes }
     ensures { IfOk result (λ o. IfSome o
-        (λ needs. LeastNeeds nodes rows.now cap (Ok (Some needs)))) }
+        (λ needs. IsLeastNeedsResult nodes rows.now cap (Ok (Some needs)))) }
 {
     let mut needs = vec![in alloc; 0u32; nodes]?;
     if !raise_needs_in_few_passes(&mut needs, rows, cap) {

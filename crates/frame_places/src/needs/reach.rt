@@ -1,6 +1,6 @@
 // The graph of entries, by the numbers of its nodes: which nodes are reached from which.
 ghost use Rattle.std.specs.Prelude.{◌≡◌, ◌<◌, ◌↔◌, ℕ, IsTrue, IfOk, OnOk, length, slice_index_or, false, Contains, [], ◌∷◌, ◌+◌};
-ghost use Rattle.frame_places.specs.NodeGraph.{AddsEdges, AddsPredecessor, ArePredecessorsBelow, AreEdgesBetween, AreEdges, AreReachingMarks, AreReachingByPredecessors, ArePredecessors, HasMarkedSuccessor, IsFirstRecursiveNodeBefore, IsFirstRecursiveNode, IsRecursiveNode, MarksNodes, MarksAllReaching, IsNodeMarked};
+ghost use Rattle.frame_places.specs.NodeGraph.{AddsEdges, AddsPredecessor, ArePredecessorsBelow, AreEdgesBelow, AreEdgesOfRows, AreReachingMarks, AreReachingByPredecessors, ArePredecessors, HasMarkedSuccessor, IsFirstRecursiveNodeBefore, IsFirstRecursiveNode, IsRecursiveNode, MarksAndQueues, FinishesMarking, IsNodeMarked};
 
 use crate::needs::ranks::are_ranks_rising;
 use crate::needs::row::NeedRow;
@@ -20,7 +20,7 @@ pub fn frame_edges(
     alloc: Global,
     rows: &[NeedRow],
 ) -> Result<IndexSet<FrameEdge>, AllocFailed<FrameEdge>>
-    ensures { IfOk result (λ edges. AreEdges rows.now edges.keys) }
+    ensures { IfOk result (λ edges. AreEdgesOfRows rows.now edges.keys) }
 {
     let mut edges = IndexSet::new(alloc);
     for row in rows {
@@ -38,7 +38,7 @@ pub fn reaching_marks(
     node: usize,
 ) -> Result<Vec<bool>, AllocError>
     requires node { node < nodes }
-    requires edges { AreEdgesBetween edges.now nodes }
+    requires edges { AreEdgesBelow edges.now nodes }
     ensures { IfOk result (λ marks. AreReachingMarks edges.now nodes node marks.items) }
 {
     let sources = predecessors(alloc, edges)?;
@@ -65,7 +65,7 @@ pub fn first_recursive_node(
     edges: &[FrameEdge],
     ranks: &[usize],
 ) -> Result<Option<usize>, AllocError>
-    requires { AreEdgesBetween edges.now (length orders.now) }
+    requires { AreEdgesBelow edges.now (length orders.now) }
     ensures { IfOk result (IsFirstRecursiveNode orders.now edges.now) }
 {
     if are_ranks_rising(ranks, edges) {
@@ -153,7 +153,7 @@ fn finish_marking(
     sources: &IndexMap<usize, Vec<usize>>,
 ) -> Result<(), AllocError>
     requires { ArePredecessorsBelow sources.now (length marks.old) }
-    ensures { OnOk result (MarksAllReaching sources.now marks.old marks.new work.old.items) }
+    ensures { OnOk result (FinishesMarking sources.now marks.old marks.new work.old.items) }
 {
     while let Some(node) = work.pop() {
         if let Some(list) = sources.get(&node) {
@@ -170,7 +170,7 @@ fn mark_and_queue_nodes(
     nodes: &[usize],
 ) -> Result<(), AllocError>
     requires { (k : ℕ) → Contains nodes.now k → k < length marks.old }
-    ensures { OnOk result (MarksNodes nodes.now marks.old marks.new work.old.items work.new.items) }
+    ensures { OnOk result (MarksAndQueues nodes.now marks.old marks.new work.old.items work.new.items) }
 {
     for node in nodes {
         mark_and_queue_node(marks, work, *node)?;
@@ -186,7 +186,7 @@ fn mark_and_queue_node(
 ) -> Result<(), AllocError>
     requires { node < length marks.old }
     ensures { OnOk result
-        (MarksNodes (node ∷ []) marks.old marks.new work.old.items work.new.items) }
+        (MarksAndQueues (node ∷ []) marks.old marks.new work.old.items work.new.items) }
 {
     if !marks[node] {
         marks[node] = true;
@@ -215,7 +215,7 @@ fn first_recursive_node_up_to(
     node: usize,
     first: Option<usize>,
 ) -> Result<Option<usize>, AllocError>
-    requires edges { AreEdgesBetween edges.now (length orders.now) }
+    requires edges { AreEdgesBelow edges.now (length orders.now) }
     requires sources { ArePredecessors edges.now sources.now }
     requires node { node < length orders.now }
     requires first { IsFirstRecursiveNodeBefore orders.now edges.now node first }
@@ -242,7 +242,7 @@ fn is_recursive_node(
     node: usize,
 ) -> Result<bool, AllocError>
     requires node { node < nodes }
-    requires edges { AreEdgesBetween edges.now nodes }
+    requires edges { AreEdgesBelow edges.now nodes }
     requires sources { ArePredecessors edges.now sources.now }
     ensures { IfOk result (λ recurs. IsTrue recurs ↔ IsRecursiveNode edges.now node) }
 {
@@ -252,7 +252,7 @@ fn is_recursive_node(
 
 /// Returns whether a node of the graph of entries has an edge to a marked node.
 fn has_marked_successor(marks: &[bool], edges: &[FrameEdge], node: usize) -> bool
-    requires { AreEdgesBetween edges.now (length marks.now) }
+    requires { AreEdgesBelow edges.now (length marks.now) }
     ensures { IsTrue result ↔ HasMarkedSuccessor marks.now edges.now node }
 {
     for edge in edges {

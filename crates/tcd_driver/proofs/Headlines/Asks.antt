@@ -21,14 +21,14 @@ use Rattle.task_chains.specs.Tasks.{TasksData, count}
 use Rattle.task_chains.specs.TaskListText as tasks
 use Rattle.tcd_base.specs.Files.{FileMap, HasFileOfName}
 use Rattle.tcd_reading.specs.Reports.{Report}
-use Rattle.tcd_reading.specs.Inputs.{FormSeen, HoldsInput, IsInputRejection, Reading, each, ReadingSays, HoldsNeededInputs, answer, input}
-use Rattle.tcd_forms.specs.Forms.{SourceData, elf_form, plan_form, cert_form, script_form, source_form, placed_source_form, layout_form, object_form}
-use Rattle.tcd_forms.specs.Lines.{too_long_elf_line, too_long_plan_line, too_long_cert_line, bad_cert_line, too_long_script_line, too_long_source_line, bad_source_line, too_long_layout_line, too_long_object_line, bad_object_line, too_long_cells_line, too_long_tasks_line, line_end_at_one, line_end_at_two}
+use Rattle.tcd_reading.specs.Inputs.{FormSeen, HoldsInput, IsInputRejection, Reading, input_files, ReadingSays, HoldsNeededInputs, answer, input}
+use Rattle.tcd_forms.specs.Forms.{SourceData, elf_form, plan_form, cert_form, script_form, source_form, numbered_source_form, layout_form, object_form}
+use Rattle.tcd_forms.specs.Lines.{elf_too_long_line, plan_too_long_line, cert_too_long_line, bad_cert_line, script_too_long_line, source_too_long_line, bad_source_line, layout_too_long_line, object_too_long_line, bad_object_line, cells_too_long_line, tasks_too_long_line, line_end_with_number, line_end_with_two_numbers}
 use Rattle.tcd_forms.proofs.FormLaws.{ok_err, elf_lawful, plan_lawful, cert_lawful, source_lawful, placed_source_lawful, layout_lawful, object_lawful}
 use Rattle.tcd_driver.specs.CellAndTaskForms.{cells_form, tasks_form}
 use Rattle.tcd_driver.specs.Headlines.{HoldsFile, IsBadFile, too_long, faulty, HoldsImage, HoldsPlan, HoldsCert, HoldEachFile, AreCheckFiles, AreFirmwareFiles}
-use Rattle.tcd_driver.specs.Headlines.Builds.{IsObjectText, HoldsLayout, IsSourceText}
-use Rattle.tcd_driver.specs.Headlines.Asks.{InputRequirement, is_elf, is_plan, is_cert, is_layout, is_object, is_source, is_script, are_cells, are_tasks, are_linked, are_linked_sources, is_cert_per_task, require_each, HoldsCells, HoldsTasks, IsGoodInput, IsBadInputWith, IsInputPresent, AreInputsPresent, IsFirstBadInput}
+use Rattle.tcd_driver.specs.Headlines.Builds.{AreObjectBytes, HoldsLayout, IsSourceText}
+use Rattle.tcd_driver.specs.Headlines.Asks.{InputRequirement, is_elf, is_plan, is_cert, is_layout, is_object, is_source, is_script, are_cells, are_tasks, are_linked, are_linked_sources, is_cert_per_task, require_each, HoldsCells, HoldsTasks, IsGoodInput, IsBadInputWithLine, IsInputPresent, AreInputsPresent, IsFirstBadInput}
 use Rattle.tcd_driver.proofs.CellsReports.{cells_lawful}
 use Rattle.tcd_driver.proofs.TasksReports.{tasks_lawful}
 use Rattle.tcd_driver.proofs.Headlines.{Tells, bad_file, Means, held_as, is_bad, is_done, is_refused}
@@ -37,50 +37,50 @@ use Rattle.tcd_driver.proofs.Headlines.{Tells, bad_file, Means, held_as, is_bad,
 -- a file that is read in this form is good, bad or missing, as it is asked
 pub record IsAskedAs {A : Type 0} (form : FormSeen A) (m : FileMap) (name : List ℕ) (ask : InputRequirement) : Type 0 where
   pub good : (x : A) → HoldsInput form (Some m) name x → IsGoodInput m ask
-  pub bad : (line : List ℕ) → IsInputRejection form (Some m) name line → IsBadInputWith m ask line
+  pub bad : (line : List ℕ) → IsInputRejection form (Some m) name line → IsBadInputWithLine m ask line
   pub there : IsInputPresent m ask → HasFileOfName (Some m) name
 
 module _ (m : FileMap) (name : List ℕ) where
   pub elf_asked : IsAskedAs elf_form m name (is_elf name)
-  unfolding too_long_elf_line
+  unfolding elf_too_long_line
   elf_asked = record { good = λ x h. (x, held_as elf_form m name x h); bad = λ line h. bad_file elf_form m name line _ refl h; there = λ h. h }
 
   pub plan_asked : IsAskedAs plan_form m name (is_plan name)
-  unfolding too_long_plan_line
+  unfolding plan_too_long_line
   plan_asked = record { good = λ x h. (x, held_as plan_form m name x h); bad = λ line h. bad_file plan_form m name line _ refl h; there = λ h. h }
 
   pub cert_asked : IsAskedAs cert_form m name (is_cert name)
-  unfolding too_long_cert_line bad_cert_line line_end_at_one
+  unfolding cert_too_long_line bad_cert_line line_end_with_number
   cert_asked = record { good = λ x h. (x, held_as cert_form m name x h); bad = λ line h. bad_file cert_form m name line _ refl h; there = λ h. h }
 
   pub layout_asked : IsAskedAs layout_form m name (is_layout name)
-  unfolding too_long_layout_line
+  unfolding layout_too_long_line
   layout_asked = record { good = λ x h. (x, held_as layout_form m name x h); bad = λ line h. bad_file layout_form m name line _ refl h; there = λ h. h }
 
   pub object_asked : (place : ℕ) → IsAskedAs (object_form place) m name (is_object place name)
-  unfolding too_long_object_line bad_object_line line_end_at_one line_end_at_two
+  unfolding object_too_long_line bad_object_line line_end_with_number line_end_with_two_numbers
   object_asked place = record { good = λ x h. (x, held_as (object_form place) m name x h); bad = λ line h. bad_file (object_form place) m name line _ refl h; there = λ h. h }
 
   pub source_asked : IsAskedAs source_form m name (is_source 0 name)
-  unfolding too_long_source_line bad_source_line line_end_at_one line_end_at_two
+  unfolding source_too_long_line bad_source_line line_end_with_number line_end_with_two_numbers
   source_asked = record { good = λ x h. (x, held_as source_form m name x h); bad = λ line h. bad_file source_form m name line _ refl h; there = λ h. h }
 
-  pub placed_source_asked : (place : ℕ) → IsAskedAs (placed_source_form place) m name (is_source place name)
-  unfolding too_long_source_line bad_source_line line_end_at_one line_end_at_two
-  placed_source_asked place = record { good = λ x h. (x.object, record { bytes = h.0; held = h.1; short = h.2; form = (h.3).1 }); bad = λ line h. bad_file (placed_source_form place) m name line _ refl h; there = λ h. h }
+  pub placed_source_asked : (place : ℕ) → IsAskedAs (numbered_source_form place) m name (is_source place name)
+  unfolding source_too_long_line bad_source_line line_end_with_number line_end_with_two_numbers
+  placed_source_asked place = record { good = λ x h. (x.object, record { bytes = h.0; held = h.1; short = h.2; form = (h.3).1 }); bad = λ line h. bad_file (numbered_source_form place) m name line _ refl h; there = λ h. h }
 
   -- files of a plan
   module _ (plan_name : List ℕ) (p : PlanData) (plan : HoldsPlan m plan_name p) where
     pub script_asked : IsAskedAs (script_form p) m name (is_script plan_name name)
-    unfolding too_long_script_line
+    unfolding script_too_long_line
     script_asked = record { good = λ x h. (p, x, plan, held_as (script_form p) m name x h); bad = λ line h. (p, plan, bad_file (script_form p) m name line _ refl h); there = λ h. h }
 
     pub cells_asked : IsAskedAs (cells_form p) m name (are_cells plan_name name)
-    unfolding too_long_cells_line
+    unfolding cells_too_long_line
     cells_asked = record { good = λ x h. (p, x, plan, held_as (cells_form p) m name x h); bad = λ line h. (p, plan, bad_file (cells_form p) m name line _ refl h); there = λ h. h }
 
     pub tasks_asked : IsAskedAs (tasks_form p) m name (are_tasks plan_name name)
-    unfolding too_long_tasks_line
+    unfolding tasks_too_long_line
     tasks_asked = record { good = λ x h. (p, x, plan, held_as (tasks_form p) m name x h); bad = λ line h. (p, plan, bad_file (tasks_form p) m name line _ refl h); there = λ h. h }
 
 -- ---- one after another
@@ -109,7 +109,7 @@ module _ {m : FileMap} {D R : FileMap → FileMap → List ℕ → Type 0} where
 
   -- files of a list
   pub then_each : {A : Type 0} (form : ℕ → FormSeen A) (most : ℕ) (Is : List ℕ → A → Type 0) (ask : ℕ → List ℕ → InputRequirement) (asks : List InputRequirement) → Tells form most Is → ((place : ℕ) (name : List ℕ) → IsAskedAs (form place) m name (ask place name)) →
-      (place : ℕ) (names : List (List ℕ)) (next : List A → Reading) → ((xs : List A) → HoldEachFile m most Is names xs → Follows (next xs) m asks D R) → Follows (each A form place names next) m (require_each ask place names asks) D R
+      (place : ℕ) (names : List (List ℕ)) (next : List A → Reading) → ((xs : List A) → HoldEachFile m most Is names xs → Follows (next xs) m asks D R) → Follows (input_files A form place names next) m (require_each ask place names asks) D R
   then_each form most Is ask asks tells is place [] next rest = rest [] tt
   then_each form most Is ask asks tells is place (name ∷ names) next rest =
       then_input (is place name) (λ x h. then_each form most Is ask asks tells is (place + 1) names (λ xs. next (x ∷ xs)) (λ xs held. rest (x ∷ xs) (tells place m name x h, held)))
@@ -166,8 +166,8 @@ module _ (m : FileMap) (names : List (List ℕ)) where
   pub certs_one : (xs ys : List CertData) → HoldEachFile m (2 ^ 30) (λ bytes cert. certificate_of bytes ≡ Ok cert) names xs → HoldEachFile m (2 ^ 30) (λ bytes cert. certificate_of bytes ≡ Ok cert) names ys → xs ≡ ys
   certs_one = values_one m (2 ^ 30) (λ bytes cert. certificate_of bytes ≡ Ok cert) cert_lawful.one names
 
-  objects_one : (xs ys : List ObjectData) → HoldEachFile m (2 ^ 24) IsObjectText names xs → HoldEachFile m (2 ^ 24) IsObjectText names ys → xs ≡ ys
-  objects_one = values_one m (2 ^ 24) IsObjectText (object_lawful 0).one names
+  objects_one : (xs ys : List ObjectData) → HoldEachFile m (2 ^ 24) AreObjectBytes names xs → HoldEachFile m (2 ^ 24) AreObjectBytes names ys → xs ≡ ys
+  objects_one = values_one m (2 ^ 24) AreObjectBytes (object_lawful 0).one names
 
   pub sources_one : (xs ys : List SourceData) → HoldEachFile m (2 ^ 24) IsSourceText names xs → HoldEachFile m (2 ^ 24) IsSourceText names ys → xs ≡ ys
   sources_one = values_one m (2 ^ 24) IsSourceText (λ bytes x y h k. (placed_source_lawful 0).one bytes x y (h.text, h.object) (k.text, k.object)) names
@@ -180,7 +180,7 @@ file_apart m name most long Has HasFault line apart h (too_long bytes held above
     omega (arith, short, above)
 file_apart m name most long Has HasFault line apart h (faulty k) = apart k.bytes (subst Has (same_bytes (get m name) h.bytes k.bytes h.held k.held) h.form) k.form
 
-good_apart : (m : FileMap) (ask : InputRequirement) (line : List ℕ) → IsGoodInput m ask → IsBadInputWith m ask line → ⊥
+good_apart : (m : FileMap) (ask : InputRequirement) (line : List ℕ) → IsGoodInput m ask → IsBadInputWithLine m ask line → ⊥
 good_apart m (is_elf name) line good bad = file_apart m name (2 ^ 24) _ _ _ line (λ bytes h k. elf_lawful.apart bytes line good.0 h k) good.1 bad
 good_apart m (is_plan name) line good bad = file_apart m name (2 ^ 24) _ _ _ line (λ bytes h k. plan_lawful.apart bytes line good.0 h k) good.1 bad
 good_apart m (is_cert name) line good bad = file_apart m name (2 ^ 30) _ _ _ line (λ bytes h k. ok_err (certificate_of bytes) good.0 k.0 h k.1) good.1 bad

@@ -11,15 +11,15 @@ use Rattle.cfg_recover.specs.RulesHoldOrFail.{Accepts, IsFirstFault, certified_n
 use Rattle.cfg_recover.specs.CertRefusals.{IsRefusal}
 use Rattle.value_cells.specs.declared.cells.Cell.{Cell}
 use Rattle.value_cells.specs.Cells.{with_cells}
-use Rattle.value_cells.specs.Keeping.{IsRule16Fault}
+use Rattle.value_cells.specs.Keeping.{IsFirstRule16Fault}
 use Rattle.tcd_base.specs.Files.{FileMap}
 use Rattle.tcd_reading.specs.Reports.{Report}
 use Rattle.tcd_forms.specs.Lines.{refused_line, certified_cells_line}
 use Rattle.tcd_driver.specs.Cells as keeping
-use Rattle.tcd_driver.specs.Cells.{CellsNames, IsCellsVerdict}
+use Rattle.tcd_driver.specs.Cells.{CellsArgs, IsCellsVerdict}
 use Rattle.tcd_driver.specs.Cellcert as making
-use Rattle.tcd_driver.specs.Cellcert.{CellcertNames, IsCellcertReport}
-use Rattle.depth_maker.specs.Answers.{NoneAccepted}
+use Rattle.tcd_driver.specs.Cellcert.{CellcertArgs, IsCellcertReport}
+use Rattle.depth_maker.specs.Answers.{IsNoCertAccepted}
 use Rattle.tcd_driver.specs.Headlines.Cells.{AreCellFiles, certified_cells_line_text, HeadlineOfCells, RefusalByCells, HeadlineOfCellcert, NoneKeepsCellBounds, RefusalByCellcert}
 use Rattle.tcd_driver.proofs.Headlines.{is_written, accepted_of, least_of, Means, is_done, is_refused, means_as, refused_is}
 use Rattle.tcd_driver.specs.Headlines.{HoldsCert}
@@ -29,10 +29,10 @@ unfolding certified_cells_line
 cells_is need areas n = refl
 
 -- ---- cells
-module _ (names : CellsNames) (m : FileMap) (i : ImageData) (p : PlanData) (cs : List Cell) (c : CertData) (files : AreCellFiles m names.elf names.plan names.cells i p cs) (cert : HoldsCert m names.cert c) where
+module _ (names : CellsArgs) (m : FileMap) (i : ImageData) (p : PlanData) (cs : List Cell) (c : CertData) (files : AreCellFiles m names.elf names.plan names.cells i p cs) (cert : HoldsCert m names.cert c) where
   -- one of the two
   refusal_by_cells : (rule : ℕ) (key : Key) (addr : ℕ) →
-      IsFirstFault i (with_cells p cs) c rule key addr ⊎ ((rule ≡ 16) × Accepts i (with_cells p cs) c × IsRule16Fault i (with_cells p cs) cs c key addr)
+      IsFirstFault i (with_cells p cs) c rule key addr ⊎ ((rule ≡ 16) × Accepts i (with_cells p cs) c × IsFirstRule16Fault i (with_cells p cs) cs c key addr)
       → RefusalByCells names.elf names.plan names.cells names.cert m m (refused_line rule key addr)
   refusal_by_cells rule key addr fails = record {
     image = i;
@@ -66,10 +66,10 @@ module _ (names : CellsNames) (m : FileMap) (i : ImageData) (p : PlanData) (cs :
   }))
 
 -- ---- cellcert
-module _ (names : CellcertNames) (m : FileMap) (i : ImageData) (p : PlanData) (cs : List Cell) (files : AreCellFiles m names.elf names.plan names.cells i p cs) where
+module _ (names : CellcertArgs) (m : FileMap) (i : ImageData) (p : PlanData) (cs : List Cell) (files : AreCellFiles m names.elf names.plan names.cells i p cs) where
   -- one of the two
   refusal_by_cellcert : (rule : ℕ) (key : Key) (addr : ℕ) →
-      (NoneAccepted i (with_cells p cs) 2 × IsRefusal i (with_cells p cs) 2 rule key addr) ⊎ ((rule ≡ 16) × NoneKeepsCellBounds i p cs key addr)
+      (IsNoCertAccepted i (with_cells p cs) 2 × IsRefusal i (with_cells p cs) 2 rule key addr) ⊎ ((rule ≡ 16) × NoneKeepsCellBounds i p cs key addr)
       → RefusalByCellcert names.elf names.plan names.cells m m (refused_line rule key addr)
   refusal_by_cellcert rule key addr fails = record {
     image = i;

@@ -9,7 +9,7 @@ use Rattle.std.specs.Str.{bytes_eq}
 use Rattle.std.proofs.lemmas.Bool.{and_parts, or_parts, not-true}
 use Rattle.std.proofs.lemmas.List.Elements.{All-nil, All-cons, All-head, All-tail}
 use Rattle.std.proofs.lemmas.Slice.Eq.{bytes_eq-Decides}
-use Rattle.csa_chain.specs.SeveralChains.{sum_over_chains}
+use Rattle.csa_chain.specs.SeveralChains.{sum_of_first}
 use Rattle.elf_image.specs.Images.{ImageData}
 use Rattle.tcd_plan.specs.PlanData.{PlanData}
 use Rattle.depth_cert.specs.declared.keys.Key.{Key}
@@ -31,9 +31,9 @@ use Rattle.tcd_forms.specs.Lines.{certified_tasks_line, refused_switch_line, ref
 use Rattle.tcd_driver.specs.Headlines.Tasks.{certified_tasks_line_text, refused_sum_line_text, AreTaskFiles, IsAcceptedForTask, AreTasksSafeTogether, refused_switch_line_text, refused_task_line_text, HeadlineOfTasks, IsFirstRefusedTask, IsTasksFault, no_switch, refused_task, above, RefusalByTasks, HoldTaskCerts, IsLeastForTask, HeadlineOfTaskcert, NoCertForTask, unaccepted, not_apart, IsFirstTaskWithoutCert, IsTaskcertFault, switch_missing, without, sum_above, RefusalByTaskcert}
 use Rattle.tcd_driver.specs.DistinctNames.{are_distinct_names}
 use Rattle.tcd_driver.specs.Tasks as judging
-use Rattle.tcd_driver.specs.Tasks.{TasksNames, cert_of_task, IsTaskRefused, IsFirstRefusedTaskCert, IsTasksVerdict}
+use Rattle.tcd_driver.specs.Tasks.{TasksArgs, cert_of_task, IsTaskRefused, IsFirstRefusedTaskCert, IsTasksVerdict}
 use Rattle.tcd_driver.specs.Taskcert as making
-use Rattle.tcd_driver.specs.Taskcert.{TaskcertNames, AreLeastTaskCerts, HasNoTaskCert, IsFirstUncertifiedTask, cert_files, IsTaskcertReport, IsLeastTaskCert}
+use Rattle.tcd_driver.specs.Taskcert.{TaskcertArgs, AreLeastTaskCerts, HasNoTaskCert, IsFirstUncertifiedTask, cert_files, IsTaskcertReport, IsLeastTaskCert}
 use Rattle.tcd_driver.specs.Headlines.{HoldEachFile, refused_text}
 use Rattle.tcd_driver.proofs.Headlines.{Tells, refused_is, held_as, least_of, Means, is_done, is_refused, means_as}
 
@@ -52,7 +52,7 @@ accepted_for : (i : ImageData) (p : PlanData) (t : TasksData) (u : ℕ) (c : Cer
 accepted_for i p t u c h = record { accepted = h.accepted; apart = h.apart }
 
 safe_together : (i : ImageData) (p : PlanData) (t : TasksData) (cs : List CertData) → length cs ≡ count t → HasRoutine i p t → ((u : ℕ) → u < count t → IsSoundTaskCert i p t (cert_of_task cs u) u)
-    → sum_over_chains (count t) (need_of_task i p t (cert_of_task cs)) ≤ p.areas - p.reserve → SafeTasks i p t (need_of_task i p t (cert_of_task cs)) → AreTasksSafeTogether i p t cs (need_of_task i p t (cert_of_task cs))
+    → sum_of_first (count t) (need_of_task i p t (cert_of_task cs)) ≤ p.areas - p.reserve → SafeTasks i p t (need_of_task i p t (cert_of_task cs)) → AreTasksSafeTogether i p t cs (need_of_task i p t (cert_of_task cs))
 safe_together i p t cs many routine judged enough safe = record {
   as_many = many;
   routine = routine;
@@ -96,7 +96,7 @@ module _ (i : ImageData) (p : PlanData) (t : TasksData) (cs : List CertData) whe
   first_refused : (u rule : ℕ) (key : Key) (addr : ℕ) → IsFirstRefusedTaskCert i p t cs u rule key addr → IsFirstRefusedTask i p t cs u rule key addr
   first_refused u rule key addr h = record { task = h.task; before = λ w lt. accepted_for i p t w (cert_of_task cs w) (h.before w lt); fails = task_fails u rule key addr h.refused }
 
-module _ (names : TasksNames) (m : FileMap) (i : ImageData) (p : PlanData) (t : TasksData) (cs : List CertData) (files : AreTaskFiles m names.elf names.plan names.tasks i p t)
+module _ (names : TasksArgs) (m : FileMap) (i : ImageData) (p : PlanData) (t : TasksData) (cs : List CertData) (files : AreTaskFiles m names.elf names.plan names.tasks i p t)
     (certs : HoldEachFile m (2 ^ 30) (λ bytes cert. certificate_of bytes ≡ Ok cert) names.certs cs) (many : length cs ≡ count t) where
   -- what is told of it
   tasks_fault : (line : List ℕ) → IsTasksFault i p t cs line → RefusalByTasks names.elf names.plan names.tasks names.certs m m line
@@ -181,7 +181,7 @@ module _ (i : ImageData) (p : PlanData) (t : TasksData) where
     none = none_for u rule key addr h.uncertified;
   }
 
-module _ (names : TaskcertNames) (different : are_distinct_names names.certs ≡ true) (m : FileMap) (i : ImageData) (p : PlanData) (t : TasksData) (files : AreTaskFiles m names.elf names.plan names.tasks i p t)
+module _ (names : TaskcertArgs) (different : are_distinct_names names.certs ≡ true) (m : FileMap) (i : ImageData) (p : PlanData) (t : TasksData) (files : AreTaskFiles m names.elf names.plan names.tasks i p t)
     (many : length names.certs ≡ count t) where
   -- what is told of it
   taskcert_fault : (line : List ℕ) → IsTaskcertFault i p t line → RefusalByTaskcert names.elf names.plan names.tasks names.certs m m line

@@ -8,11 +8,11 @@ use Rattle.tcd_report.specs.Generated.{generated_image}
 use Rattle.tcd_report.specs.Generated.Planned.{generated_plan}
 use Rattle.tcd_base.specs.Files.{FileMap}
 use Rattle.tcd_reading.specs.Reports.{Report}
-use Rattle.tcd_forms.specs.Lines.{generated_line}
+use Rattle.tcd_forms.specs.Lines.{gen_line}
 use Rattle.tcd_driver.specs.Cfg as drawing
-use Rattle.tcd_driver.specs.Cfg.{CfgNames, IsCfgReport}
+use Rattle.tcd_driver.specs.Cfg.{CfgArgs, IsCfgReport}
 use Rattle.tcd_driver.specs.Reporting as reporting
-use Rattle.tcd_driver.specs.Reporting.{ReportNames, IsReportOrRefusal}
+use Rattle.tcd_driver.specs.Reporting.{ReportArgs, IsReportOrRefusal}
 use Rattle.tcd_driver.specs.Gen as generating
 use Rattle.tcd_driver.specs.Gen.{IsGenReport, IsGenFunctionCount}
 use Rattle.tcd_driver.specs.Headlines.{RefusalByCheck, RefusalByCert, AreCheckFiles, AreFirmwareFiles, HoldsImage}
@@ -22,7 +22,7 @@ use Rattle.tcd_driver.specs.Dis.{IsDisReport}
 use Rattle.tcd_driver.specs.Tool.{NeverRefuses}
 
 -- ---- cfg
-pub cfg_means : (names : CfgNames) (m : FileMap) (i : ImageData) (p : PlanData) (r : Report) → AreFirmwareFiles m names.elf names.plan i p → IsCfgReport i p r → Means m [] (HeadlineOfCfg names.elf names.plan) (RefusalByCert names.elf names.plan) r
+pub cfg_means : (names : CfgArgs) (m : FileMap) (i : ImageData) (p : PlanData) (r : Report) → AreFirmwareFiles m names.elf names.plan i p → IsCfgReport i p r → Means m [] (HeadlineOfCfg names.elf names.plan) (RefusalByCert names.elf names.plan) r
 cfg_means names m i p r files (drawing.refused rule key addr none e) = means_as e (is_refused refl refl (refusal_by_cert files rule key addr none))
 cfg_means names m i p r files (drawing.drawn text is e) = means_as e (is_done m refl refl (record {
   image = i;
@@ -39,7 +39,7 @@ cfg_means names m i p r files (drawing.drawn text is e) = means_as e (is_done m 
 }))
 
 -- ---- report
-pub report_means : (names : ReportNames) (m : FileMap) (i : ImageData) (p : PlanData) (c : CertData) (r : Report) → AreCheckFiles m names.elf names.plan names.cert i p c → IsReportOrRefusal i p c r →
+pub report_means : (names : ReportArgs) (m : FileMap) (i : ImageData) (p : PlanData) (c : CertData) (r : Report) → AreCheckFiles m names.elf names.plan names.cert i p c → IsReportOrRefusal i p c r →
     Means m [] (HeadlineOfReport names.elf names.plan names.cert) (RefusalByCheck names.elf names.plan names.cert) r
 report_means names m i p c r files (reporting.refused rule key addr first e) = means_as e (is_refused refl refl (refusal_by_check files rule key addr first))
 report_means names m i p c r files (reporting.reported text accepted safe is e) = means_as e (is_done m refl refl (record {
@@ -61,7 +61,7 @@ dis_means elf m i r file e = means_as e (is_done m refl refl (record { image = i
 
 -- ---- gen
 pub gen_means : (word : List ℕ) (n : ℕ) → IsGenFunctionCount word n → (m : FileMap) (r : Report) → IsGenReport n (generated_image n) generated_plan r → Means m [] (HeadlineOfGen word) (RefusalByGen word) r
-unfolding generated_line
+unfolding gen_line
 gen_means word n counted m r (generating.refused rule key addr none why e) = means_as e (is_refused refl refl (record {
   functions = n;
   rule = rule;

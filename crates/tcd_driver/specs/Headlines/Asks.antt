@@ -21,7 +21,7 @@ use Rattle.tcd_forms.specs.Forms.{IsSource, SourceData}
 use Rattle.tcd_forms.specs.Lines.{bad_link_line}
 use Rattle.tcd_driver.specs.BadInputLines.{IsNoImage, IsNoPlan, IsNoCert, IsNoScript, IsNoLayout, IsNoObject, AreNoCells, AreNoTasks, SourceBreaksRule}
 use Rattle.tcd_driver.specs.Headlines.{HoldsFile, IsBadFile, HoldsImage, HoldsPlan, HoldsCert, HoldEachFile}
-use Rattle.tcd_driver.specs.Headlines.Builds.{IsObjectText, HoldsLayout, AreLinkFiles, IsSourceText}
+use Rattle.tcd_driver.specs.Headlines.Builds.{AreObjectBytes, HoldsLayout, AreLinkFiles, IsSourceText}
 
 -- What a command asks of its input: that a file is in its form; that objects, or those of sources,
 -- are linked by a layout; that there is a certificate for each task. A turn script, cells and tasks
@@ -69,7 +69,7 @@ IsGoodInput m (is_elf name) = (image : ImageData) × HoldsImage m name image
 IsGoodInput m (is_plan name) = (plan : PlanData) × HoldsPlan m name plan
 IsGoodInput m (is_cert name) = (cert : CertData) × HoldsCert m name cert
 IsGoodInput m (is_layout name) = (layout : LayoutData) × HoldsLayout m name layout
-IsGoodInput m (is_object place name) = (object : ObjectData) × HoldsFile m name (2 ^ 24) (λ bytes. IsObjectText bytes object)
+IsGoodInput m (is_object place name) = (object : ObjectData) × HoldsFile m name (2 ^ 24) (λ bytes. AreObjectBytes bytes object)
 IsGoodInput m (is_source place name) = (object : ObjectData) × HoldsFile m name (2 ^ 24) (λ bytes. IsSource bytes object)
 IsGoodInput m (is_script plan_name name) = (plan : PlanData) × (script : ScriptData) × HoldsPlan m plan_name plan × HoldsScript m name plan script
 IsGoodInput m (are_cells plan_name name) = (plan : PlanData) × (list : List Cell) × HoldsPlan m plan_name plan × HoldsCells m name plan list
@@ -85,26 +85,26 @@ IsGoodInput m (is_cert_per_task plan_name tasks_name names) =
 
 -- a command's input fails this requirement, and this line says why: a bad file, objects that can't
 -- be linked, or a wrong number of certificates
-abbrev pub IsBadInputWith : FileMap → InputRequirement → List ℕ → Type 0
-IsBadInputWith m (is_elf name) line = IsBadFile m name (2 ^ 24) (codes "bad elf 0" ++ 10 ∷ []) IsNoImage line
-IsBadInputWith m (is_plan name) line = IsBadFile m name (2 ^ 24) (codes "bad plan 0" ++ 10 ∷ []) IsNoPlan line
-IsBadInputWith m (is_cert name) line = IsBadFile m name (2 ^ 30) (codes "bad cert 0" ++ 10 ∷ []) IsNoCert line
-IsBadInputWith m (is_layout name) line = IsBadFile m name (2 ^ 24) (codes "bad layout 0" ++ 10 ∷ []) IsNoLayout line
-IsBadInputWith m (is_object place name) line = IsBadFile m name (2 ^ 24) (codes "bad object 0 at " ++ (decimal place ++ 10 ∷ [])) (IsNoObject place) line
-IsBadInputWith m (is_source place name) line = IsBadFile m name (2 ^ 24) (codes "bad source 0 at " ++ (decimal place ++ 10 ∷ [])) (SourceBreaksRule place) line
-IsBadInputWith m (is_script plan_name name) line =
+abbrev pub IsBadInputWithLine : FileMap → InputRequirement → List ℕ → Type 0
+IsBadInputWithLine m (is_elf name) line = IsBadFile m name (2 ^ 24) (codes "bad elf 0" ++ 10 ∷ []) IsNoImage line
+IsBadInputWithLine m (is_plan name) line = IsBadFile m name (2 ^ 24) (codes "bad plan 0" ++ 10 ∷ []) IsNoPlan line
+IsBadInputWithLine m (is_cert name) line = IsBadFile m name (2 ^ 30) (codes "bad cert 0" ++ 10 ∷ []) IsNoCert line
+IsBadInputWithLine m (is_layout name) line = IsBadFile m name (2 ^ 24) (codes "bad layout 0" ++ 10 ∷ []) IsNoLayout line
+IsBadInputWithLine m (is_object place name) line = IsBadFile m name (2 ^ 24) (codes "bad object 0 at " ++ (decimal place ++ 10 ∷ [])) (IsNoObject place) line
+IsBadInputWithLine m (is_source place name) line = IsBadFile m name (2 ^ 24) (codes "bad source 0 at " ++ (decimal place ++ 10 ∷ [])) (SourceBreaksRule place) line
+IsBadInputWithLine m (is_script plan_name name) line =
     (plan : PlanData) × HoldsPlan m plan_name plan × IsBadFile m name (2 ^ 24) (codes "bad script 0" ++ 10 ∷ []) (IsNoScript plan) line
-IsBadInputWith m (are_cells plan_name name) line =
+IsBadInputWithLine m (are_cells plan_name name) line =
     (plan : PlanData) × HoldsPlan m plan_name plan × IsBadFile m name (2 ^ 24) (codes "bad cells 0" ++ 10 ∷ []) (AreNoCells plan) line
-IsBadInputWith m (are_tasks plan_name name) line =
+IsBadInputWithLine m (are_tasks plan_name name) line =
     (plan : PlanData) × HoldsPlan m plan_name plan × IsBadFile m name (2 ^ 24) (codes "bad tasks 0" ++ 10 ∷ []) (AreNoTasks plan) line
-IsBadInputWith m (are_linked layout_name names) line =
+IsBadInputWithLine m (are_linked layout_name names) line =
     (layout : LayoutData) × (objects : List ObjectData) × (why : Refusal) × AreLinkFiles m layout_name names layout objects
     × (image_of_objects objects layout ≡ Err why) × (line ≡ bad_link_line why)
-IsBadInputWith m (are_linked_sources layout_name names) line =
+IsBadInputWithLine m (are_linked_sources layout_name names) line =
     (layout : LayoutData) × (sources : List SourceData) × (why : Refusal) × HoldLayoutAndSources m layout_name names layout sources
     × (image_of_objects (map (λ source. source.object) sources) layout ≡ Err why) × (line ≡ bad_link_line why)
-IsBadInputWith m (is_cert_per_task plan_name tasks_name names) line =
+IsBadInputWithLine m (is_cert_per_task plan_name tasks_name names) line =
     (plan : PlanData) × (list : TasksData) × HoldsPlan m plan_name plan × HoldsTasks m tasks_name plan list × (length names ≢ count list)
     × (line ≡ codes "bad tasks 7" ++ 10 ∷ [])
 
@@ -129,7 +129,7 @@ AreInputsPresent m (ask ∷ asks) = IsInputPresent m ask × AreInputsPresent m a
 -- one of a command's requirements fails, and this line says why; all before it are met
 abbrev pub IsFirstBadInput : FileMap → List InputRequirement → List ℕ → Type 0
 IsFirstBadInput m [] line = ⊥
-IsFirstBadInput m (ask ∷ asks) line = IsBadInputWith m ask line ⊎ (IsGoodInput m ask × IsFirstBadInput m asks line)
+IsFirstBadInput m (ask ∷ asks) line = IsBadInputWithLine m ask line ⊎ (IsGoodInput m ask × IsFirstBadInput m asks line)
 
 -- A command finds its input bad: the line is on the first of what it asks that isn't so, and all
 -- that was held stays.

@@ -31,8 +31,8 @@ pub record HeadlineOfAsm (source_name object_name : List ℕ) (before after : Fi
 
 -- ---- link
 -- the bytes of a file that `link` reads are this object
-abbrev pub IsObjectText : List ℕ → ObjectData → Type 0
-IsObjectText bytes object = object_of bytes ≡ Ok object
+abbrev pub AreObjectBytes : List ℕ → ObjectData → Type 0
+AreObjectBytes bytes object = object_of bytes ≡ Ok object
 
 -- the name holds this layout, by which `link` or `ship` builds an image
 abbrev pub HoldsLayout : FileMap → List ℕ → LayoutData → Type 0
@@ -41,7 +41,7 @@ HoldsLayout m name layout = HoldsFile m name (2 ^ 24) (λ bytes. layout_of bytes
 -- the files that `link` reads: the names hold this layout and these objects
 pub record AreLinkFiles (before : FileMap) (layout_name : List ℕ) (object_names : List (List ℕ)) (layout : LayoutData) (objects : List ObjectData) : Type 0 where
   pub layout_file : HoldsLayout before layout_name layout
-  pub object_files : HoldEachFile before (2 ^ 24) IsObjectText object_names objects
+  pub object_files : HoldEachFile before (2 ^ 24) AreObjectBytes object_names objects
 
 -- `link` is done: ELF now holds the bytes of the image that the objects are linked to by the
 -- layout.

@@ -11,12 +11,12 @@ use Rattle.cfg_recover.specs.RulesHoldOrFail.{Accepts, IsFirstFault}
 use Rattle.cfg_recover.specs.CertRefusals.{IsRefusal}
 use Rattle.value_cells.specs.declared.cells.Cell.{Cell}
 use Rattle.value_cells.specs.Cells.{with_cells}
-use Rattle.value_cells.specs.Keeping.{KeepsCells, IsRule16Fault}
+use Rattle.value_cells.specs.Keeping.{CertKeepsCells, IsFirstRule16Fault}
 use Rattle.value_cells.specs.CellListText.{IsResultOfCellText}
 use Rattle.value_cells.specs.Safe.{SafeWithCells}
 use Rattle.tcd_base.specs.Files.{FileMap}
 use Rattle.tcd_driver.specs.Headlines.{HoldsFile, AreFirmwareFiles, HoldsCert, IsOnlyFileWritten, IsAcceptedWithNeed, refused_line_text}
-use Rattle.depth_maker.specs.Answers.{NoneAccepted}
+use Rattle.depth_maker.specs.Answers.{IsNoCertAccepted}
 use Rattle.tcd_driver.specs.BestCert.{IsLeastOfItsFormat}
 
 -- the files that `cells` and `cellcert` read first: the names hold an executable, a plan, and its
@@ -30,7 +30,7 @@ pub record AreCellFiles (before : FileMap) (elf_name plan_name cells_name : List
 -- each cell starts in its bounds, and each cell stays in them.
 pub record AreCellsKeptWithNeed (image : ImageData) (plan : PlanData) (list : List Cell) (cert : CertData) (need : ℕ) : Type 0 where
   pub accepted : IsAcceptedWithNeed image (with_cells plan list) cert need
-  pub keeps : KeepsCells image (with_cells plan list) list cert
+  pub keeps : CertKeepsCells image (with_cells plan list) list cert
   pub safe : SafeWithCells image plan list need
 
 -- the line in the headlines of `cells` and `cellcert`: the need, the areas without the reserve, and
@@ -66,7 +66,7 @@ pub record RefusalByCells (elf_name plan_name cells_name cert_name : List ℕ) (
   pub cert_file : HoldsCert before cert_name cert
   pub fails :
       IsFirstFault image (with_cells plan list) cert rule frame address
-      ⊎ ((rule ≡ 16) × Accepts image (with_cells plan list) cert × IsRule16Fault image (with_cells plan list) list cert frame address)
+      ⊎ ((rule ≡ 16) × Accepts image (with_cells plan list) cert × IsFirstRule16Fault image (with_cells plan list) list cert frame address)
   pub prints : printed ≡ refused_line_text rule frame address
   pub stays : after ≡ before
 
@@ -89,12 +89,12 @@ pub record HeadlineOfCellcert (elf_name plan_name cells_name cert_name : List �
 -- in the headline of a refusal by `cellcert`: by each accepted certificate of format 2 a store may
 -- leave a cell's bounds, and here is the first such store by the least one
 pub record NoneKeepsCellBounds (image : ImageData) (plan : PlanData) (list : List Cell) (frame : Key) (address : ℕ) : Type 0 where
-  pub each : (other : CertData) → IsCert other → other.version ≡ 2 → Accepts image (with_cells plan list) other → KeepsCells image (with_cells plan list) list other → ⊥
+  pub each : (other : CertData) → IsCert other → other.version ≡ 2 → Accepts image (with_cells plan list) other → CertKeepsCells image (with_cells plan list) list other → ⊥
   pub cert : CertData
   pub version : cert.version ≡ 2
   pub accepted : Accepts image (with_cells plan list) cert
   pub least : IsLeastOfItsFormat image (with_cells plan list) cert
-  pub first : IsRule16Fault image (with_cells plan list) list cert frame address
+  pub first : IsFirstRule16Fault image (with_cells plan list) list cert frame address
 
 -- `cellcert` refuses: no certificate of format 2 is accepted, and this is why. Or none that is
 -- accepted keeps the cells' bounds (K16).
@@ -107,7 +107,7 @@ pub record RefusalByCellcert (elf_name plan_name cells_name : List ℕ) (before 
   pub address : ℕ
   pub files : AreCellFiles before elf_name plan_name cells_name image plan list
   pub fails :
-      (NoneAccepted image (with_cells plan list) 2 × IsRefusal image (with_cells plan list) 2 rule frame address)
+      (IsNoCertAccepted image (with_cells plan list) 2 × IsRefusal image (with_cells plan list) 2 rule frame address)
       ⊎ ((rule ≡ 16) × NoneKeepsCellBounds image plan list frame address)
   pub prints : printed ≡ refused_line_text rule frame address
   pub stays : after ≡ before

@@ -16,7 +16,7 @@ use Rattle.tcd_report.specs.Generated.{generated_image}
 use Rattle.tcd_report.specs.Generated.Planned.{generated_plan}
 use Rattle.tcd_base.specs.Files.{FileMap}
 use Rattle.tcd_driver.specs.Headlines.{HoldsImage, AreFirmwareFiles, AreCheckFiles, IsAcceptedWithNeed, IsBestWithNeed, refused_line_text}
-use Rattle.depth_maker.specs.Answers.{NoneAccepted}
+use Rattle.depth_maker.specs.Answers.{IsNoCertAccepted}
 use Rattle.tcd_driver.specs.BestCert.{IsLeastOfItsFormat}
 use Rattle.tcd_driver.specs.Gen.{IsGenFunctionCount}
 use Rattle.depth_cert.specs.declared.keys.Key.{Key}
@@ -96,7 +96,7 @@ pub record RefusalByGen (word : List ℕ) (before after : FileMap) (printed : Li
   pub frame : Key
   pub address : ℕ
   pub counted : IsGenFunctionCount word functions
-  pub none : NoneAccepted (generated_image functions) generated_plan 1
+  pub none : IsNoCertAccepted (generated_image functions) generated_plan 1
   pub why : IsRefusal (generated_image functions) generated_plan 1 rule frame address
   pub prints : printed ≡ refused_line_text rule frame address
   pub stays : after ≡ before

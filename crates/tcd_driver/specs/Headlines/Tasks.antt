@@ -2,7 +2,7 @@
 use Rattle.std.specs.Prelude.{◌≡◌, ◌≢◌, ◌≤◌, ◌<◌, ◌-◌, ◌^◌, ◌⊎◌, ℕ, List, ◌∷◌, ◌++◌, codes, length, All, Ok, Some, []}
 use Rattle.std.specs.Fmt.{decimal}
 use Rattle.std.specs.FinMap.{get}
-use Rattle.csa_chain.specs.SeveralChains.{sum_over_chains}
+use Rattle.csa_chain.specs.SeveralChains.{sum_of_first}
 use Rattle.elf_image.specs.Images.{ImageData}
 use Rattle.tcd_plan.specs.PlanData.{PlanData}
 use Rattle.tcd_text.specs.HexNumbers.{hex_word}
@@ -22,7 +22,7 @@ use Rattle.task_chains.specs.SafeTasks.{SafeTasks, need_of_task}
 use Rattle.tcd_base.specs.Files.{FileMap}
 use Rattle.tcd_driver.specs.Tasks.{cert_of_task}
 use Rattle.tcd_driver.specs.Headlines.{HoldsFile, AreFirmwareFiles, HoldEachFile, refused_text}
-use Rattle.depth_maker.specs.Answers.{NoneAccepted}
+use Rattle.depth_maker.specs.Answers.{IsNoCertAccepted}
 use Rattle.tcd_driver.specs.BestCert.{IsLeastOfItsFormat}
 
 -- the files that `tasks` and `taskcert` read first: the names hold an executable, a plan, and its
@@ -45,12 +45,12 @@ pub record AreTasksSafeTogether (image : ImageData) (plan : PlanData) (list : Ta
   pub routine : HasRoutine image plan list
   pub each : (u : ℕ) → u < count list → IsAcceptedForTask image plan list u (cert_of_task certs u)
   pub needs_are : (u : ℕ) → needs u ≡ need_of_task image plan list (cert_of_task certs) u
-  pub enough : sum_over_chains (count list) needs ≤ plan.areas - plan.reserve
+  pub enough : sum_of_first (count list) needs ≤ plan.areas - plan.reserve
   pub safe : SafeTasks image plan list needs
 
 -- in the headlines of tasks: the sum of the certificates' needs
 abbrev pub sum_of_task_needs : ImageData → PlanData → TasksData → List CertData → ℕ
-sum_of_task_needs image plan list certs = sum_over_chains (count list) (need_of_task image plan list (cert_of_task certs))
+sum_of_task_needs image plan list certs = sum_of_first (count list) (need_of_task image plan list (cert_of_task certs))
 
 -- in the headlines of tasks: the line of an image without the switch routine, with the first
 -- address that differs
@@ -83,7 +83,7 @@ pub record HeadlineOfTasks (elf_name plan_name tasks_name : List ℕ) (cert_name
   pub files : AreTaskFiles before elf_name plan_name tasks_name image plan list
   pub cert_files : HoldEachFile before (2 ^ 30) (λ bytes cert. certificate_of bytes ≡ Ok cert) cert_names certs
   pub together : AreTasksSafeTogether image plan list certs needs
-  pub prints : printed ≡ certified_tasks_line_text (sum_over_chains (count list) needs) (plan.areas - plan.reserve) (count list)
+  pub prints : printed ≡ certified_tasks_line_text (sum_of_first (count list) needs) (plan.areas - plan.reserve) (count list)
   pub stays : after ≡ before
 
 -- Task u is the first whose certificate is refused. It isn't accepted for the task's view, and this
@@ -149,12 +149,12 @@ pub record HeadlineOfTaskcert (elf_name plan_name tasks_name : List ℕ) (cert_n
   pub least : (u : ℕ) → u < count list → IsLeastForTask image plan list u (cert_of_task certs u)
   pub written : HoldTaskCerts after cert_names certs
   pub others : (other : List ℕ) → All (λ name. other ≢ name) cert_names → get after other ≡ get before other
-  pub prints : printed ≡ certified_tasks_line_text (sum_over_chains (count list) needs) (plan.areas - plan.reserve) (count list)
+  pub prints : printed ≡ certified_tasks_line_text (sum_of_first (count list) needs) (plan.areas - plan.reserve) (count list)
 
 -- In the headlines of tasks: no certificate of format 2 is accepted for the view, for this reason;
 -- or each accepted one fails K17, and here the least one fails it.
 pub data NoCertForTask (view : ImageData) (plan : PlanData) (list : TasksData) : ℕ → Key → ℕ → Type 0 where
-  unaccepted : (rule : ℕ) (frame : Key) (address : ℕ) → NoneAccepted view plan 2 → IsRefusal view plan 2 rule frame address → NoCertForTask view plan list rule frame address
+  unaccepted : (rule : ℕ) (frame : Key) (address : ℕ) → IsNoCertAccepted view plan 2 → IsRefusal view plan 2 rule frame address → NoCertForTask view plan list rule frame address
   not_apart :
       (cert : CertData) (frame : Key) (address : ℕ) → ((other : CertData) → IsCert other → other.version ≡ 2 → Accepts view plan other → KeepsRule17 view plan list other → ⊥)
       → cert.version ≡ 2 → Accepts view plan cert → IsLeastOfItsFormat view plan cert → IsRule17Fault view plan list cert frame address → NoCertForTask view plan list 17 frame address

@@ -2,7 +2,7 @@
 ghost use Rattle.std.specs.Prelude.{◌≤◌, length, map, string_bytes};
 ghost use Rattle.tc_object.specs.Objects.{ObjectData};
 ghost use Rattle.tcd_forms.specs.Forms.{object_form};
-ghost use Rattle.tcd_reading.specs.Inputs.{each, answer};
+ghost use Rattle.tcd_reading.specs.Inputs.{input_files, answer};
 ghost use Rattle.tcd_driver.specs.Link.{IsLinkReport, WritesImage, link_reading};
 ghost use Rattle.tcd_reading.specs.Outcomes.{IsCommandOutcome, IsReportOutcome};
 
@@ -48,7 +48,7 @@ fn link_object_files<F: Files>(
 ) -> Outcome
     requires { length objects.now ≤ 65535 }
     ensures { IsCommandOutcome
-        (each ObjectData object_form 0 (map string_bytes objects.now)
+        (input_files ObjectData object_form 0 (map string_bytes objects.now)
         (λ os. answer (IsLinkReport name.now layout.now os)))
         (F.seen files.old) (F.seen files.new) result }
 {

@@ -1,9 +1,9 @@
 // The command `ship`.
 ghost use Rattle.std.specs.Prelude.{◌≡◌, ◌≤◌, IfOk, List, length, map, string_bytes};
-ghost use Rattle.tcd_forms.specs.Forms.{SourceData, placed_source_form};
-ghost use Rattle.tcd_reading.specs.Inputs.{each, answer};
+ghost use Rattle.tcd_forms.specs.Forms.{SourceData, numbered_source_form};
+ghost use Rattle.tcd_reading.specs.Inputs.{input_files, answer};
 ghost use Rattle.tcd_reading.specs.Outcomes.{IsCommandOutcome, IsReportOutcome};
-ghost use Rattle.tcd_driver.specs.Ship.{AreSourcesOfObjects, IsImageShipReport, IsShipmentReport, ship_names, ship_reading};
+ghost use Rattle.tcd_driver.specs.Ship.{AreSourcesOfObjects, IsShipReportOnImage, IsShipmentReport, ship_args, ship_reading};
 
 use crate::cert_making::{make_best_cert, report_no_cert};
 use elf_image::Image;
@@ -30,7 +30,7 @@ pub(crate) struct Shipment<'a> {
 #[inline(never)]
 pub(crate) fn ship_files<F: Files>(alloc: Global, names: &Shipment<'_>, files: &mut F) -> Outcome
     requires { length names.now.sources.now ≤ 65535 }
-    ensures { IsCommandOutcome (ship_reading (ship_names names.now)) (F.seen files.old)
+    ensures { IsCommandOutcome (ship_reading (ship_args names.now)) (F.seen files.old)
         (F.seen files.new)
         result }
 {
@@ -50,7 +50,7 @@ fn ship_sources<F: Files>(
 ) -> Outcome
     requires { length names.now.sources.now ≤ 65535 }
     ensures { IsCommandOutcome
-        (each SourceData placed_source_form 0 (map string_bytes names.now.sources.now)
+        (input_files SourceData numbered_source_form 0 (map string_bytes names.now.sources.now)
         (λ ss. answer (IsShipmentReport names.now plan.now layout.now ss)))
         (F.seen files.old) (F.seen files.new) result }
 {
@@ -91,7 +91,7 @@ fn ship_objects(
 // none is accepted.
 fn ship_image(alloc: Global, names: &Shipment<'_>, plan: &Plan, image: &Image) -> Outcome
     ensures { IsReportOutcome
-        (IsImageShipReport names.now.elf.now names.now.cert.now plan.now image.now) ⊥
+        (IsShipReportOnImage names.now.elf.now names.now.cert.now plan.now image.now) ⊥
         result }
 {
     let bytes = match image.write(alloc) {

@@ -3,7 +3,7 @@ ghost use Rattle.std.specs.Prelude.{◌≡◌, ◌<◌, ◌++◌, ◌∷◌, [],
 ghost use Rattle.task_chains.specs.Tasks.{count};
 ghost use Rattle.task_chains.specs.Views.{FitPlan};
 ghost use Rattle.tcd_reading.specs.Outcomes.{IsCommandOutcome, IsReportOutcome};
-ghost use Rattle.tcd_driver.specs.Taskcert.{IsTaskcertReport, MakesTaskViewCert, MakesTaskCert, MakesAllTaskCerts, taskcert_reading};
+ghost use Rattle.tcd_driver.specs.Taskcert.{IsTaskcertReport, IsTaskViewCertOrErr, IsTaskCertOrErr, AreTaskCertsOrErr, taskcert_reading};
 
 use crate::cell_and_task_files::TasksFile;
 use crate::cert_making::make_least_cert;
@@ -102,7 +102,7 @@ fn make_each_task_cert(
 ) -> Result<(Vec<Write>, u64), (usize, MakeErr)>
     requires fit { FitPlan plan.now tasks.now }
     requires many { length names.now ≡ count tasks.now }
-    ensures { MakesAllTaskCerts (map string_bytes names.now) image.now plan.now tasks.now result }
+    ensures { AreTaskCertsOrErr (map string_bytes names.now) image.now plan.now tasks.now result }
 {
     // What holds of all tasks is known after they are read.
     let _switch = tasks.switch;
@@ -133,7 +133,7 @@ fn make_task_cert(
 ) -> Result<(Cert, u32), MakeErr>
     requires task { u < count tasks.now }
     requires fit { FitPlan plan.now tasks.now }
-    ensures { MakesTaskCert image.now plan.now tasks.now u result }
+    ensures { IsTaskCertOrErr image.now plan.now tasks.now u result }
 {
     // What holds of plans and tasks is known after they are read.
     let _areas = plan.areas;
@@ -164,7 +164,7 @@ fn make_task_view_cert(
     plan: &Plan,
     tasks: &Tasks,
 ) -> Result<(Cert, u32), MakeErr>
-    ensures { MakesTaskViewCert view.now plan.now tasks.now result }
+    ensures { IsTaskViewCertOrErr view.now plan.now tasks.now result }
 {
     // What holds of every plan is known after it is read.
     let _areas = plan.areas;

@@ -4,9 +4,9 @@ ghost use Rattle.depth_cert.specs.Certs.{CertData};
 ghost use Rattle.task_chains.specs.Tasks.{count};
 ghost use Rattle.task_chains.specs.Views.{FitPlan};
 ghost use Rattle.tcd_forms.specs.Forms.{cert_form};
-ghost use Rattle.tcd_reading.specs.Inputs.{each, answer};
+ghost use Rattle.tcd_reading.specs.Inputs.{input_files, answer};
 ghost use Rattle.tcd_reading.specs.Outcomes.{IsCommandOutcome, IsReportOutcome};
-ghost use Rattle.tcd_reading.specs.Reports.{says};
+ghost use Rattle.tcd_reading.specs.Reports.{text_report};
 ghost use Rattle.tcd_reading.specs.declared.status.Status.TheVariants.{BadInput};
 ghost use Rattle.task_chains.specs.declared.task_lists.TasksErr.TheVariants.{Count};
 ghost use Rattle.tcd_driver.specs.BadInputLines.{bad_tasks_line};
@@ -77,7 +77,7 @@ pub(crate) fn counted_task_need(u: usize, need: u32) -> u32
 
 /// Reports bad input: `tasks` or `taskcert` names more or fewer certificates than there are tasks.
 pub(crate) fn report_wrong_cert_count(alloc: Global) -> Outcome
-    ensures { IsReportOutcome (λ r. r ≡ says BadInput (bad_tasks_line Count)) ⊥ result }
+    ensures { IsReportOutcome (λ r. r ≡ text_report BadInput (bad_tasks_line Count)) ⊥ result }
 {
     let line = bad_tasks_line(alloc, TasksErr::Count)?;
     Ok(Report::of(alloc, Status::BadInput, line))
@@ -117,7 +117,7 @@ fn verdict_on_cert_files<F: Files>(
     requires fit { FitPlan plan.now tasks.now }
     requires many { length names.now ≡ count tasks.now }
     ensures { IsCommandOutcome
-        (each CertData (λ _. cert_form) 0 (map string_bytes names.now)
+        (input_files CertData (λ _. cert_form) 0 (map string_bytes names.now)
         (λ cs. answer (IsTasksVerdict image.now plan.now tasks.now cs)))
         (F.seen files.old) (F.seen files.new) result }
 {

@@ -7,13 +7,13 @@ use Rattle.tcd_plan.specs.PlanData.{PlanData}
 use Rattle.tc_isa.specs.declared.shapes.Target.{Target}
 use Rattle.tc_isa.specs.declared.shapes.Shape.{Shape}
 use Rattle.tc_isa.specs.declared.shapes.Shape.TheVariants.{Call, Syscall}
-use Rattle.tc_machine.specs.Instructions.{machine_address_ahead}
+use Rattle.tc_machine.specs.Instructions.{wrapping_sum}
 use Rattle.value_domain.specs.declared.states.State.{State}
 use Rattle.value_domain.specs.Limits.{Limits}
 use Rattle.vd_transfer.specs.Branches.{state_if_possible}
 use Rattle.depth_cert.specs.declared.keys.Key.{Key}
 use Rattle.depth_cert.specs.Certs.{CertData}
-use Rattle.cfg_recover.specs.Entries.{call_key, irq_entry, irq_key, irqs_of, entered_key}
+use Rattle.cfg_recover.specs.Entries.{call_key, irq_entry, irq_key, possible_irqs_of, entered_key}
 use Rattle.tcd_report.specs.Graphs.KnownHandlers.{irq_entry_vectors}
 use Rattle.cfg_recover.specs.LocalRules.{targets_of}
 use Rattle.cfg_recover.specs.Duties.{Owed, owed, jump, enter, resume, jump_on, jumps_to, successor_duties_of, entry_duties_of, may_be_misaligned, misaligned_entry, misaligned_duties_of, interrupt_duties_of, exit_duties_of, duties_of, keys_entered_by_duty, entered_keys}
@@ -77,9 +77,9 @@ called_keys plan key p s shape n = refl
 
 -- ---- returns of entered frames
 returns_are : (cert : CertData) (plan : PlanData) (key : Key) (p : ℕ) (s : State) (shape : Shape) (n : ℕ)
-    → return_addresses_of cert (entry_duties_of plan key p s shape n) ≡ return_addresses_after cert (machine_address_ahead p n) (entered_keys (entry_duties_of plan key p s shape n))
+    → return_addresses_of cert (entry_duties_of plan key p s shape n) ≡ return_addresses_after cert (wrapping_sum p n) (entered_keys (entry_duties_of plan key p s shape n))
 returns_are cert plan key p s (Call to) n =
-    let q = machine_address_ahead p n in
+    let q = wrapping_sum p n in
     let g : ℕ → List ℕ = λ t. return_address_of_duty cert (resume (call_key key t) q) in
     calls_are (λ d. return_address_of_duty cert d.duty) g plan key p s to n (λ t. append-nil (g t))
     ∙ sym (
@@ -149,21 +149,21 @@ module _ (b : Limits) (image : ImageData) (plan : PlanData) (cert : CertData) (k
       (interrupts_none g (λ k t. refl) plan key s) (leavings_none g (λ x. refl) (λ x. refl) key s shape)
       ∙ append-nil (x ++ []) ∙ append-nil x
 
-  pub interrupts_told : entries_by_rule 11 (duties_of b image plan key p s shape n) ≡ irq_entry_vectors plan (irqs_of plan s)
+  pub interrupts_told : entries_by_rule 11 (duties_of b image plan key p s shape n) ≡ irq_entry_vectors plan (possible_irqs_of plan s)
   unfolding succ ent acc irqs left duties_of entry_in
   interrupts_told =
       let g : Owed → List ℕ = entry_in 11 in
-      let y : List ℕ = irq_entry_vectors plan (irqs_of plan s) in
+      let y : List ℕ = irq_entry_vectors plan (possible_irqs_of plan s) in
       parts g succ ent acc irqs left [] [] [] y [] (successors_none g (λ q t. refl) b image plan p s shape n) (entries_none g (λ k t. refl) (λ k t. refl) (λ k q. refl) plan key p s shape n) (misaligned_none g (λ k t. refl) b plan key s shape)
-      (flat_mapped g (λ i. owed 11 (enter (irq_key plan i) (irq_entry plan key s i))) (λ i. (irq_key plan i).entry ∷ []) (λ i. refl) (irqs_of plan s) ∙ flat_each (λ i. (irq_key plan i).entry) (irqs_of plan s))
+      (flat_mapped g (λ i. owed 11 (enter (irq_key plan i) (irq_entry plan key s i))) (λ i. (irq_key plan i).entry ∷ []) (λ i. refl) (possible_irqs_of plan s) ∙ flat_each (λ i. (irq_key plan i).entry) (possible_irqs_of plan s))
       (leavings_none g (λ x. refl) (λ x. refl) key s shape)
       ∙ append-nil y
 
-  pub returns_told : return_addresses_of cert (duties_of b image plan key p s shape n) ≡ return_addresses_after cert (machine_address_ahead p n) (entered_keys (entry_duties_of plan key p s shape n))
+  pub returns_told : return_addresses_of cert (duties_of b image plan key p s shape n) ≡ return_addresses_after cert (wrapping_sum p n) (entered_keys (entry_duties_of plan key p s shape n))
   unfolding succ ent acc irqs left duties_of
   returns_told =
       let g : Owed → List ℕ = λ d. return_address_of_duty cert d.duty in
-      let w : List ℕ = return_addresses_after cert (machine_address_ahead p n) (entered_keys ent) in
+      let w : List ℕ = return_addresses_after cert (wrapping_sum p n) (entered_keys ent) in
       parts g succ ent acc irqs left [] w [] [] [] (successors_none g (λ q t. refl) b image plan p s shape n) (returns_are cert plan key p s shape n) (misaligned_none g (λ k t. refl) b plan key s shape)
       (interrupts_none g (λ k t. refl) plan key s) (leavings_none g (λ x. refl) (λ x. refl) key s shape)
       ∙ append-nil (w ++ [] ++ []) ∙ append-nil (w ++ []) ∙ append-nil w

@@ -16,7 +16,7 @@ use Rattle.tc_machine.specs.declared.events.Cause.TheVariants.{NoCode}
 use Rattle.tc_machine.specs.declared.events.Event.{Event}
 use Rattle.tc_machine.specs.declared.state.Machine.{Machine}
 use Rattle.tc_machine.specs.Machine.{IsMachine}
-use Rattle.tc_machine.specs.Instructions.{machine_address_ahead, is_trapping_instruction}
+use Rattle.tc_machine.specs.Instructions.{wrapping_sum, is_trapping_instruction}
 use Rattle.tc_machine.specs.Fetching.{mapped_bytes, fetched_shape, fetched_instruction, fetched_size}
 use Rattle.tc_machine.specs.Stepping.{is_interrupt_taken, step, run}
 use Rattle.tc_machine.specs.Safe.{AllFit, IsAtCode}
@@ -31,9 +31,9 @@ use Rattle.depth_cert.specs.Certs.{CertData, IsCert}
 use Rattle.cfg_recover.specs.Code.{IsCode}
 use Rattle.cfg_recover.specs.Entries.{start_key, call_key, handler_key}
 use Rattle.cfg_recover.specs.Duties.{Owed, duties_of}
-use Rattle.cfg_recover.specs.RulesHoldOrFail.{limits_in}
+use Rattle.cfg_recover.specs.RulesHoldOrFail.{limits_of_cert}
 use Rattle.cfg_recover.specs.Frames.{RunFrame, frames_after_edge, frames_after, frames_from, frames}
-use Rattle.cfg_recover.specs.EdgesAreOwed.{IsEdgeWayOwed, EdgeOwed}
+use Rattle.cfg_recover.specs.EdgesAreOwed.{IsEdgeWayOwed, IsEdgeOwedByFrames}
 use Rattle.cfg_recover.specs.StepEdges.{EdgeWay, to, call, irq, sys, aln, ret, rfe, edge_way_of_shape, edge_way_by_trap, edge_way_in_fetch, edge_way_of_step}
 use Rattle.cfg_recover.proofs.CodeLaws.{IsCode-one}
 use Rattle.cfg_recover.proofs.Members.{contains_first, contains_map, contains_flat}
@@ -131,7 +131,7 @@ keys_from ok m [] fs is fit k = k
 keys_from ok m (e ∷ es) fs is fit k =
     let small : e.irq < 2 ^ 8 = irq_lt ok m e fit.0 in
     let after : IsMachine (step m e) = stays_step m e is small fit.0.input fit.0.status in
-    keys_from ok (step m e) es (frames_after m e fs) after fit.1 (keys_by m.pc (machine_address_ahead m.pc (fetched_size (fetched_instruction m))) e.irq (edge_way_of_step m e) fs small (step_below m e after.pc) k)
+    keys_from ok (step m e) es (frames_after m e fs) after fit.1 (keys_by m.pc (wrapping_sum m.pc (fetched_size (fetched_instruction m))) e.irq (edge_way_of_step m e) fs small (step_below m e after.pc) k)
 
 -- ---- the parts of joined lines
 part_at : {A : Type 0} (Has : A → List (List ℕ) → Type 0) (xs : List A) (ps : List (List (List ℕ))) (x : A) (k : ℕ) → AreLineParts Has xs ps → k < length xs → get_or xs k x ≡ x → (p : List (List ℕ)) × (Has x p × Contains ps p)
@@ -159,14 +159,14 @@ arrow_there cert ds s key prio fs q rfe r x_r o = leaving_there cert ds s (goes 
 
 module _ (image : ImageData) (plan : PlanData) (cert : CertData) where
   lines_for : Key → ℕ → State → Shape → ℕ → List (List ℕ)
-  lines_for key p st s n = map (graph_line key p) (arrows_of cert (duties_of (limits_in plan cert) image plan key p st s n) s)
+  lines_for key p st s n = map (graph_line key p) (arrows_of cert (duties_of (limits_of_cert plan cert) image plan key p st s n) s)
 
   lines_same : (j k : Key) (x p : ℕ) (st : State) (t s : Shape) (l n : ℕ) → j ≡ k → x ≡ p → t ≡ s → l ≡ n → lines_for j x st t l ≡ lines_for k p st s n
   lines_same j k x p st t s l n a b c d =
       ap (λ y. lines_for y x st t l) a ∙ ap (λ y. lines_for k y st t l) b ∙ ap (λ y. lines_for k p st y l) c ∙ ap (λ y. lines_for k p st s y) d
 
   line_there : (node : NodeData) (point : Point) (lines : List (List ℕ)) (key : Key) (p : ℕ) (s : Shape) (n : ℕ) (a : Arrow) → ArePointLines image plan cert node.key point lines → node.key ≡ key → point.addr ≡ p → IsCode image plan p s n
-      → Contains (arrows_of cert (duties_of (limits_in plan cert) image plan key p point.state s n) s) a → Contains lines (graph_line key p a)
+      → Contains (arrows_of cert (duties_of (limits_of_cert plan cert) image plan key p point.state s n) s) a → Contains lines (graph_line key p a)
   unfolding lines_for
   line_there node point lines key p s n a h same at code there =
       let one = IsCode-one image plan p h.shape s h.size n (subst (λ x. IsCode image plan x h.shape h.size) at h.code) code in
@@ -184,7 +184,7 @@ module _ (image : ImageData) (plan : PlanData) (cert : CertData) where
       ∙ ap (λ bs. fetched_shape (decoded_of bs)) front.1
       ∙ ap fetched_shape (decode_laws.spelled at.bytes front.0 at.inst spelled)
 
-  on_line : IsPlan plan → IsCert cert → (lines : List (List ℕ)) → AreGraphLines image plan cert lines → (m : Machine) (e : Event) → IsAtCode image plan m → (fs : List RunFrame) → AllKeys fs → EdgeOwed image plan cert m e fs → IsEdgeOnLine lines m e fs
+  on_line : IsPlan plan → IsCert cert → (lines : List (List ℕ)) → AreGraphLines image plan cert lines → (m : Machine) (e : Event) → IsAtCode image plan m → (fs : List RunFrame) → AllKeys fs → IsEdgeOwedByFrames image plan cert m e fs → IsEdgeOnLine lines m e fs
   unfolding AllKeys
   on_line ok is_cert lines joined m e at [] keys o = o
   on_line ok is_cert lines joined m e at (f ∷ fs) keys o =
@@ -199,7 +199,7 @@ module _ (image : ImageData) (plan : PlanData) (cert : CertData) where
       let there : IsCode image plan m.pc (shape_of at.inst) (length at.bytes) = record { even = even; bytes = at.bytes; inst = at.inst; spells = at.spells; shaped = refl; sized = refl } in
       let one : shape_of at.inst ≡ o.shape = (IsCode-one image plan m.pc (shape_of at.inst) o.shape (length at.bytes) o.size there o.code).0 in
       let gets = fetched_there ok m at even in
-      let ds : List Owed = duties_of (limits_in plan cert) image plan f.key m.pc (o.point).state o.shape o.size in
+      let ds : List Owed = duties_of (limits_of_cert plan cert) image plan f.key m.pc (o.point).state o.shape o.size in
       let arrow : Contains (arrows_of cert ds o.shape) (goes (edge_way_of_step m e)) =
       arrow_there cert ds o.shape f.key e.irq (f ∷ fs) (step m e).pc (edge_way_of_step m e) (λ w. sym one ∙ way_ret m e (shape_of at.inst) (length at.bytes) gets w) (λ w. sym one ∙ way_rfe m e (shape_of at.inst) (length at.bytes) gets w) o.owed in
       (nodes.1).1 _ ((points.1).1 _ (line_there o.node o.point points.0 f.key m.pc o.shape o.size (goes (edge_way_of_step m e)) (points.1).0 same here o.code arrow))

@@ -13,7 +13,7 @@ use Rattle.depth_cert.specs.declared.points.Point.{Point}
 use Rattle.depth_cert.specs.Certs.{CertData}
 use Rattle.cfg_recover.specs.Duties.{Owed, duties_of}
 use Rattle.cfg_recover.specs.Code.{IsCode}
-use Rattle.cfg_recover.specs.RulesHoldOrFail.{limits_in}
+use Rattle.cfg_recover.specs.RulesHoldOrFail.{limits_of_cert}
 use Rattle.cfg_recover.specs.StepEdges.{to, call, irq, sys, aln, ret, rfe}
 use Rattle.tcd_report.specs.declared.graphs.edges.Edges.{Edges}
 use Rattle.tcd_report.specs.Graphs.{Arrow, goes, back, line_end_to, line_front, graph_line, return_arrow_of, sorted_jump_targets_of, called_entries_of, unique_return_addresses_of, system_call_entries_of, misaligned_entries_of, interrupt_entries_of, arrows_of, ArePointLines, AreEdges, lines_to, edge_lines_text, return_line_text}
@@ -80,10 +80,10 @@ module _ (key : Key) (p : ℕ) (cert : CertData) (ds : List Owed) (s : Shape) (w
 
 -- a text that grows by these grows by the point's lines
 pub point_lines :
-    (image : ImageData) (plan : PlanData) (cert : CertData) (key : Key) (point : Point) (shape : Shape) (size : ℕ) (b : Limits) (w : Edges) (before text after : List ℕ) → b ≡ limits_in plan cert → IsCode image plan point.addr shape size
+    (image : ImageData) (plan : PlanData) (cert : CertData) (key : Key) (point : Point) (shape : Shape) (size : ℕ) (b : Limits) (w : Edges) (before text after : List ℕ) → b ≡ limits_of_cert plan cert → IsCode image plan point.addr shape size
     → AreEdges cert (duties_of b image plan key point.addr point.state shape size) w → text ≡ before ++ edge_lines_text (line_front key point.addr) w → after ≡ text ++ return_line_text (line_front key point.addr) shape → GrowsByLines (ArePointLines image plan cert key point) before after
 point_lines image plan cert key point shape size b w before text after same code are front whole =
-    let ds : List Owed = duties_of (limits_in plan cert) image plan key point.addr point.state shape size in
+    let ds : List Owed = duties_of (limits_of_cert plan cert) image plan key point.addr point.state shape size in
     let ways : AreEdges cert ds w = subst (λ x. AreEdges cert (duties_of x image plan key point.addr point.state shape size) w) same are in
     record {
       lines = map (graph_line key point.addr) (arrows_of cert ds shape);

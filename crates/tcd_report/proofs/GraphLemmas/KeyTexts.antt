@@ -10,7 +10,7 @@ use Rattle.tcd_text.specs.HexNumbers.{hex_word}
 use Rattle.tcd_text.proofs.DigitLaws.{hex_word-ascii}
 use Rattle.depth_cert.specs.declared.keys.Key.{Key}
 use Rattle.depth_cert.specs.Keys.{start_kind, call_kind, irq_kind, sys_kind}
-use Rattle.tcd_report.specs.Texts.{key_kind_text, key_text}
+use Rattle.tcd_report.specs.Texts.{key_kind_text, frame_name}
 use Rattle.tcd_report.specs.Graphs.{key_front, line_front}
 
 both : (a b : Bool) → (a && b) ≡ true → (a ≡ true) × (b ≡ true)
@@ -42,8 +42,8 @@ digit_ascii : (b : Bool) → IsAscii ((if b then 49 else 48) ∷ [])
 digit_ascii true = literal (49 ∷ []) refl
 digit_ascii false = literal (48 ∷ []) refl
 
-key_ascii : (key : Key) → key.entry < 2 ^ 32 → key.prio < 2 ^ 8 → IsAscii (key_text key)
-unfolding key_text
+key_ascii : (key : Key) → key.entry < 2 ^ 32 → key.prio < 2 ^ 8 → IsAscii (frame_name key)
+unfolding frame_name
 key_ascii key entry prio =
     let stack : List ℕ = (if key.is then 49 else 48) ∷ [] in
     let from_is : List ℕ = codes " is " ++ stack in
@@ -57,7 +57,7 @@ key_ascii key entry prio =
 
 -- the fronts of lines
 pub key_front_ascii : (key : Key) → key.entry < 2 ^ 32 → key.prio < 2 ^ 8 → IsAscii (key_front key)
-key_front_ascii key entry prio = IsAscii-append (key_text key) (codes ": ") (key_ascii key entry prio) (literal (codes ": ") refl)
+key_front_ascii key entry prio = IsAscii-append (frame_name key) (codes ": ") (key_ascii key entry prio) (literal (codes ": ") refl)
 
 pub line_front_ascii : (key : Key) (p : ℕ) → p < 2 ^ 32 → IsAscii (key_front key) → IsAscii (line_front key p)
 line_front_ascii key p small is =

@@ -4,7 +4,7 @@ use Rattle.tcd_base.specs.Bytes.{bytes_of_word, four_bytes}
 use Rattle.tc_isa.specs.declared.table.Form.TheVariants.{B}
 use Rattle.tc_isa.specs.Forms.{fields}
 use Rattle.tc_isa.specs.Spelling.{word_by_form}
-use Rattle.tcd_report.specs.Generated.{generated_code, call_from, call_if_below, generated_function_address, generated_function_code, generated_handler, generated_handler_address, generated_main_code, generated_system_call_handler}
+use Rattle.tcd_report.specs.Generated.{generated_code, call_from, call_if_any, generated_function_address, generated_function_code, generated_handler, generated_handler_address, generated_main_code, generated_system_call_handler}
 
 -- ---- calls
 word_small : (k : ℕ) → k < 2 ^ 24 → word_by_form B 0x6d 0 (fields 0 0 0 0 k) < 2 ^ 32
@@ -28,7 +28,7 @@ call_bytes at to h =
     ap bytes_of_word (word_is ((to - at) / 2) h) ∙ ap (λ d. x % 256 ∷ x / 256 % 256 ∷ x / 65536 % 256 ∷ d ∷ []) p ∙ sym (call_is at to)
 
 -- ---- functions and handlers
-pub function_bytes : (n i : ℕ) → generated_function_code n i ≡ 0x20 ∷ 0x08 ∷ 0x74 ∷ 0xaf ∷ (call_if_below n (generated_function_address i + 4) (2 * i + 1) ++ (call_if_below n (generated_function_address i + 8) (2 * i + 2) ++ 0x00 ∷ 0x90 ∷ []))
+pub function_bytes : (n i : ℕ) → generated_function_code n i ≡ 0x20 ∷ 0x08 ∷ 0x74 ∷ 0xaf ∷ (call_if_any n (generated_function_address i + 4) (2 * i + 1) ++ (call_if_any n (generated_function_address i + 8) (2 * i + 2) ++ 0x00 ∷ 0x90 ∷ []))
 unfolding generated_function_code generated_code word_by_form
 function_bytes n i = refl
 

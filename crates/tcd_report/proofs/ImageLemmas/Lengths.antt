@@ -3,7 +3,7 @@ use Rattle.std.proofs.Common.{◌≡◌, ◌+◌, ◌-◌, ◌*◌, ◌≤◌, �
 use Rattle.std.specs.Prelude.{if◌then◌else◌}
 use Rattle.std.specs.List.{flat_map, range_with_len}
 use Rattle.std.proofs.lemmas.List.{length-replicate}
-use Rattle.tcd_report.specs.Generated.{generated_code, call_from, call_if_below, generated_function_address, generated_function_code, generated_functions, generated_handler, generated_function_table, generated_vectors, zero_padded_bytes}
+use Rattle.tcd_report.specs.Generated.{generated_code, call_from, call_if_any, generated_function_address, generated_function_code, generated_functions, generated_handler, generated_function_table, generated_vectors, zero_padded_bytes}
 use Rattle.tcd_report.proofs.ImageLemmas.Instructions.{function_bytes}
 use Rattle.tcd_report.proofs.ImageLemmas.Ranges.{length-pieces}
 
@@ -31,14 +31,14 @@ unfolding generated_function_table
 length-table n = refl
 
 -- ---- functions
-length-call : (n at i : ℕ) → length (call_if_below n at i) ≤ 4
+length-call : (n at i : ℕ) → length (call_if_any n at i) ≤ 4
 unfolding generated_code
 length-call n at i = elim (nat_lt i n) as (λ (b : Bool). length (if b then call_from at (generated_function_address i) else []) ≤ 4) [ true ↦ lit≤ tt | false ↦ lit≤ tt ]
 
 pub function_short : (n i : ℕ) → length (generated_function_code n i) ≤ 32
 function_short n i =
-    let a : List ℕ = call_if_below n (generated_function_address i + 4) (2 * i + 1) in
-    let b : List ℕ = call_if_below n (generated_function_address i + 8) (2 * i + 2) in
+    let a : List ℕ = call_if_any n (generated_function_address i + 4) (2 * i + 1) in
+    let b : List ℕ = call_if_any n (generated_function_address i + 8) (2 * i + 2) in
     rw (function_bytes n i) (omega (arith, length-append a (b ++ 0x00 ∷ 0x90 ∷ []), length-append b (0x00 ∷ 0x90 ∷ []), length-call n (generated_function_address i + 4) (2 * i + 1), length-call n (generated_function_address i + 8) (2 * i + 2)))
 
 function_some : (n i : ℕ) → 0 < length (generated_function_code n i)

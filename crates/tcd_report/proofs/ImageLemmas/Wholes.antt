@@ -3,7 +3,7 @@ use Rattle.std.proofs.Common.{◌≡◌, ◌+◌, ◌^◌, ◌<◌, ◌≤◌, �
 use Rattle.std.specs.List.{list_all}
 use Rattle.std.proofs.lemmas.Bool.{and_from, lt-ltb, le-leb}
 use Rattle.std.specs.Prelude.{nat_le, sum_by, ◌||◌}
-use Rattle.elf_image.specs.Images.{AreSegmentBytes, IsImage, SegmentData, are_all_segments_apart, are_segments_apart, is_segment}
+use Rattle.elf_image.specs.Images.{AreSegmentBytes, IsImage, SegmentData, are_all_segments_disjoint, are_segments_disjoint, is_segment}
 use Rattle.tcd_report.specs.Generated.{generated_functions, generated_image, generated_segments, generated_main_code, generated_segment, generated_system_call_handler, generated_function_table, generated_vectors}
 use Rattle.tcd_report.proofs.ImageLemmas.Instructions.{main_bytes, system_bytes}
 use Rattle.tcd_report.proofs.ImageLemmas.Lengths.{length-functions, length-table, length-vectors}
@@ -11,7 +11,7 @@ use Rattle.tcd_report.proofs.ImageLemmas.Lengths.{length-functions, length-table
 one_is : (at : ℕ) (bs : List ℕ) → 0 < length bs → at + length bs ≤ 2 ^ 32 → is_segment (generated_segment at bs) ≡ true
 one_is at bs some fits = and_from _ _ (lt-ltb 0 (length bs) some) (le-leb (at + length bs) (2 ^ 32) fits)
 
-before : (at to : ℕ) (xs ys : List ℕ) → at + length xs ≤ to → are_segments_apart (generated_segment at xs) (generated_segment to ys) ≡ true
+before : (at to : ℕ) (xs ys : List ℕ) → at + length xs ≤ to → are_segments_disjoint (generated_segment at xs) (generated_segment to ys) ≡ true
 before at to xs ys h = ap (λ t. t || nat_le (to + length ys) at) (le-leb (at + length xs) to h)
 
 -- the limits of an image hold for segments of these lengths
@@ -28,7 +28,7 @@ module _ (a b c d e : List ℕ) (la : length a ≡ 32) (lb : length b ≡ 64) (l
       (and_from _ _ (one_is 0x800040c0 d (omega arith) (omega arith))
       (and_from _ _ (one_is 0x80008000 e (omega arith) (omega arith)) refl))))
 
-  five_apart : are_all_segments_apart five ≡ true
+  five_apart : are_all_segments_disjoint five ≡ true
   unfolding five
   five_apart =
       and_from _ _

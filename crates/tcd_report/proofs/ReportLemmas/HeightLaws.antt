@@ -18,7 +18,7 @@ use Rattle.depth_cert.specs.Certs.{CertData, IsCert}
 use Rattle.cfg_recover.specs.RulesHoldOrFail.{Accepts}
 use Rattle.cfg_recover.proofs.Members.{contains_map}
 use Rattle.tcd_report.specs.Reports.Calls.{CallsAt, NodeCalls, HasCallChain}
-use Rattle.tcd_report.specs.Reports.Heights.{IsGreatestHeightOf, HasCalleeHeightAt, AreHeightsLow, IsHeight, HasNodeHeight, AreNodeHeights, HasHeights, height_rank_of}
+use Rattle.tcd_report.specs.Reports.Heights.{IsGreatestHeightInList, IsHeightThroughCall, AreHeightsBounded, IsHeight, HasNodeHeight, AreNodeHeights, HasHeights, height_rank_of}
 use Rattle.depth_cert.specs.Keys.{key_eq}
 use Rattle.tcd_report.proofs.ReportLemmas.NodeLaws.{map_contains, node_stands, one_node, callee_needs}
 use Rattle.tcd_report.proofs.ReportLemmas.RankLaws.{stands_before}
@@ -56,14 +56,14 @@ module _ (image : ImageData) (plan : PlanData) (cert : CertData) (is : IsCert ce
   row_low (suc n) node stands r =
       omega (arith, callee_needs image plan cert is accepted node r.0 stands (r.1).0 ((r.1).1).0, row_low n r.0 (r.1).0 ((r.1).1).1)
 
-  pub tells_low : {S : Type 0} (heights : HashMap Key ℕ S) → AreNodeHeights image plan cert heights → AreHeightsLow heights
+  pub tells_low : {S : Type 0} (heights : HashMap Key ℕ S) → AreNodeHeights image plan cert heights → AreHeightsBounded heights
   tells_low heights tells k h e =
       let told = tells k h e in
       omega (arith, row_low h told.node told.stands (told.height).reached, (All-contains (IsNode cert.version) cert.nodes told.node is.nodes told.stands).need)
 
   -- the height of a node, by those of the nodes that it calls
   pub height_is : {S : Type 0} (heights : HashMap Key ℕ S) → AreNodeHeights image plan cert heights → (node : NodeData) (n : ℕ)
-      → ((callee : NodeData) → Contains cert.nodes callee → NodeCalls image plan cert node callee.key → (h : ℕ) × (get key_eq heights callee.key ≡ Some h)) → IsGreatestHeightOf (HasCalleeHeightAt image plan cert heights node.key) node.points n → IsHeight image plan cert node n
+      → ((callee : NodeData) → Contains cert.nodes callee → NodeCalls image plan cert node callee.key → (h : ℕ) × (get key_eq heights callee.key ≡ Some h)) → IsGreatestHeightInList (IsHeightThroughCall image plan cert heights node.key) node.points n → IsHeight image plan cert node n
   height_is heights tells node n known most =
       record {
         reached =

@@ -12,7 +12,7 @@ use Rattle.depth_cert.specs.declared.keys.Key.{Key}
 use Rattle.depth_cert.specs.Nodes.{NodeData}
 use Rattle.depth_cert.specs.Certs.{CertData, IsCert}
 use Rattle.cfg_recover.proofs.Members.{contains_first}
-use Rattle.tcd_report.specs.Reports.Longest.{priorities_below, IsLongestCallChain, IsHeightAtPriority, longest_with, longest_calls_of, longest_calls_below, IsLongestIfAny}
+use Rattle.tcd_report.specs.Reports.Longest.{priorities_below, IsLongestCallChain, IsHeightAtPriority, longest_so_far, longest_calls_of, longest_calls_below, IsLongestIfAny}
 use Rattle.tcd_report.specs.Reports.Heights.{IsHeight, AreNodeHeights}
 use Rattle.depth_cert.specs.Keys.{key_eq}
 use Rattle.tcd_report.specs.declared.reports.longest_by_priority.LongestCalls.{LongestCalls}
@@ -25,7 +25,7 @@ greatest_same P Q None there back h = λ m q. h m (back m q)
 greatest_same P Q (Some n) there back h = (there n h.0, λ m q. h.1 m (back m q))
 
 -- the greatest number, with one number more
-greatest_with : (P Q : ℕ → Type 0) (o : Option ℕ) (h : ℕ) → ((m : ℕ) → P m → Q m) → Q h → ((m : ℕ) → Q m → P m ⊎ (h ≡ m)) → IsLongestIfAny P o → IsLongestIfAny Q (Some (longest_with o h))
+greatest_with : (P Q : ℕ → Type 0) (o : Option ℕ) (h : ℕ) → ((m : ℕ) → P m → Q m) → Q h → ((m : ℕ) → Q m → P m ⊎ (h ≡ m)) → IsLongestIfAny P o → IsLongestIfAny Q (Some (longest_so_far o h))
 greatest_with P Q None h there new back g = (new, λ m q. elim (back m q) [ inl p ↦ absurd (g m p) | inr e ↦ omega (arith, e) ])
 greatest_with P Q (Some n) h there new back g = (
   elim (cases_lt n h) [
@@ -50,7 +50,7 @@ module _ {S : Type 0} (heights : HashMap Key ℕ S) (nodes : List NodeData) (nod
       ]) g
 
   -- the node's own priority gets the greater of both
-  own_prio : (o : Option ℕ) → IsLongestIfAny (IsHeightAtPriority heights nodes (node.key).prio) o → IsLongestIfAny (IsHeightAtPriority heights (nodes ++ node ∷ []) (node.key).prio) (Some (longest_with o h))
+  own_prio : (o : Option ℕ) → IsLongestIfAny (IsHeightAtPriority heights nodes (node.key).prio) o → IsLongestIfAny (IsHeightAtPriority heights (nodes ++ node ∷ []) (node.key).prio) (Some (longest_so_far o h))
   own_prio o g =
       greatest_with (IsHeightAtPriority heights nodes (node.key).prio) (IsHeightAtPriority heights (nodes ++ node ∷ []) (node.key).prio) o h (kept (node.key).prio) (node, (Contains-push nodes node, (refl, told)))
       (λ m a.
@@ -60,7 +60,7 @@ module _ {S : Type 0} (heights : HashMap Key ℕ S) (nodes : List NodeData) (nod
       ]) g
 
 pub longest_more : {S T : Type 0} (heights : HashMap Key ℕ S) (rows more : HashMap ℕ ℕ T) (nodes : List NodeData) (i : ℕ) (node : NodeData) (h n : ℕ) → i < length nodes → node ≡ get_or nodes i node → get key_eq heights node.key ≡ Some h
-    → n ≡ longest_with (get nat_eq rows (node.key).prio) h → ((q : ℕ) → get nat_eq more q ≡ cond (nat_eq (node.key).prio q) (Some n) (get nat_eq rows q))
+    → n ≡ longest_so_far (get nat_eq rows (node.key).prio) h → ((q : ℕ) → get nat_eq more q ≡ cond (nat_eq (node.key).prio q) (Some n) (get nat_eq rows q))
     → ((p : ℕ) → IsLongestIfAny (IsHeightAtPriority heights (take i nodes) p) (get nat_eq rows p)) → (p : ℕ) → IsLongestIfAny (IsHeightAtPriority heights (take (i + 1) nodes) p) (get nat_eq more p)
 longest_more heights rows more nodes i node h n lt at told is news before p =
     subst (λ ns. IsLongestIfAny (IsHeightAtPriority heights ns p) (get nat_eq more p)) (ap (λ y. take i nodes ++ y ∷ []) at ∙ sym (take_more nodes i node lt)) (
@@ -68,9 +68,9 @@ longest_more heights rows more nodes i node h n lt at told is news before p =
       | inl same ↦
           let e : (node.key).prio ≡ p = eqb-true (node.key).prio p same in
           let own = own_prio heights (take i nodes) node h told (get nat_eq rows (node.key).prio) (before (node.key).prio) in
-          let there : Some (longest_with (get nat_eq rows (node.key).prio) h) ≡ get nat_eq more p = ap Some (sym is) ∙ sym (news p ∙ ap (λ b. cond b (Some n) (get nat_eq rows p)) same) in
+          let there : Some (longest_so_far (get nat_eq rows (node.key).prio) h) ≡ get nat_eq more p = ap Some (sym is) ∙ sym (news p ∙ ap (λ b. cond b (Some n) (get nat_eq rows p)) same) in
           subst (λ o. IsLongestIfAny (IsHeightAtPriority heights (take i nodes ++ node ∷ []) p) o) there
-          (subst (λ q. IsLongestIfAny (IsHeightAtPriority heights (take i nodes ++ node ∷ []) q) (Some (longest_with (get nat_eq rows (node.key).prio) h))) e own)
+          (subst (λ q. IsLongestIfAny (IsHeightAtPriority heights (take i nodes ++ node ∷ []) q) (Some (longest_so_far (get nat_eq rows (node.key).prio) h))) e own)
       | inr other ↦
           subst (λ o. IsLongestIfAny (IsHeightAtPriority heights (take i nodes ++ node ∷ []) p) o) (sym (news p ∙ ap (λ b. cond b (Some n) (get nat_eq rows p)) other))
           (other_prio heights (take i nodes) node h told p (get nat_eq rows p) (eqb-false (node.key).prio p other) (before p))

@@ -3,14 +3,14 @@ use Rattle.std.proofs.Common.{◌≡◌, ℕ, ◌+◌, ◌<◌, ◌≤◌, List,
 use Rattle.std.proofs.lemmas.Bool.{cases_lt}
 use Rattle.std.proofs.lemmas.List.{take_all, take_more}
 use Rattle.std.proofs.lemmas.List.Elements.{Contains-append_left, Contains-push, Contains-push_cases}
-use Rattle.tcd_report.specs.Reports.Heights.{IsGreatestHeight, IsGreatestHeightOf}
+use Rattle.tcd_report.specs.Reports.Heights.{IsGreatestHeight, IsGreatestHeightInList}
 
 -- no element has a number
-pub most_none : {A : Type 0} (Has : A → ℕ → Type 0) → IsGreatestHeightOf Has [] 0
+pub most_none : {A : Type 0} (Has : A → ℕ → Type 0) → IsGreatestHeightInList Has [] 0
 most_none Has = record { reached = inl refl; most = λ m h. absurd (let before = ((h.1).0).1 in omega (arith, before)) }
 
 -- the elements with one more at the end
-pub most_with : {A : Type 0} (Has : A → ℕ → Type 0) (xs : List A) (x : A) (a b n : ℕ) → IsGreatestHeightOf Has xs a → IsGreatestHeight (Has x) b → n ≡ max b a → IsGreatestHeightOf Has (xs ++ x ∷ []) n
+pub most_with : {A : Type 0} (Has : A → ℕ → Type 0) (xs : List A) (x : A) (a b n : ℕ) → IsGreatestHeightInList Has xs a → IsGreatestHeight (Has x) b → n ≡ max b a → IsGreatestHeightInList Has (xs ++ x ∷ []) n
 most_with Has xs x a b n first second e =
     record {
       reached =
@@ -36,13 +36,13 @@ most_with Has xs x a b n first second e =
     }
 
 -- the greatest number with one element more
-pub most_more : {A : Type 0} (Has : A → ℕ → Type 0) (xs : List A) (i : ℕ) (x : A) (a b n : ℕ) → i < length xs → x ≡ get_or xs i x → IsGreatestHeightOf Has (take i xs) a → IsGreatestHeight (Has x) b → n ≡ max b a → IsGreatestHeightOf Has (take (i + 1) xs) n
+pub most_more : {A : Type 0} (Has : A → ℕ → Type 0) (xs : List A) (i : ℕ) (x : A) (a b n : ℕ) → i < length xs → x ≡ get_or xs i x → IsGreatestHeightInList Has (take i xs) a → IsGreatestHeight (Has x) b → n ≡ max b a → IsGreatestHeightInList Has (take (i + 1) xs) n
 most_more Has xs i x a b n lt at first second e =
-    subst (λ ys. IsGreatestHeightOf Has ys n) (ap (λ y. take i xs ++ y ∷ []) at ∙ sym (take_more xs i x lt)) (most_with Has (take i xs) x a b n first second e)
+    subst (λ ys. IsGreatestHeightInList Has ys n) (ap (λ y. take i xs ++ y ∷ []) at ∙ sym (take_more xs i x lt)) (most_with Has (take i xs) x a b n first second e)
 
 -- the greatest number of all elements
-pub most_all : {A : Type 0} (Has : A → ℕ → Type 0) (xs : List A) (i n : ℕ) → length xs ≤ i → IsGreatestHeightOf Has (take i xs) n → IsGreatestHeightOf Has xs n
-most_all Has xs i n ge h = subst (λ ys. IsGreatestHeightOf Has ys n) (take_all i xs ge) h
+pub most_all : {A : Type 0} (Has : A → ℕ → Type 0) (xs : List A) (i n : ℕ) → length xs ≤ i → IsGreatestHeightInList Has (take i xs) n → IsGreatestHeightInList Has xs n
+most_all Has xs i n ge h = subst (λ ys. IsGreatestHeightInList Has ys n) (take_all i xs ge) h
 
 -- the greatest number with an equivalent property
 pub most_same : (P Q : ℕ → Type 0) (n : ℕ) → ((m : ℕ) → P m → Q m) → ((m : ℕ) → Q m → P m) → IsGreatestHeight P n → IsGreatestHeight Q n

@@ -9,7 +9,7 @@ use Rattle.std.proofs.lemmas.List.Elements.{All-contains, Contains-append_cases}
 use Rattle.elf_image.specs.Images.{ImageData}
 use Rattle.tcd_plan.specs.PlanData.{PlanData}
 use Rattle.value_domain.specs.declared.states.State.{State}
-use Rattle.value_domain.specs.State.{AreValues}
+use Rattle.value_domain.specs.State.{AreInLattice}
 use Rattle.depth_cert.specs.declared.keys.Key.{Key}
 use Rattle.depth_cert.specs.declared.points.Point.{Point}
 use Rattle.depth_cert.specs.Keys.{number_of_key}
@@ -17,7 +17,7 @@ use Rattle.depth_cert.specs.Nodes.{NodeData, find_node, key_numbers}
 use Rattle.depth_cert.specs.Certs.{CertData, IsCert}
 use Rattle.cfg_recover.specs.LocalFaults.{IsFaultless}
 use Rattle.cfg_recover.specs.Duties.{Duty, enter, Owed, owed, duties_of, keys_entered_by_duty}
-use Rattle.cfg_recover.specs.RulesHoldOrFail.{limits_in, RuleHolds, NeedRuleHolds, EntryNeedRuleHolds, Accepts}
+use Rattle.cfg_recover.specs.RulesHoldOrFail.{limits_of_cert, RuleHolds, NeedRuleHolds, EntryNeedRuleHolds, Accepts}
 use Rattle.cfg_recover.proofs.Members.{contains_first}
 use Rattle.tcd_report.specs.Reports.Calls.{called_keys_of, NodeCalls}
 use Rattle.tcd_report.proofs.JudgedPoints.{all_rules}
@@ -113,9 +113,9 @@ pub callee_needs : (image : ImageData) (plan : PlanData) (cert : CertData) → I
 callee_needs image plan cert is accepted caller callee stands there calls =
     let point : Point = calls.point in
     let all : (r : ℕ) → RuleHolds image plan cert caller point r = all_rules image plan cert accepted caller stands point calls.stands in
-    let values : AreValues (limits_in plan cert) (point.state).regs = (all 2).values refl in
-    let faultless : IsFaultless (limits_in plan cert) image plan caller.key point.addr point.state = λ r. (all r).own values in
-    let ds : List Owed = duties_of (limits_in plan cert) image plan caller.key point.addr point.state (calls.at).shape (calls.at).size in
+    let values : AreInLattice (limits_of_cert plan cert) (point.state).regs = (all 2).values refl in
+    let faultless : IsFaultless (limits_of_cert plan cert) image plan caller.key point.addr point.state = λ r. (all r).own values in
+    let ds : List Owed = duties_of (limits_of_cert plan cert) image plan caller.key point.addr point.state (calls.at).shape (calls.at).size in
     let needs : NeedRuleHolds image plan cert caller point ds = (all 14).needs (calls.at).shape (calls.at).size refl (record { values = values; faultless = faultless; code = (calls.at).code }) in
     let duty = called_duty ds callee.key (calls.at).called in
     let above : EntryNeedRuleHolds cert caller point.state (enter callee.key duty.0) = All-contains (λ (d : Owed). EntryNeedRuleHolds cert caller point.state d.duty) ds (owed 5 (enter callee.key duty.0)) needs.entered duty.1 in

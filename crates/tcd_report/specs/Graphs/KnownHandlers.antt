@@ -2,12 +2,12 @@
 use Rattle.std.specs.Prelude.{◌≡◌, ℕ, ◌+◌, List, ◌++◌, codes, length, take, drop, map}
 use Rattle.tcd_plan.specs.PlanData.{PlanData}
 use Rattle.value_domain.specs.declared.states.State.{State}
-use Rattle.cfg_recover.specs.Entries.{irqs_of, irq_key}
+use Rattle.cfg_recover.specs.Entries.{possible_irqs_of, irq_key}
 use Rattle.tcd_report.specs.declared.graphs.handlers.Handlers.{Handlers}
 use Rattle.tcd_report.specs.Graphs.{unique_addresses, lines_to}
 
 -- the graph's `irq` lines of handlers with these entries, all with the same front, of this length
-pub record HasHandlerLines (size : ℕ) (entries lines : List ℕ) : Type 0 where
+pub record AreHandlerLines (size : ℕ) (entries lines : List ℕ) : Type 0 where
   pub front : List ℕ
   pub sized : length front ≡ size
   pub are : lines ≡ lines_to front (codes "irq ") entries
@@ -20,8 +20,8 @@ irq_entry_vectors plan irqs = map (λ p. (irq_key plan p).entry) irqs
 -- known for the graph's lines: in each state with this IE and CCPN, the entries are those of the
 -- handlers of the interrupts that may come, each once, and the lines are theirs
 pub record KnowsHandlers (plan : PlanData) (known : Handlers) : Type 0 where
-  pub entries : (s : State) → s.ie ≡ known.ie → s.ccpn ≡ known.ccpn → known.entries.items ≡ unique_addresses (irq_entry_vectors plan (irqs_of plan s))
-  pub lines : HasHandlerLines known.front known.entries.items known.lines.items
+  pub entries : (s : State) → s.ie ≡ known.ie → s.ccpn ≡ known.ccpn → known.entries.items ≡ unique_addresses (irq_entry_vectors plan (possible_irqs_of plan s))
+  pub lines : AreHandlerLines known.front known.entries.items known.lines.items
 
 -- the graph's `irq` lines of handlers with a front written at a place
 abbrev pub with_handler_front : List ℕ → ℕ → List ℕ → List ℕ

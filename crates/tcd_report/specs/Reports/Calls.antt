@@ -10,7 +10,7 @@ use Rattle.depth_cert.specs.Nodes.{NodeData}
 use Rattle.depth_cert.specs.Certs.{CertData}
 use Rattle.cfg_recover.specs.Code.{IsCode}
 use Rattle.cfg_recover.specs.Duties.{Owed, duties_of, keys_entered_by_duty}
-use Rattle.cfg_recover.specs.RulesHoldOrFail.{limits_in}
+use Rattle.cfg_recover.specs.RulesHoldOrFail.{limits_of_cert}
 use Rattle.tcd_report.specs.Graphs.{call_rule}
 
 -- the keys of the functions that an instruction calls: K5 asks for their entries
@@ -22,7 +22,7 @@ pub record CallsAt (image : ImageData) (plan : PlanData) (cert : CertData) (call
   pub shape : Shape
   pub size : ℕ
   pub code : IsCode image plan point.addr shape size
-  pub called : Contains (called_keys_of (duties_of (limits_in plan cert) image plan caller point.addr point.state shape size)) key
+  pub called : Contains (called_keys_of (duties_of (limits_of_cert plan cert) image plan caller point.addr point.state shape size)) key
 
 -- the instruction at some point of a node calls the function with this key
 pub record NodeCalls (image : ImageData) (plan : PlanData) (cert : CertData) (caller : NodeData) (key : Key) : Type 0 where

@@ -16,22 +16,22 @@ pub record IsGreatestHeight (P : ℕ → Type 0) (n : ℕ) : Type 0 where
   pub most : (m : ℕ) → P m → m ≤ n
 
 -- n is the greatest number that belongs to an element of a list, or 0 if there is none
-abbrev pub IsGreatestHeightOf : {A : Type 0} → (A → ℕ → Type 0) → List A → ℕ → Type 0
-IsGreatestHeightOf {A = A} Has xs n = IsGreatestHeight (λ m. (x : A) × (Contains xs x × Has x m)) n
+abbrev pub IsGreatestHeightInList : {A : Type 0} → (A → ℕ → Type 0) → List A → ℕ → Type 0
+IsGreatestHeightInList {A = A} Has xs n = IsGreatestHeight (λ m. (x : A) × (Contains xs x × Has x m)) n
 
 -- the number is the length of the longest call chain through a callee: the height of its key in the
 -- map, plus 1
-abbrev pub HasCalleeHeight : {S : Type 0} → HashMap Key ℕ S → Key → ℕ → Type 0
-HasCalleeHeight heights k m = (h : ℕ) × ((get key_eq heights k ≡ Some h) × (m ≡ suc h))
+abbrev pub IsHeightThroughCallee : {S : Type 0} → HashMap Key ℕ S → Key → ℕ → Type 0
+IsHeightThroughCallee heights k m = (h : ℕ) × ((get key_eq heights k ≡ Some h) × (m ≡ suc h))
 
 -- the number is the height in the map, plus 1, of the key of a function that the instruction at a
 -- point calls
-abbrev pub HasCalleeHeightAt : {S : Type 0} → ImageData → PlanData → CertData → HashMap Key ℕ S → Key → Point → ℕ → Type 0
-HasCalleeHeightAt image plan cert heights key point m = (k : Key) × (CallsAt image plan cert key point k × HasCalleeHeight heights k m)
+abbrev pub IsHeightThroughCall : {S : Type 0} → ImageData → PlanData → CertData → HashMap Key ℕ S → Key → Point → ℕ → Type 0
+IsHeightThroughCall image plan cert heights key point m = (k : Key) × (CallsAt image plan cert key point k × IsHeightThroughCallee heights k m)
 
 -- no height in the map is above 4,096
-abbrev pub AreHeightsLow : {S : Type 0} → HashMap Key ℕ S → Type 0
-AreHeightsLow heights = (k : Key) (h : ℕ) → get key_eq heights k ≡ Some h → h ≤ 4096
+abbrev pub AreHeightsBounded : {S : Type 0} → HashMap Key ℕ S → Type 0
+AreHeightsBounded heights = (k : Key) (h : ℕ) → get key_eq heights k ≡ Some h → h ≤ 4096
 
 -- h is the length of the longest call chain that begins in a node
 pub record IsHeight (image : ImageData) (plan : PlanData) (cert : CertData) (node : NodeData) (h : ℕ) : Type 0 where

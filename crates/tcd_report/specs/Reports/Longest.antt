@@ -17,9 +17,9 @@ IsHeightAtPriority heights nodes p m = (n : NodeData) × (Contains nodes n × ((
 
 -- the longest call chain of a priority after one more node: the greater of the longest so far, if
 -- any, and its height
-abbrev pub longest_with : Option ℕ → ℕ → ℕ
-longest_with None h = h
-longest_with (Some n) h = max h n
+abbrev pub longest_so_far : Option ℕ → ℕ → ℕ
+longest_so_far None h = h
+longest_so_far (Some n) h = max h n
 
 -- the longest call chain of a priority as a list for the report: empty if the priority has no nodes
 abbrev pub longest_calls_of : ℕ → Option ℕ → List LongestCalls

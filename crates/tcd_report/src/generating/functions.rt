@@ -1,6 +1,6 @@
 // The functions of a generated image, its main program, and the handler of an interrupt.
 ghost use Rattle.std.specs.Prelude.{◌≡◌, ◌≤◌, ◌<◌, ◌+◌, ◌*◌, ◌++◌, OnOk, IfOk, ◌-◌};
-ghost use Rattle.tcd_report.specs.Generated.{generated_function_address, call_if_below, generated_function_code, generated_functions, generated_main_code, generated_handler};
+ghost use Rattle.tcd_report.specs.Generated.{generated_function_address, call_if_any, generated_function_code, generated_functions, generated_main_code, generated_handler};
 
 use crate::generating::appending::{append_call, append_segment_bytes, append_zeros};
 use std::alloc::Global;
@@ -86,7 +86,7 @@ fn append_call_if_any(out: &mut Vec<u8>, n: u32, at: u32, i: u32) -> Result<(), 
     requires few { n ≤ 500 }
     requires low { 0x80008000 ≤ at }
     requires forward { i < n → at ≤ generated_function_address i }
-    ensures { OnOk result (out.new.items ≡ out.old.items ++ call_if_below n at i) }
+    ensures { OnOk result (out.new.items ≡ out.old.items ++ call_if_any n at i) }
 {
     if i < n {
         append_call(out, at, generated_function_address(i))?;

@@ -1,7 +1,7 @@
 // The addresses where a point goes on, by the words of its lines.
 ghost use Rattle.std.specs.Prelude.{OnOk};
 ghost use Rattle.tc_isa.specs.InBounds.{IsShape};
-ghost use Rattle.value_domain.specs.State.{AreValues};
+ghost use Rattle.value_domain.specs.State.{AreInLattice};
 ghost use Rattle.tcd_report.specs.Graphs.{AreEdges};
 ghost use Rattle.tcd_report.specs.Graphs.KnownHandlers.{KnowsHandlers};
 ghost use Rattle.tcd_report.specs.Judging.{duties_at};
@@ -44,7 +44,7 @@ pub(crate) fn find_edges(
     found: &Located,
 ) -> Result<(), NoMemory>
     requires shape { IsShape found.now.shape }
-    requires values { AreValues judged.now.bounds.now s.now.regs }
+    requires values { AreInLattice judged.now.bounds.now s.now.regs }
     requires handlers { KnowsHandlers judged.now.plan.now ways.old.irq }
     ensures edges { let j = judged.now in OnOk result
         (AreEdges j.cert.now (duties_at j key.now (point_of addr s.now) found.now) ways.new) }

@@ -1,7 +1,7 @@
 // The entries of the frames that an instruction enters.
 ghost use Rattle.std.specs.Prelude.{◌≡◌, OnOk};
 ghost use Rattle.tc_isa.specs.InBounds.{IsShape};
-ghost use Rattle.value_domain.specs.State.{AreValues};
+ghost use Rattle.value_domain.specs.State.{AreInLattice};
 ghost use Rattle.cfg_recover.specs.Duties.{misaligned_duties_of};
 ghost use Rattle.tcd_report.specs.Graphs.{entries_by_rule, misaligned_rule, entries_of_kind};
 
@@ -34,7 +34,7 @@ pub(crate) fn set_misaligned_entry(
     s: &State,
     shape: Shape,
 ) -> Result<(), NoMemory>
-    requires values { AreValues judged.now.bounds.now s.now.regs }
+    requires values { AreInLattice judged.now.bounds.now s.now.regs }
     requires shape { IsShape shape }
     ensures { let j = judged.now in OnOk result (all.new.items
         ≡ entries_by_rule misaligned_rule

@@ -2,7 +2,7 @@
 ghost use Rattle.std.specs.Prelude.{◌≡◌, [], Contains, OnOk, string_bytes};
 ghost use Rattle.tcd_plan.specs.PlanData.{PlanData};
 ghost use Rattle.std.specs.Str.{IsAscii};
-ghost use Rattle.value_domain.specs.State.{AreValues};
+ghost use Rattle.value_domain.specs.State.{AreInLattice};
 ghost use Rattle.cfg_recover.specs.LocalFaults.{IsFaultless};
 ghost use Rattle.tcd_report.specs.Graphs.{ArePointLines, AreNodeLines, key_front};
 ghost use Rattle.tcd_report.specs.Graphs.KnownHandlers.{KnowsHandlers};
@@ -90,7 +90,7 @@ fn append_point_lines(
     s: &State,
 ) -> Result<(), NoMemory>
     requires judged { IsAcceptedWithLimits judged.now }
-    requires values { AreValues judged.now.bounds.now s.now.regs }
+    requires values { AreInLattice judged.now.bounds.now s.now.regs }
     requires faultless { let j = judged.now in
         IsFaultless j.bounds.now j.image.now j.plan.now key.now addr s.now }
     requires front { string_bytes graph.old.key_front ≡ key_front key.now }

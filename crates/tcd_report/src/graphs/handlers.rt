@@ -1,7 +1,7 @@
 // The handlers of the interrupts that may come at a point, and their lines.
 ghost use Rattle.std.specs.Prelude.{◌≡◌, ◌+◌, ◌≤◌, OnOk, codes, length, ◌<◌, ◌++◌, string_bytes, ◌^◌, ℕ, slice_index};
-ghost use Rattle.cfg_recover.specs.Entries.{irqs_of};
-ghost use Rattle.tcd_report.specs.Graphs.KnownHandlers.{irq_entry_vectors, HasHandlerLines, KnowsHandlers, with_handler_front};
+ghost use Rattle.cfg_recover.specs.Entries.{possible_irqs_of};
+ghost use Rattle.tcd_report.specs.Graphs.KnownHandlers.{irq_entry_vectors, AreHandlerLines, KnowsHandlers, with_handler_front};
 ghost use Rattle.tcd_report.specs.Graphs.{unique_addresses, line_end_to, lines_to};
 ghost use Rattle.tcd_plan.specs.PlanData.{PlanData};
 ghost use Rattle.std.specs.Str.{IsAscii};
@@ -55,7 +55,7 @@ pub(crate) fn find_handlers(
     requires { KnowsHandlers plan.now known.old }
     ensures entries { OnOk result
         (known.new.entries.items
-        ≡ unique_addresses (irq_entry_vectors plan.now (irqs_of plan.now s.now))) }
+        ≡ unique_addresses (irq_entry_vectors plan.now (possible_irqs_of plan.now s.now))) }
     ensures known { OnOk result (KnowsHandlers plan.now known.new) }
 {
     if known.ie == s.ie && known.ccpn == s.ccpn {
@@ -85,7 +85,7 @@ fn set_handler_entries(all: &mut Vec<u32>, plan: &Plan, irqs: &[u8]) -> Result<(
 /// Gives the graph's `irq` lines of known handlers this front. A front as long as the one before is
 /// written over that one.
 pub(crate) fn set_handler_line_front(known: &mut Handlers, front: &str) -> Result<(), NoMemory>
-    requires { HasHandlerLines known.old.front known.old.entries.items known.old.lines.items }
+    requires { AreHandlerLines known.old.front known.old.entries.items known.old.lines.items }
     ensures lines { OnOk result (known.new.lines.items
         ≡ lines_to front.now (codes "irq ") known.new.entries.items) }
     ensures known { OnOk result
@@ -114,7 +114,7 @@ fn make_handler_lines(lines: &mut Vec<u8>, front: &str, entries: &[u32]) -> Resu
 
 // Writes a front over the old one, of the same length, in each of the graph's `irq` lines.
 fn write_handler_fronts(lines: &mut [u8], front: &[u8], entries: &[u32])
-    requires { HasHandlerLines (length front.now) entries.now lines.old }
+    requires { AreHandlerLines (length front.now) entries.now lines.old }
     ensures { lines.new ≡ lines_to front.now (codes "irq ") entries.now }
 {
     let mut at = 0;

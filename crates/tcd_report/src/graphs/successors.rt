@@ -1,7 +1,7 @@
 // The addresses where a point goes on in its frame.
 ghost use Rattle.std.specs.Prelude.{◌≡◌, ◌++◌, [], OnOk, false, is_some, true, unwrap_or};
 ghost use Rattle.tc_isa.specs.InBounds.{IsShape, IsTarget};
-ghost use Rattle.value_domain.specs.State.{AreValues};
+ghost use Rattle.value_domain.specs.State.{AreInLattice};
 ghost use Rattle.vd_transfer.specs.Branches.{refine_of};
 ghost use Rattle.cfg_recover.specs.LocalRules.{targets_of};
 ghost use Rattle.cfg_recover.specs.Duties.{jump_on, resume};
@@ -28,7 +28,7 @@ pub(crate) fn push_successors(
     found: &Located,
 ) -> Result<(), NoMemory>
     requires shape { IsShape found.now.shape }
-    requires values { AreValues judged.now.bounds.now s.now.regs }
+    requires values { AreInLattice judged.now.bounds.now s.now.regs }
     ensures { OnOk result (all.new.items ≡ all.old.items
         ++ jump_targets_of (successors_at judged.now (point_of addr s.now) found.now)) }
 {
@@ -94,7 +94,7 @@ fn push_branch_successor(
     to: u32,
 ) -> Result<(), NoMemory>
     requires shape { IsShape shape }
-    requires values { AreValues judged.now.bounds.now s.now.regs }
+    requires values { AreInLattice judged.now.bounds.now s.now.regs }
     ensures { let j = judged.now in OnOk result (all.new.items ≡ all.old.items
         ++ jump_targets_of (jump_on to (refine_of j.bounds.now j.plan.now shape s.now taken))) }
 {
@@ -108,7 +108,7 @@ fn push_branch_successor(
 #[inline(never)]
 fn is_branch_side_possible(judged: &Judged, shape: Shape, s: &State, taken: bool) -> bool
     requires shape { IsShape shape }
-    requires values { AreValues judged.now.bounds.now s.now.regs }
+    requires values { AreInLattice judged.now.bounds.now s.now.regs }
     ensures { let j = judged.now in
         result ≡ is_some (refine_of j.bounds.now j.plan.now shape s.now taken) }
 {

@@ -2,7 +2,7 @@
 ghost use Rattle.std.specs.Prelude.{◌≡◌, ℕ, [], Some, Contains, IfOk, map, unwrap_or};
 ghost use Rattle.std.specs.HashMap.{get};
 ghost use Rattle.depth_cert.specs.Nodes.{NodeData};
-ghost use Rattle.tcd_report.specs.Reports.Heights.{AreNodeHeights, IsGreatestHeight, IsGreatestHeightOf, HasCalleeHeight, HasCalleeHeightAt, AreHeightsLow, height_rank_of};
+ghost use Rattle.tcd_report.specs.Reports.Heights.{AreNodeHeights, IsGreatestHeight, IsGreatestHeightInList, IsHeightThroughCallee, IsHeightThroughCall, AreHeightsBounded, height_rank_of};
 ghost use Rattle.depth_cert.specs.Keys.{key_eq, call_kind};
 ghost use Rattle.tcd_report.specs.Judging.{IsAcceptedWithLimits};
 ghost use Rattle.cfg_recover.specs.Entries as entries;
@@ -59,10 +59,10 @@ fn height_of_node<'a>(
     walk: &mut PointWalk<'a>,
 ) -> u32
     requires judged { IsAcceptedWithLimits judged.now }
-    requires low { AreHeightsLow heights.now }
+    requires low { AreHeightsBounded heights.now }
     requires stands { Contains judged.now.cert.now.nodes node.now }
     ensures { let j = judged.now in
-        IsGreatestHeightOf (HasCalleeHeightAt j.image.now j.plan.now j.cert.now heights.now
+        IsGreatestHeightInList (IsHeightThroughCall j.image.now j.plan.now j.cert.now heights.now
         node.now.key)
         node.now.points result }
 {
@@ -84,11 +84,11 @@ fn height_at_point(
     s: &State,
 ) -> u32
     requires judged { IsAcceptedWithLimits judged.now }
-    requires low { AreHeightsLow heights.now }
+    requires low { AreHeightsBounded heights.now }
     requires faultless { let j = judged.now in
         IsFaultless j.bounds.now j.image.now j.plan.now key.now addr s.now }
     ensures { let j = judged.now in
-        IsGreatestHeight (HasCalleeHeightAt j.image.now j.plan.now j.cert.now heights.now key.now
+        IsGreatestHeight (IsHeightThroughCall j.image.now j.plan.now j.cert.now heights.now key.now
         (point_of addr s.now)) result }
 {
     let Some(found) = codes.locate(judged.image, judged.plan, addr) else {
@@ -126,10 +126,10 @@ fn height_of_call(
     s: &State,
     to: Target,
 ) -> u32
-    requires low { AreHeightsLow heights.now }
+    requires low { AreHeightsBounded heights.now }
     requires target { IsTarget to }
-    ensures { IsGreatestHeightOf
-        (λ t. HasCalleeHeight heights.now (entries.entered_key key.now call_kind t))
+    ensures { IsGreatestHeightInList
+        (λ t. IsHeightThroughCallee heights.now (entries.entered_key key.now call_kind t))
         (unwrap_or (targets_of plan.now s.now addr to) []) result }
 {
     let functions = targets(plan, s, addr, to);
@@ -142,9 +142,9 @@ fn height_of_call(
 
 // The length of the longest call chain that begins with a call of this function.
 fn height_of_callee(heights: &HashMap<Key, u32>, key: &Key, target: u32) -> u32
-    requires { AreHeightsLow heights.now }
+    requires { AreHeightsBounded heights.now }
     ensures { IsGreatestHeight
-        (HasCalleeHeight heights.now (entries.entered_key key.now call_kind target)) result }
+        (IsHeightThroughCallee heights.now (entries.entered_key key.now call_kind target)) result }
 {
     match heights.get(&entered_key(key, CALL, target)) {
         Some(height) => *height + 1,

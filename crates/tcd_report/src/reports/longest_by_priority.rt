@@ -3,7 +3,7 @@ ghost use Rattle.std.specs.Prelude.{◌≡◌, ◌++◌, ℕ, Some, Contains, On
 ghost use Rattle.std.specs.HashMap.{get};
 ghost use Rattle.std.specs.Option.{option_copied};
 ghost use Rattle.depth_cert.specs.Nodes.{NodeData};
-ghost use Rattle.tcd_report.specs.Reports.Longest.{IsLongestIfAny, IsHeightAtPriority, longest_with, longest_calls_of};
+ghost use Rattle.tcd_report.specs.Reports.Longest.{IsLongestIfAny, IsHeightAtPriority, longest_so_far, longest_calls_of};
 ghost use Rattle.depth_cert.specs.Keys.{key_eq};
 ghost use Rattle.tcd_report.specs.Reports.Longest as spec;
 
@@ -65,7 +65,7 @@ pub(crate) fn longest_calls_below(
 
 // Returns the greater of the longest call chain so far, if there is one, and a node's height.
 fn longest_so_far(known: Option<&u32>, height: u32) -> u32
-    ensures { result ≡ longest_with (option_copied known.entry) height }
+    ensures { result ≡ longest_so_far (option_copied known.entry) height }
 {
     match known {
         None => height,

@@ -3,7 +3,7 @@ use Rattle.std.proofs.lemmas.List.{take_all, get_or_default}
 use Rattle.std.proofs.Math.ListN.{length-set}
 use Rattle.value_domain.specs.declared.values.Val.{Val}
 use Rattle.value_domain.specs.Values.{any_val}
-use Rattle.depth_cert.specs.Exits.{values_with_lower_from}
+use Rattle.depth_cert.specs.Exits.{values_after_return_from}
 use Rattle.depth_cert.proofs.ExitValues.{lower_more, restored_at, with_lower_length}
 use Rattle.cfg_recover.proofs.after_return.regs_after_return.Goals as goal
 
@@ -19,4 +19,4 @@ pub returns : goal.returns
 returns c =
     sym (take_all c.loop-i.i c.loop-i.out (omega (arith, c.loop-i.invariant.1)))
     ∙ c.loop-i.invariant.0
-    ∙ take_all c.loop-i.i (values_with_lower_from 0 c.args.lower.now c.args.regs.now) (omega (arith, with_lower_length c.args.lower.now c.args.regs.now))
+    ∙ take_all c.loop-i.i (values_after_return_from 0 c.args.lower.now c.args.regs.now) (omega (arith, with_lower_length c.args.lower.now c.args.regs.now))

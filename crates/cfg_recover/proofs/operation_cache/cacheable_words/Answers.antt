@@ -1,6 +1,6 @@
 use Rattle.std.proofs.Common.{◌∙◌, ℕ, List, sym, ap, subst, arith}
 use Rattle.value_domain.specs.declared.values.Val.TheVariants.{Set}
-use Rattle.value_domain.specs.Sets.{AreWords}
+use Rattle.value_domain.specs.Sets.{AreSetWords}
 use Rattle.value_domain.specs.Values.{any_val}
 use Rattle.value_domain.proofs.RegLaws.{read_at}
 use Rattle.vd_transfer.specs.Registers.{arg_of}
@@ -18,5 +18,5 @@ returns-else-words-lt-MANY_WORDS c =
           ∙ read_at s.regs r c.index-regs-r.result any_val (omega (arith, c.if-r-ge16.false)) c.index-regs-r.is
           ∙ c.in-Set.is
           ∙ ap (λ (l : List ℕ). Set l) (sym c.as_slice-words.ensures.items);
-      words = subst AreWords (sym c.as_slice-words.ensures.items) c.as_slice-words.ensures.words;
+      words = subst AreSetWords (sym c.as_slice-words.ensures.items) c.as_slice-words.ensures.words;
     }

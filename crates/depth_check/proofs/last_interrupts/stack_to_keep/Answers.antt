@@ -2,7 +2,7 @@ use Rattle.std.proofs.Common.{◌≡◌, ◌∙◌, Bool, List, [], arith, refl,
 use Rattle.value_domain.specs.declared.values.Val.{Val}
 use Rattle.arrayvec.specs.ArrayVec.{ArrayVec}
 use Rattle.vd_transfer.specs.declared.change.Change.{Change}
-use Rattle.vd_transfer.specs.Changes.{no_put, put_of_register}
+use Rattle.vd_transfer.specs.Changes.{no_write, register_write}
 use Rattle.cfg_recover.proofs.EntryChanges.{handler_values}
 use Rattle.depth_check.proofs.RuleLaws.{values_well}
 use Rattle.depth_check.proofs.InterruptLaws.{own_value, own_holds, entered_state, other_stack}
@@ -30,9 +30,9 @@ returns-in-None-clause-holds c =
     let s = c.at.inside.point.state.now in
     let sp = c.in-Some.sp in
     let k = c.identity_change-entry.result in
-    let first : c.register_write-entry.result ≡ put_of_register 26 sp = c.register_write-entry.ensures ∙ ap (λ (v : Val). put_of_register 26 v) c.copy.ensures in
-    let second : k.second ≡ no_put = ap (λ (x : Change). x.second) c.identity_change-entry.ensures.kept in
-    let third : k.third ≡ no_put = ap (λ (x : Change). x.third) c.identity_change-entry.ensures.kept in
+    let first : c.register_write-entry.result ≡ register_write 26 sp = c.register_write-entry.ensures ∙ ap (λ (v : Val). register_write 26 v) c.copy.ensures in
+    let second : k.second ≡ no_write = ap (λ (x : Change). x.second) c.identity_change-entry.ensures.kept in
+    let third : k.third ≡ no_write = ap (λ (x : Change). x.third) c.identity_change-entry.ensures.kept in
     let none : c.clear.new.self ≡ record { items = [] } = ap (λ (l : List Bool). let a : ArrayVec Bool = record { items = l } in a) c.clear.ensures in
     rw (← c.at.view_is)
     (other_stack c.at.inside.plan.now c.at.inside.cert.now c.at.inside.node.now s _ sp k.ccpn _ (entered_state s sp k.ccpn c.register_write-entry.result k.second k.third c.clear.new.self first second third none) (c.as_slice.ensures.value ∙ c.possible_irqs.ensures) c.in-Some.ensures.stack

@@ -6,10 +6,10 @@ use Rattle.std.proofs.lemmas.List.{append-nil}
 use Rattle.value_domain.specs.Limits.{Limits}
 use Rattle.depth_cert.specs.declared.points.Point.{Point}
 use Rattle.depth_cert.specs.Nodes.{NodeData}
-use Rattle.cfg_recover.specs.RulesHoldOrFail.{limits_in, HoldsAtEntry, RuleHolds}
-use Rattle.value_domain.specs.State.{AreValues}
+use Rattle.cfg_recover.specs.RulesHoldOrFail.{limits_of_cert, EntryRuleHolds, RuleHolds}
+use Rattle.value_domain.specs.State.{AreInLattice}
 use Rattle.depth_check.specs.declared.nodes.Fault.{Fault}
-use Rattle.depth_check.specs.NodeFaults.{IsNodeFault, earlier_node_fault}
+use Rattle.depth_check.specs.NodeFaults.{IsFirstNodeFault, earlier_node_fault}
 use Rattle.depth_check.proofs.InterruptLaws.{interrupts_at, stack_well, stacks_well}
 use Rattle.depth_check.proofs.CallLaws.{HoldsNext, next_holds, holds_next}
 use Rattle.depth_check.proofs.Deciding.{refuted}
@@ -25,8 +25,8 @@ is_point_in_lattice-requires c =
     rw (c.point_of_walk-here.ensures.state, c.requires.limits)
     (λ known.
     let k = c.point_of_walk-here.ensures.known known in
-    known_values (limits_in c.args.plan.now c.args.cert.now) (c.loop-addr.scratch.walk).current c.advance.new.self c.in-Some.ensures.1 (c.loop-addr.invariant.known (ltb-true 0 c.loop-addr.next k.0))
-    (subst (λ (l : Limits). AreValues l c.advance.new.self.anew) c.requires.limits k.1))
+    known_values (limits_of_cert c.args.plan.now c.args.cert.now) (c.loop-addr.scratch.walk).current c.advance.new.self c.in-Some.ensures.1 (c.loop-addr.invariant.known (ltb-true 0 c.loop-addr.next k.0))
+    (subst (λ (l : Limits). AreInLattice l c.advance.new.self.anew) c.requires.limits k.1))
 
 pub returns-then-not-is_point_in_lattice-clause-fault : goal.returns-then-not-is_point_in_lattice-clause-fault
 returns-then-not-is_point_in_lattice-clause-fault c =
@@ -40,7 +40,7 @@ returns-then-not-is_point_in_lattice-clause-fault c =
     (values_broken c.args.image.now c.args.plan.now c.args.cert.now c.args.node.now p c.args.b.now c.requires.limits (refuted c.is_point_in_lattice.result _ c.if-not-is_point_in_lattice.true (rw c.point_of_walk-here.ensures.state at c.is_point_in_lattice.ensures)))
     c.point_address_fits_word.ensures
     (subst (λ (n : NodeData). (n.key).entry < 2 ^ 32) c.node.view_is (omega arith))
-    (subst (λ (l : Limits). IsTrue c.entry_rule_holds-good.result ↔ HoldsAtEntry l c.args.node.now) c.requires.limits c.entry_rule_holds-good.ensures)
+    (subst (λ (l : Limits). IsTrue c.entry_rule_holds-good.result ↔ EntryRuleHolds l c.args.node.now) c.requires.limits c.entry_rule_holds-good.ensures)
     (ap (λ (n : NodeData). earlier_node_fault c.entry_rule_holds-good.result (n.key).entry c.in-Some.addr (Some 2)) (sym c.node.view_is) ∙ sym c.earlier_node_fault.ensures)
 
 pub returns-in-Some-earlier_node_fault-clause-fault : goal.returns-in-Some-earlier_node_fault-clause-fault
@@ -55,7 +55,7 @@ returns-in-Some-earlier_node_fault-clause-fault c =
     (subst (λ (l : List Point). All (λ (q : Point). (r : ℕ) → RuleHolds c.args.image.now c.args.plan.now c.args.cert.now c.args.node.now q r) l) (sym b.before) inv.all)
     finds c.point_address_fits_word.ensures
     (subst (λ (n : NodeData). (n.key).entry < 2 ^ 32) c.node.view_is (omega arith))
-    (subst (λ (l : Limits). IsTrue c.entry_rule_holds-good.result ↔ HoldsAtEntry l c.args.node.now) c.requires.limits c.entry_rule_holds-good.ensures)
+    (subst (λ (l : Limits). IsTrue c.entry_rule_holds-good.result ↔ EntryRuleHolds l c.args.node.now) c.requires.limits c.entry_rule_holds-good.ensures)
     (ap (λ (n : NodeData). earlier_node_fault c.entry_rule_holds-good.result (n.key).entry c.in-Some.addr c.rule_broken_at-found.result) (sym c.node.view_is) ∙ sym c.earlier_node_fault-in-Some.ensures ∙ c.in-Some-earlier_node_fault.is)
 
 pub point_of_walk-here-requires-clause-stacks : goal.point_of_walk-here-requires-clause-stacks
@@ -158,9 +158,9 @@ returns-else-good-clause-fault c =
     let inv = c.loop-addr.invariant in
     let points = c.args.node.now.points in
     let whole : points ≡ inv.done = inv.split ∙ ap (λ (l : List Point). inv.done ++ l) c.in_default.ensures.0 ∙ append-nil inv.done in
-    subst (λ (f : Fault). IsNodeFault c.args.image.now c.args.plan.now c.args.cert.now c.args.node.now f.rule f.addr) (sym c.node_entry_fault.ensures)
-    (subst (λ (n : NodeData). IsNodeFault c.args.image.now c.args.plan.now c.args.cert.now c.args.node.now 2 (n.key).entry) (sym c.node.view_is)
+    subst (λ (f : Fault). IsFirstNodeFault c.args.image.now c.args.plan.now c.args.cert.now c.args.node.now f.rule f.addr) (sym c.node_entry_fault.ensures)
+    (subst (λ (n : NodeData). IsFirstNodeFault c.args.image.now c.args.plan.now c.args.cert.now c.args.node.now 2 (n.key).entry) (sym c.node.view_is)
     (entry_alone c.args.image.now c.args.plan.now c.args.cert.now c.args.node.now c.requires.member points refl c.start_walk.ensures.rising
     (subst (λ (l : List Point). All (λ (q : Point). (r : ℕ) → RuleHolds c.args.image.now c.args.plan.now c.args.cert.now c.args.node.now q r) l) (sym whole) inv.all)
-    (refuted _ _ c.if-good.false (subst (λ (l : Limits). IsTrue c.entry_rule_holds-good.result ↔ HoldsAtEntry l c.args.node.now) c.requires.limits c.entry_rule_holds-good.ensures))
+    (refuted _ _ c.if-good.false (subst (λ (l : Limits). IsTrue c.entry_rule_holds-good.result ↔ EntryRuleHolds l c.args.node.now) c.requires.limits c.entry_rule_holds-good.ensures))
     (subst (λ (n : NodeData). (n.key).entry < 2 ^ 32) c.node.view_is (omega arith))))

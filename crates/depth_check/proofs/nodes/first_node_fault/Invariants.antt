@@ -1,10 +1,10 @@
 use Rattle.std.proofs.Common.{◌≡◌, ◌<◌, ◌++◌, ℕ, List, length}
 use Rattle.std.specs.Prelude.{All}
-use Rattle.value_domain.specs.State.{AreValues}
-use Rattle.cfg_recover.specs.RulesHoldOrFail.{limits_in, RuleHolds}
+use Rattle.value_domain.specs.State.{AreInLattice}
+use Rattle.cfg_recover.specs.RulesHoldOrFail.{limits_of_cert, RuleHolds}
 use Rattle.depth_cert.specs.declared.points.Point.{Point}
 use Rattle.depth_check.specs.Interrupts.{LastInterruptsHold}
-use Rattle.cfg_recover.specs.SetOperations.{HoldsCachedResults}
+use Rattle.cfg_recover.specs.SetOperations.{IsCorrectCache}
 use Rattle.depth_check.proofs.CallLaws.{HoldsNext}
 use Rattle.depth_check.proofs.nodes.first_node_fault.Given as goal
 
@@ -14,9 +14,9 @@ invariant-loop-addr l = record {
   split : (l.node).points ≡ done ++ (l.scratch.walk).left;
   points : (l.scratch.walk).points ≡ (l.node).points;
   all : All (λ (p : Point). (r : ℕ) → RuleHolds l.image l.plan l.cert l.node p r) done;
-  known : 0 < l.next → AreValues (limits_in l.plan l.cert) ((l.scratch.walk).current).regs;
+  known : 0 < l.next → AreInLattice (limits_of_cert l.plan l.cert) ((l.scratch.walk).current).regs;
   interrupts : LastInterruptsHold l.plan l.cert l.scratch.interrupts;
-  results : HoldsCachedResults l.b (l.scratch.point).cache;
+  results : IsCorrectCache l.b (l.scratch.point).cache;
   registers : HoldsNext l.plan l.cert l.node (l.scratch.walk).left (l.scratch.point).registers;
 }
 

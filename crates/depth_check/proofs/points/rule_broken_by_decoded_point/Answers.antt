@@ -1,6 +1,6 @@
 use Rattle.std.proofs.Common.{◌≡◌, ap, subst}
 use Rattle.value_domain.specs.Limits.{Limits}
-use Rattle.value_domain.specs.State.{AreValues}
+use Rattle.value_domain.specs.State.{AreInLattice}
 use Rattle.depth_cert.specs.declared.keys.Key.{Key}
 use Rattle.depth_cert.specs.Nodes.{NodeData}
 use Rattle.cfg_recover.specs.LocalFaults.{IsFaultlessShape, IsLocalFault}
@@ -39,7 +39,7 @@ returns-in-Ok-clause-found c =
     let stands = subst (λ (b : Limits). IsFaultlessShape b t.image t.plan (t.node).key t.point.addr t.point.state found) c.at.invariant.limits here in
     rw (c.lesser_broken_rule.ensures, c.broken_rule_unless-need.ensures, ← c.at.view_is)
     (duties_found t.image t.plan t.cert t.node t.point found.shape found.size
-    (subst (λ (b : Limits). AreValues b (t.point.state).regs) c.at.invariant.limits c.at.invariant.values)
+    (subst (λ (b : Limits). AreInLattice b (t.point.state).regs) c.at.invariant.limits c.at.invariant.values)
     stands.faultless stands.code
     c.rule_broken_by_duties-duties.result c.has_need_for_point.result
     (subst (λ (b : Limits). FindsLeastBroken (DutiesHold t.cert t.node t.point.state (duties_of b t.image t.plan (t.node).key t.point.addr t.point.state found.shape found.size)) c.rule_broken_by_duties-duties.result) c.at.invariant.limits (rw (← c.at.view_is) at c.rule_broken_by_duties-duties.ensures.found))

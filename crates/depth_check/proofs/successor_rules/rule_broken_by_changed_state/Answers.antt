@@ -1,6 +1,6 @@
 use Rattle.std.proofs.Common.{subst, [], ◌∷◌}
 use Rattle.value_domain.specs.declared.states.State.{State}
-use Rattle.tc_machine.specs.Instructions.{machine_address_ahead}
+use Rattle.tc_machine.specs.Instructions.{wrapping_sum}
 use Rattle.vd_transfer.specs.Changes.{state_after}
 use Rattle.cfg_recover.specs.Duties.{owed, jump}
 use Rattle.depth_check.specs.LeastBroken.{broken_rule_unless, FindsLeastBrokenByDuties}
@@ -16,7 +16,7 @@ pub returns-clause-found : goal.returns-clause-found
 returns-clause-found c =
     let t = point_check_data c.at.inside in
     let s = t.point.state in
-    let there = machine_address_ahead t.point.addr c.args.found.now.size in
+    let there = wrapping_sum t.point.addr c.args.found.now.size in
     rw (c.broken_rule_unless.ensures, ← c.at.view_is)
     (subst (λ (u : State). FindsLeastBrokenByDuties t (owed 4 (jump there u) ∷ []) (broken_rule_unless c.is_changed_state_covered.result 4)) (rw (← c.at.view_is) at c.write_change_at.ensures.change)
     (point_found t.cert t.node s (state_after s c.write_change_at.new.scratch.change) there c.is_changed_state_covered.result (rw (← c.at.view_is) at c.is_changed_state_covered.ensures)))

@@ -1,7 +1,7 @@
 use Rattle.std.proofs.Common.{◌∙◌, List, [], ℕ, Option, Some, true, subst}
 use Rattle.std.specs.Prelude.{IfSome, unwrap_or}
 use Rattle.vd_transfer.specs.Registers.{reg_of}
-use Rattle.cfg_recover.specs.LocalRules.{targets_named_by}
+use Rattle.cfg_recover.specs.LocalRules.{targets_of_value}
 use Rattle.cfg_recover.specs.Duties.{jumps_to}
 use Rattle.depth_check.specs.CheckedRegisters.{RegisterJumpsHold}
 use Rattle.depth_check.specs.LeastBroken.{FindsLeastBroken}
@@ -19,7 +19,7 @@ returns-then-eq-clause-found c =
     let s = t.point.state in
     let holds : RegisterJumpsHold t.plan t.node s c.args.r =
     subst (λ (o : Option ℕ). IfSome o (RegisterJumpsHold t.plan t.node s)) (same_word c.args.jumped.now c.args.r c.eq.result c.eq.ensures c.if-eq.true) c.requires.jumped in
-    points_found t.cert t.node s s (unwrap_or (targets_named_by (reg_of t.plan s c.args.r)) []) true (yes _ holds)
+    points_found t.cert t.node s s (unwrap_or (targets_of_value (reg_of t.plan s c.args.r)) []) true (yes _ holds)
 
 -- all targets have points
 found_all : (c : Then-has_covering_points) → RegisterJumpsHold c.args.at.now.plan c.args.at.now.node c.args.at.now.point.state c.args.r
@@ -32,7 +32,7 @@ pub returns-then-has_covering_points-clause-found : goal.returns-then-has_coveri
 returns-then-has_covering_points-clause-found c =
     let t = c.args.at.now in
     let s = t.point.state in
-    points_found t.cert t.node s s (unwrap_or (targets_named_by (reg_of t.plan s c.args.r)) []) true (yes _ (found_all c))
+    points_found t.cert t.node s s (unwrap_or (targets_of_value (reg_of t.plan s c.args.r)) []) true (yes _ (found_all c))
 
 pub returns-then-has_covering_points-clause-jumped : goal.returns-then-has_covering_points-clause-jumped
 returns-then-has_covering_points-clause-jumped c = found_all c

@@ -1,9 +1,9 @@
 use Rattle.std.proofs.Common.{refl, sym, subst, ◌∙◌, ◌≡◌, ℕ, [], inr, false}
 use Rattle.std.specs.Prelude.{IfSome, IfNone}
 use Rattle.frame_places.specs.declared.places.Mark.TheVariants.{Open}
-use Rattle.frame_places.specs.Marks.{is_queued, mark_for}
+use Rattle.frame_places.specs.Marks.{is_queued, mark_of_place}
 use Rattle.frame_places.specs.Numbers.{PlaceHasNumber}
-use Rattle.frame_places.specs.Work.{TakesPlace, all_work}
+use Rattle.frame_places.specs.Work.{PopsPlace, all_work}
 use Rattle.frame_places.proofs.WorkLemmas.{takes_there}
 use Rattle.depth_maker.specs.declared.table.Table as made
 use Rattle.depth_maker.proofs.Lawful.{lawful}
@@ -25,9 +25,9 @@ pub returns-then-not-is_place_queued-clause-steps : goal.returns-then-not-is_pla
 returns-then-not-is_place_queued-clause-steps c =
     let s = c.args.table.now in
     let number = c.in-Some.number in
-    let takes = subst (λ o. IfSome o (TakesPlace s.work c.pop.new.self)) c.in-Some.is c.in_ok-number.ensures.some in
+    let takes = subst (λ o. IfSome o (PopsPlace s.work c.pop.new.self)) c.in-Some.is c.in_ok-number.ensures.some in
     let x = c.requires.fine.listed.known number (takes_there s.work c.pop.new.self number takes) in
-    let idle : is_queued (mark_for s.places x.0) ≡ false = sym (c.is_place_queued.ensures x.0 x.1) ∙ c.if-not-is_place_queued.true in (
+    let idle : is_queued (mark_of_place s.places x.0) ≡ false = sym (c.is_place_queued.ensures x.0 x.1) ∙ c.if-not-is_place_queued.true in (
       passed_over _ _ _ s _ x.0 number refl takes x.1 idle c.requires.fine,
       c.requires.none,
       inr (same_level s _ (λ q. refl) refl refl, shorter s.work c.pop.new.self number takes),
@@ -37,7 +37,7 @@ pub visit_place-requires-clause-fine : goal.visit_place-requires-clause-fine
 visit_place-requires-clause-fine c =
     let s = c.args.table.now in
     let number = c.in-Some.number in
-    let takes = subst (λ o. IfSome o (TakesPlace s.work c.pop.new.self)) c.in-Some.is c.in_ok-number.ensures.some in
+    let takes = subst (λ o. IfSome o (PopsPlace s.work c.pop.new.self)) c.in-Some.is c.in_ok-number.ensures.some in
     let x = c.requires.fine.listed.known number (takes_there s.work c.pop.new.self number takes) in
     (opened _ _ _ (lawful _ _ _ c.args.ground.now.sound) s _ x.0 Open (c.begin_visit.ensures x.0 x.1) refl refl refl refl refl c.requires.fine c.requires.none takes x.1).0
 
@@ -45,7 +45,7 @@ pub returns-clause-steps : goal.returns-clause-steps
 returns-clause-steps c =
     let s = c.args.table.now in
     let number = c.in-Some.number in
-    let takes = subst (λ o. IfSome o (TakesPlace s.work c.pop.new.self)) c.in-Some.is c.in_ok-number.ensures.some in
+    let takes = subst (λ o. IfSome o (PopsPlace s.work c.pop.new.self)) c.in-Some.is c.in_ok-number.ensures.some in
     let x = c.requires.fine.listed.known number (takes_there s.work c.pop.new.self number takes) in
     let marks = c.begin_visit.ensures x.0 x.1 in
     let o : made.Table = record s { places = c.begin_visit.new.places; work = c.pop.new.self; near = number } in

@@ -3,7 +3,7 @@ use Rattle.std.proofs.lemmas.List.{take_all}
 use Rattle.tcd_plan.specs.PlanData.{PlanData}
 use Rattle.depth_cert.specs.declared.keys.Key.{Key}
 use Rattle.frame_places.specs.Numbers.{frame_number_in}
-use Rattle.depth_maker.specs.InterruptHandlers.{AreHandlers}
+use Rattle.depth_maker.specs.InterruptHandlers.{AreHandlersOfIrqs}
 use Rattle.depth_maker.proofs.HandlerLaws.{handlers_more, handlers_none}
 use Rattle.depth_maker.proofs.interrupt_handlers.all_handlers.Goals as goal
 
@@ -18,4 +18,4 @@ loop-p-preserved c frames are =
 
 pub returns : goal.returns
 returns c frames are =
-    subst (λ (l : List ℕ). AreHandlers c.args.plan.now frames l c.loop-p.handlers.items) (take_all c.loop-p.p-index c.as_slice-irqs.result.now c.loop-p-test.false ∙ c.as_slice-irqs.ensures.value ∙ ap (λ (p : PlanData). p.irqs) c.plan.view_is) (c.loop-p.invariant frames are)
+    subst (λ (l : List ℕ). AreHandlersOfIrqs c.args.plan.now frames l c.loop-p.handlers.items) (take_all c.loop-p.p-index c.as_slice-irqs.result.now c.loop-p-test.false ∙ c.as_slice-irqs.ensures.value ∙ ap (λ (p : PlanData). p.irqs) c.plan.view_is) (c.loop-p.invariant frames are)

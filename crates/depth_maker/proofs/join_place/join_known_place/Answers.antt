@@ -2,13 +2,13 @@ use Rattle.std.proofs.Common.{◌≡◌, Bool, true, false, Option, ap, sym, ◌
 use Rattle.std.proofs.lemmas.Option.{same_Some}
 use Rattle.std.specs.Option.{option_map}
 use Rattle.std.specs.Prelude.{is_some}
-use Rattle.cfg_recover.specs.Assignments.{raised_at_place}
+use Rattle.cfg_recover.specs.Assignments.{joined_at_place}
 use Rattle.depth_cert.specs.Known.{CoversKnown, Known, state}
 use Rattle.value_domain.specs.declared.states.State.{State}
 use Rattle.frame_places.specs.declared.places.Spot.TheVariants.{Point}
 use Rattle.frame_places.specs.declared.places.Marked.{Marked}
-use Rattle.frame_places.specs.Counting.{counted_frames_after, counted_points_after}
-use Rattle.frame_places.specs.Marks.{value_for}
+use Rattle.frame_places.specs.Counting.{frames_after_flow, points_after_flow}
+use Rattle.frame_places.specs.Marks.{value_of_place}
 use Rattle.frame_places.proofs.NearbyLemmas.{had_at, nowhere}
 use Rattle.small_states.specs.Incoming.{incoming_known}
 use Rattle.depth_maker.specs.SpotsAsPlaces.{place_of_spot}
@@ -64,7 +64,7 @@ returns-then-covers c =
     stays_joined _ _ _ s c.args.y.now (incoming_known c.args.incoming.now) c.requires.fine
     (record {
       known = c.in-Some.place.now.value;
-      at = ap (value_for s.places) (forth c.args.y.now) ∙ at;
+      at = ap (value_of_place s.places) (forth c.args.y.now) ∙ at;
       covers = c.covers.ensures.0 c.if-covers.true;
     })
 
@@ -81,7 +81,7 @@ returns c =
     let at = ap (option_map (λ (m : Marked Known). m.value)) (had_at s.places c.args.number c.args.y.now _ c.in-Some.place.now (sym c.in-Some.ensures.entry) c.in-Some.ensures.value c.requires.there) in
     record {
       known = c.in-Some-2.cell;
-      raises = ap (λ (o : Option Known). raised_at_place c.args.v.now.ground.now.bounds.now o v) at ∙ sym c.in_ok-cell.ensures ∙ c.in-Some-2.is;
+      raises = ap (λ (o : Option Known). joined_at_place c.args.v.now.ground.now.bounds.now o v) at ∙ sym c.in_ok-cell.ensures ∙ c.in-Some-2.is;
       new = λ w there covers.
           (let no : true ≡ false =
           sym (c.covers.ensures.1 (subst (λ (z : Known). CoversKnown z v) (same_Some w c.in-Some.place.now.value (sym there ∙ at)) covers)) ∙ c.if-covers.false in cc);
@@ -90,8 +90,8 @@ returns c =
       near = refl;
       readers = refl;
       covered = refl;
-      points = ap (λ (k : Bool). counted_points_after k s.points.items c.args.y.now) (sym (ap is_some at));
-      frames = ap (λ (k : Bool). counted_frames_after k s.frames.items c.args.y.now) (sym (ap is_some at));
+      points = ap (λ (k : Bool). points_after_flow k s.points.items c.args.y.now) (sym (ap is_some at));
+      frames = ap (λ (k : Bool). frames_after_flow k s.frames.items c.args.y.now) (sym (ap is_some at));
       few = (c.requires.fine.counted).few;
     }
 

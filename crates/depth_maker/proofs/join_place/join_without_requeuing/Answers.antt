@@ -9,7 +9,7 @@ use Rattle.frame_places.specs.declared.places.Spot.TheVariants.{Point}
 use Rattle.frame_places.proofs.MarkLemmas.{same_value}
 use Rattle.frame_places.proofs.NearbyLemmas.{had_at, index_there, nowhere}
 use Rattle.small_states.specs.Incoming.{incoming_known}
-use Rattle.depth_maker.specs.Joins.{FlowsInto, IsJoinedAloneOn}
+use Rattle.depth_maker.specs.Joins.{FlowsInto, RaisesOnlyPlaceForInputs}
 use Rattle.depth_maker.specs.TableView.{view_of_table}
 use Rattle.depth_maker.proofs.PartLemmas.{asks_again, near_left, raises_again}
 use Rattle.depth_maker.proofs.join_place.join_without_requeuing.Goals as goal
@@ -37,7 +37,7 @@ returns-in_err-add_place_if_new c =
 pub returns-in-None : goal.returns-in-None
 returns-in-None c =
     let asks = subst (FlowsInto c.args.v.now.ground.now c.args.table.now c.args.y.now) (sym c.in_ok-value.ensures) c.requires.incoming in
-    subst (IsJoinedAloneOn c.args.v.now.ground.now c.args.table.now c.add_place_if_new.new.table c.args.y.now) c.in_ok-value.ensures (rw c.in-None.is at c.in_ok-add_place_if_new.ensures c.args.v.now.ground.now c.requires.fine asks)
+    subst (RaisesOnlyPlaceForInputs c.args.v.now.ground.now c.args.table.now c.add_place_if_new.new.table c.args.y.now) c.in_ok-value.ensures (rw c.in-None.is at c.in_ok-add_place_if_new.ensures c.args.v.now.ground.now c.requires.fine asks)
 
 pub join_known_place-requires-in-Some-2-clause-fine : goal.join_known_place-requires-in-Some-2-clause-fine
 join_known_place-requires-in-Some-2-clause-fine c = (let asks = subst (FlowsInto c.args.v.now.ground.now c.args.table.now c.args.y.now) (sym c.in_ok-value.ensures) c.requires.incoming in

@@ -1,7 +1,7 @@
 use Rattle.std.proofs.Common.{sym, subst, refl, [], ◌∷◌}
 use Rattle.std.specs.Prelude.{OnOk}
 use Rattle.value_domain.specs.declared.states.State.{State}
-use Rattle.tc_machine.specs.Instructions.{machine_address_ahead}
+use Rattle.tc_machine.specs.Instructions.{wrapping_sum}
 use Rattle.cfg_recover.specs.Duties.{owed, jump}
 use Rattle.depth_maker.specs.VisitDuties.{OwesDuty, JoinedBy}
 use Rattle.depth_maker.proofs.PartLemmas.{owes_one}
@@ -13,10 +13,10 @@ write_step_change-requires-clause-room c = let f = c.requires.found in ((f.fault
 pub join_first_successor-requires-clause-owes : goal.join_first_successor-requires-clause-owes
 join_first_successor-requires-clause-owes c =
     let v = c.args.v.now in
-    let n = machine_address_ahead v.addr c.args.found.now.size in
+    let n = wrapping_sum v.addr c.args.found.now.size in
     subst (λ (s : State). OwesDuty v (jump n s)) (sym c.write_step_change.ensures.change) (owes_one _ _ _ v.key v.addr v.state.now (owed 4 (jump n _)) c.requires.owes)
 
 pub returns-clause-ok : goal.returns-clause-ok
 returns-clause-ok c =
     let v = c.args.v.now in
-    subst (λ (s : State). OnOk c.join_first_successor.result (JoinedBy v c.args.table.now c.join_first_successor.new.table (owed 4 (jump (machine_address_ahead v.addr c.args.found.now.size) s) ∷ []))) c.write_step_change.ensures.change c.join_first_successor.ensures.ok
+    subst (λ (s : State). OnOk c.join_first_successor.result (JoinedBy v c.args.table.now c.join_first_successor.new.table (owed 4 (jump (wrapping_sum v.addr c.args.found.now.size) s) ∷ []))) c.write_step_change.ensures.change c.join_first_successor.ensures.ok

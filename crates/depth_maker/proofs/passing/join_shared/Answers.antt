@@ -2,7 +2,7 @@ use Rattle.std.proofs.Common.{sym, ◌∙◌, subst}
 use Rattle.std.proofs.lemmas.Result.{err_from_is_err_and}
 use Rattle.frame_places.specs.declared.places.Spot.TheVariants.{Point}
 use Rattle.frame_places.proofs.NearbyLemmas.{nowhere}
-use Rattle.depth_maker.specs.Joins.{FlowsInto, IsJoinedAloneOn}
+use Rattle.depth_maker.specs.Joins.{FlowsInto, RaisesOnlyPlaceForInputs}
 use Rattle.depth_maker.specs.TableView.{view_of_table}
 use Rattle.depth_maker.proofs.Lawful.{lawful}
 use Rattle.depth_maker.proofs.PartLemmas.{all_left}
@@ -47,7 +47,7 @@ returns-in-None c =
     let passes = c.in-Some.ensures in
     let laws = lawful _ _ _ v.ground.now.sound in (
       passed_on _ _ _ v.key v.addr e.0 s c.in-Some.to e.2 passes laws _ c.requires.fine (visited_at _ _ _ laws s v.key v.addr e.0 c.requires.fine c.requires.near e.2).well_formed quiet.0 quiet.1
-          (subst (IsJoinedAloneOn v.ground.now s c.add_place_if_new.new.table (Point v.key c.in-Some.to)) (c.in_ok-value.ensures ∙ e.1) (rw c.in-None.is at c.in_ok-add_place_if_new.ensures v.ground.now c.requires.fine asks)),
+          (subst (RaisesOnlyPlaceForInputs v.ground.now s c.add_place_if_new.new.table (Point v.key c.in-Some.to)) (c.in_ok-value.ensures ∙ e.1) (rw c.in-None.is at c.in_ok-add_place_if_new.ensures v.ground.now c.requires.fine asks)),
       record { shape = passes.shape; size = passes.size; code = passes.code; shaped = passes.shaped; enters = passes.enters },
     )
 

@@ -3,8 +3,8 @@ use Rattle.std.specs.Prelude.{map}
 use Rattle.std.proofs.lemmas.List.{length-map}
 use Rattle.depth_cert.specs.declared.keys.Key.{Key}
 use Rattle.depth_cert.specs.Keys.{number_of_key}
-use Rattle.frame_places.specs.NodeGraph.{AreEdgesBetween, AreReachingMarks, IsFirstRecursiveNode}
-use Rattle.depth_maker.specs.Recursing.{IsFirstRecursiveAddress, recursion_orders_in}
+use Rattle.frame_places.specs.NodeGraph.{AreEdgesBelow, AreReachingMarks, IsFirstRecursiveNode}
+use Rattle.depth_maker.specs.Recursing.{IsFirstRecursiveAddress, frame_key_numbers}
 use Rattle.depth_maker.specs.declared.rows.Source.{Source}
 use Rattle.frame_places.specs.declared.needs.reach.FrameEdge.{FrameEdge}
 use Rattle.frame_places.specs.declared.places.Spot.{Spot}
@@ -13,12 +13,12 @@ use Rattle.depth_maker.proofs.recursion.first_recursion.Goals as goal
 
 -- the orders of the frames are those of the table
 first_by : (s : Source) (edges : List FrameEdge) (frames : List Key) (orders : List ℕ) (node : ℕ) → orders ≡ map number_of_key frames → frames ≡ (s.table.now).frames.items → IsFirstRecursiveNode orders edges (Some node)
-    → IsFirstRecursiveNode (recursion_orders_in s) edges (Some node)
+    → IsFirstRecursiveNode (frame_key_numbers s) edges (Some node)
 first_by s edges frames orders node is same first = subst (λ (l : List ℕ). IsFirstRecursiveNode l edges (Some node)) (is ∙ ap (λ (l : List Key). map number_of_key l) same) first
 
 pub first_recursive_node-requires : goal.first_recursive_node-requires
 first_recursive_node-requires c =
-    subst (AreEdgesBetween c.args.edges.now)
+    subst (AreEdgesBelow c.args.edges.now)
     (sym (ap (λ (l : List ℕ). length l) (c.as_slice.ensures.value ∙ c.in_ok-orders.ensures) ∙ length-map c.args.frames.now number_of_key ∙ ap (λ (l : List Key). length l) c.requires.frames))
     (edges_within c.args.source.now c.requires.source c.args.edges.now c.requires.edges)
 
@@ -27,7 +27,7 @@ returns-in_default c = none_recurs c.args.source.now c.requires.source c.args.ed
 
 pub reaching_marks-requires-clause-edges : goal.reaching_marks-requires-clause-edges
 reaching_marks-requires-clause-edges c =
-    subst (λ (l : List Key). AreEdgesBetween c.args.edges.now (length l)) (sym c.requires.frames) (edges_within c.args.source.now c.requires.source c.args.edges.now c.requires.edges)
+    subst (λ (l : List Key). AreEdgesBelow c.args.edges.now (length l)) (sym c.requires.frames) (edges_within c.args.source.now c.requires.source c.args.edges.now c.requires.edges)
 
 pub returns : goal.returns
 returns c =

@@ -3,7 +3,7 @@ use Rattle.indexmap.specs.IndexMap.{get}
 use Rattle.frame_places.specs.Spots.{spot_eq}
 use Rattle.frame_places.specs.declared.places.Spot.TheVariants.{Point}
 use Rattle.small_states.specs.declared.known.Outline.{Outline}
-use Rattle.depth_maker.specs.Rows.{IsPlainRow, HasEqualRow}
+use Rattle.depth_maker.specs.Rows.{IsRowOfOutline, HasEqualRow}
 use Rattle.depth_maker.specs.declared.rows.KnownPoint.{KnownPoint}
 use Rattle.depth_maker.proofs.PlainRows.{plain_point}
 use Rattle.depth_maker.proofs.RowSteps.{draft_more, draft_same, index_there, number_there, row_moves}
@@ -26,7 +26,7 @@ returns-then-has_equal_row c =
     let at : get spot_eq s.table.now.places (Point k p) ≡ Some known = ap (get spot_eq s.table.now.places) (sym c.in-Point.is) ∙ c.in-Some.ensures.value in
     let number = number_there s c.requires.source k p known node at c.frame_number_near-node.ensures in
     let r = (c.requires.draft).outlines node b.outline b.there in
-    let row = plain_point s c.requires.source k p known b.outline r.0 at b.plain b.is (subst (λ (n : ℕ). IsPlainRow s n b.outline r.0) number r.2) in
+    let row = plain_point s c.requires.source k p known b.outline r.0 at b.plain b.is (subst (λ (n : ℕ). IsRowOfOutline s n b.outline r.0) number r.2) in
     draft_same s c.args.entry c.in-Some.place.now c.args.draft.now _ (index_there s.table.now.places c.args.entry c.in-Some.place.now known c.in-Some.ensures.entry) c.requires.draft refl refl
     (λ j q e. (r.0, r.1, row_moves s r.0 k j p q (sym c.in-Point.is ∙ e) row))
 

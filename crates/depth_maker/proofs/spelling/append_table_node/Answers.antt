@@ -1,6 +1,6 @@
 use Rattle.std.proofs.Common.{subst, sym, ap, ◌∙◌, arith, List, length}
 use Rattle.std.proofs.lemmas.List.{length-map}
-use Rattle.frame_places.specs.PointEntries.{place_at}
+use Rattle.frame_places.specs.PointEntries.{place_of_entry}
 use Rattle.frame_places.specs.declared.ordering.PointEntry.{PointEntry}
 use Rattle.depth_maker.specs.SpelledCert.{AreTablePointEntries}
 use Rattle.depth_maker.specs.SpotsAsPlaces.{spots_of_entries}
@@ -26,5 +26,5 @@ returns c =
     let s = o.source.now in
     let xs = c.points_of_frame-points.result.now in
     writes_node o c.args.key c.need_as_u16.result (length xs) (spots_of_entries s xs) c.args.out.now.items c.write_key.new.out.items c.put_u16.new.out.items c.append_table_exit.new.out.items c.put_u32.new.out.items c.append_table_points.new.out.items
-    (ap (spots_of_entries s) c.points_of_frame-points.ensures ∙ spots_are o c.requires.ordered c.args.key c.requires.key) c.need_as_u16.ensures (sym (length-map xs (place_at s.table.now.places)))
+    (ap (spots_of_entries s) c.points_of_frame-points.ensures ∙ spots_are o c.requires.ordered c.args.key c.requires.key) c.need_as_u16.ensures (sym (length-map xs (place_of_entry s.table.now.places)))
     c.in_ok-write_key.ensures c.in_ok-put_u16.ensures c.in_ok-append_table_exit.ensures c.in_ok-put_u32.ensures.ok c.in_ok-append_table_points.ensures

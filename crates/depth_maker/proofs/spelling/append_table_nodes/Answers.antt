@@ -3,7 +3,7 @@ use Rattle.std.proofs.lemmas.List.{take_all}
 use Rattle.std.proofs.lemmas.List.Elements.{Contains-get_or}
 use Rattle.std.proofs.lemmas.List.Sorted.{Contains-permutation, IsPermutation-sym}
 use Rattle.depth_cert.specs.declared.keys.Key.{Key}
-use Rattle.depth_maker.specs.SpelledCert.{SpellsTableNodes}
+use Rattle.depth_maker.specs.SpelledCert.{AppendsTableNodes}
 use Rattle.depth_maker.proofs.OutLemmas.{nodes_none, nodes_more}
 use Rattle.depth_maker.proofs.spelling.append_table_nodes.Goals as goal
 
@@ -20,4 +20,4 @@ loop-k-preserved c =
     nodes_more c.args.ordered.now c.args.frames.now c.loop-k.k-index _ c.args.out.now.items c.loop-k.out.items c.append_table_node.new.out.items c.loop-k-test.true c.loop-k.invariant c.in_ok-append_table_node.ensures
 
 pub returns : goal.returns
-returns c = subst (λ (l : List Key). SpellsTableNodes c.args.ordered.now l c.args.out.now.items c.loop-k.out.items) (take_all c.loop-k.k-index c.args.frames.now c.loop-k-test.false) c.loop-k.invariant
+returns c = subst (λ (l : List Key). AppendsTableNodes c.args.ordered.now l c.args.out.now.items c.loop-k.out.items) (take_all c.loop-k.k-index c.args.frames.now c.loop-k-test.false) c.loop-k.invariant

@@ -5,7 +5,7 @@ use Rattle.std.specs.List.Sorted.{IsPermutation, IsNonDecreasingBy}
 use Rattle.depth_cert.specs.declared.keys.Key.{Key}
 use Rattle.depth_cert.specs.Keys.{number_of_key}
 use Rattle.depth_maker.specs.SpelledCert.{IsOrderedCertSource}
-use Rattle.frame_places.specs.PointEntries.{AreEntries, places_at, points_in}
+use Rattle.frame_places.specs.PointEntries.{ArePointEntries, places_of_entries, points_in}
 use Rattle.frame_places.specs.declared.ordering.PointEntry.{PointEntry}
 use Rattle.depth_maker.specs.declared.spelling.Ordered.{Ordered}
 use Rattle.depth_maker.proofs.CountedLemmas.{few_spots}
@@ -27,9 +27,9 @@ returns c =
       source = c.requires.source;
       needs = c.requires.needs;
       unique = c.sorted_points.ensures.unique;
-      points = subst (λ (l : List PointEntry). IsPermutation (points_in places) (places_at places l)) (sym c.as_slice-2.ensures.value) c.in_ok-points.ensures.same;
+      points = subst (λ (l : List PointEntry). IsPermutation (points_in places) (places_of_entries places l)) (sym c.as_slice-2.ensures.value) c.in_ok-points.ensures.same;
       rising = subst (λ (l : List PointEntry). IsNonDecreasingBy (λ (x : PointEntry). x.order) l) (sym c.as_slice-2.ensures.value) c.in_ok-points.ensures.rising;
-      entries = subst (AreEntries places) (sym c.as_slice-2.ensures.value) c.in_ok-points.ensures.entries;
+      entries = subst (ArePointEntries places) (sym c.as_slice-2.ensures.value) c.in_ok-points.ensures.entries;
     } in
     let frames =
     subst (λ (l : List Key). IsPermutation l c.as_slice-frames.result.now) c.as_slice.ensures.value

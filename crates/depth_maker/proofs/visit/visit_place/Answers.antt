@@ -3,8 +3,8 @@ use Rattle.std.specs.Prelude.{IfOk, OnOk, slice_get}
 use Rattle.frame_places.specs.declared.places.Spot.{Spot}
 use Rattle.frame_places.specs.declared.places.Spot.TheVariants.{Exit, Point}
 use Rattle.frame_places.proofs.NearbyLemmas.{nowhere, one_there, there}
-use Rattle.depth_maker.specs.EnteredFrames.{EntersNoFrameIn}
-use Rattle.depth_maker.specs.Visits.{VisitJoinsDutiesOn}
+use Rattle.depth_maker.specs.EnteredFrames.{PlaceEntersNoFrame}
+use Rattle.depth_maker.specs.Visits.{VisitJoinsDutiesForInputs}
 use Rattle.depth_maker.proofs.PartLemmas.{near_left}
 use Rattle.depth_maker.proofs.PassingLaws.{visited_again}
 use Rattle.depth_maker.proofs.VisitLemmas.{duties_exit}
@@ -18,7 +18,7 @@ returns-in_default-at-clause-ok c x stands =
     let s = c.args.table.now in
     let k = c.in_default-at.field-0 in
     let same : Exit k ≡ x = sym c.in_default-at.is ∙ one_there s.places s.near x c.in-Some.at.now _ (sym c.in-Some.ensures.entry) stands in
-    subst (λ (z : Spot). VisitJoinsDutiesOn c.args.ground.now s s z) same (duties_exit _ _ _ s k c.requires.fine)
+    subst (λ (z : Spot). VisitJoinsDutiesForInputs c.args.ground.now s s z) same (duties_exit _ _ _ s k c.requires.fine)
 
 pub join_shared-requires-clause-near : goal.join_shared-requires-clause-near
 join_shared-requires-clause-near c =
@@ -31,7 +31,7 @@ returns-then-branch-clause-ok c x stands =
     let s = c.args.table.now in
     let same : Point c.in-Point.key c.in-Point.addr ≡ x = sym c.in-Point.is ∙ one_there s.places s.near x c.in-Some.at.now _ (sym c.in-Some.ensures.entry) stands in
     let h = rw c.if-branch.true at c.in_ok-join_shared.ensures in
-    subst (λ (z : Spot). VisitJoinsDutiesOn c.args.ground.now s c.join_shared.new.table z) same h.0
+    subst (λ (z : Spot). VisitJoinsDutiesForInputs c.args.ground.now s c.join_shared.new.table z) same h.0
 
 pub returns-then-branch-clause-plain : goal.returns-then-branch-clause-plain
 returns-then-branch-clause-plain c x stands t =
@@ -39,7 +39,7 @@ returns-then-branch-clause-plain c x stands t =
     let g = c.args.ground.now in
     let same : Point c.in-Point.key c.in-Point.addr ≡ x = sym c.in-Point.is ∙ one_there s.places s.near x c.in-Some.at.now _ (sym c.in-Some.ensures.entry) stands in
     let h = rw c.if-branch.true at c.in_ok-join_shared.ensures in
-    subst (λ (z : Spot). EntersNoFrameIn g.image.now g.plan.now z) same h.1
+    subst (λ (z : Spot). PlaceEntersNoFrame g.image.now g.plan.now z) same h.1
 
 pub visit_point-requires-clause-fine : goal.visit_point-requires-clause-fine
 visit_point-requires-clause-fine c = (let h = rw c.if-branch.false at c.in_ok-join_shared.ensures in h.fine)
@@ -58,7 +58,7 @@ returns-clause-ok c x stands =
     let s = c.args.table.now in
     let h = rw c.if-branch.false at c.in_ok-join_shared.ensures in
     let same : Point c.in-Point.key c.in-Point.addr ≡ x = sym c.in-Point.is ∙ one_there s.places s.near x c.in-Some.at.now _ (sym c.in-Some.ensures.entry) stands in
-    subst (λ (z : Spot). OnOk c.visit_point.result (VisitJoinsDutiesOn c.args.ground.now s c.visit_point.new.table z)) same
+    subst (λ (z : Spot). OnOk c.visit_point.result (VisitJoinsDutiesForInputs c.args.ground.now s c.visit_point.new.table z)) same
     (visited_again c.args.ground.now s c.join_shared.new.table c.visit_point.new.table (Point c.in-Point.key c.in-Point.addr) c.visit_point.result h.entries h.keeps c.visit_point.ensures.ok)
 
 pub returns-clause-plain : goal.returns-clause-plain
@@ -66,4 +66,4 @@ returns-clause-plain c x stands =
     let s = c.args.table.now in
     let g = c.args.ground.now in
     let same : Point c.in-Point.key c.in-Point.addr ≡ x = sym c.in-Point.is ∙ one_there s.places s.near x c.in-Some.at.now _ (sym c.in-Some.ensures.entry) stands in
-    subst (λ (z : Spot). IfOk c.visit_point.result (λ plain. IsTrue plain → EntersNoFrameIn g.image.now g.plan.now z)) same c.visit_point.ensures.plain
+    subst (λ (z : Spot). IfOk c.visit_point.result (λ plain. IsTrue plain → PlaceEntersNoFrame g.image.now g.plan.now z)) same c.visit_point.ensures.plain

@@ -1,6 +1,6 @@
 use Rattle.std.proofs.Common.{inr, subst, sym, refl, ap, ◌∙◌, arith, List, Vec, Global}
 use Rattle.elf_image.specs.declared.headers.Header.{Header}
-use Rattle.elf_image.specs.ReadElf.{exceeds_limits}
+use Rattle.elf_image.specs.ReadElf.{exceeds_image_limits}
 use Rattle.elf_image.proofs.Good.{headers_whole}
 use Rattle.elf_image.proofs.Loads.{LoadsSoFar, loads_none, loads_pass, loads_more, loads_many, loads_long, loads_all, loads_fit, loads_same}
 use Rattle.elf_image.proofs.headers.load_headers.Goals as goal
@@ -39,4 +39,4 @@ pub returns-clause-ok : goal.returns-clause-ok
 returns-clause-ok c =
     let inv = c.loop-number.invariant in
     let all = loads_all c.args.bytes.now c.loop-number.number c.elf_half_at-count.result c.loop-number.loads.items c.loop-number.total inv (omega arith) in
-    (all, ap exceeds_limits (sym all) ∙ loads_fit c.loop-number.loads.items c.loop-number.total inv.sum inv.few inv.small)
+    (all, ap exceeds_image_limits (sym all) ∙ loads_fit c.loop-number.loads.items c.loop-number.total inv.sum inv.few inv.small)

@@ -1,6 +1,6 @@
 use Rattle.std.proofs.Common.{sym, ◌∙◌}
 use Rattle.frame_places.specs.declared.places.Mark.TheVariants.{Queued}
-use Rattle.frame_places.specs.Marks.{mark_for}
+use Rattle.frame_places.specs.Marks.{mark_of_place}
 use Rattle.frame_places.specs.Work.{all_work}
 use Rattle.frame_places.proofs.WorkLemmas.{adds_either}
 use Rattle.frame_places.proofs.MarkLemmas.{AllListed-adds, marked_already}
@@ -22,4 +22,4 @@ pub returns-else-not-is_place_queued-clause-marks : goal.returns-else-not-is_pla
 returns-else-not-is_place_queued-clause-marks g c =
     let m = c.args.places.now in
     let stands = index_there m c.in-Some.number c.args.x (sym c.in-Some.ensures.index) in
-    marked_already m c.args.x Queued (queued_mark (mark_for m c.args.x) (sym (c.is_place_queued.ensures c.args.x stands) ∙ c.if-not-is_place_queued.false))
+    marked_already m c.args.x Queued (queued_mark (mark_of_place m c.args.x) (sym (c.is_place_queued.ensures c.args.x stands) ∙ c.if-not-is_place_queued.false))

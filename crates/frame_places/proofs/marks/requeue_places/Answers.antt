@@ -2,7 +2,7 @@ use Rattle.std.proofs.Common.{subst, sym, List, [], take, arith, Contains}
 use Rattle.std.proofs.lemmas.List.{take_all, take_more}
 use Rattle.std.proofs.lemmas.List.Elements.{Contains-get_or}
 use Rattle.frame_places.specs.declared.places.Spot.{Spot}
-use Rattle.frame_places.specs.Marks.{Requeues}
+use Rattle.frame_places.specs.Marks.{RequeuesPlaces}
 use Rattle.frame_places.proofs.MarkLemmas.{Requeues-none, Requeues-push, known_requeued}
 use Rattle.frame_places.proofs.marks.requeue_places.Goals as goal
 
@@ -20,13 +20,13 @@ requeue_place-requires-clause-known g c =
 pub loop-x-preserved : goal.loop-x-preserved
 loop-x-preserved g c = (
   c.in_ok-requeue_place.ensures.work,
-  subst (λ (ps : List Spot). Requeues c.args.places.now c.requeue_place.new.places (Contains ps)) (sym (take_more c.args.readers.now c.loop-x.x-index _ c.loop-x-test.true))
+  subst (λ (ps : List Spot). RequeuesPlaces c.args.places.now c.requeue_place.new.places (Contains ps)) (sym (take_more c.args.readers.now c.loop-x.x-index _ c.loop-x-test.true))
       (Requeues-push c.args.places.now c.loop-x.places c.requeue_place.new.places (take c.loop-x.x-index c.args.readers.now) _ c.loop-x.invariant.1 c.in_ok-requeue_place.ensures.marks),
 )
 
 pub returns-clause-marks : goal.returns-clause-marks
 returns-clause-marks g c =
-    subst (λ (ps : List Spot). Requeues c.args.places.now c.loop-x.places (Contains ps)) (take_all c.loop-x.x-index c.args.readers.now c.loop-x-test.false) c.loop-x.invariant.1
+    subst (λ (ps : List Spot). RequeuesPlaces c.args.places.now c.loop-x.places (Contains ps)) (take_all c.loop-x.x-index c.args.readers.now c.loop-x-test.false) c.loop-x.invariant.1
 
 pub returns-clause-work : goal.returns-clause-work
 returns-clause-work g c = c.loop-x.invariant.0

@@ -4,7 +4,7 @@ use Rattle.indexmap.specs.Entry.{entry_index, map_with_value}
 use Rattle.indexmap.specs.declared.map.entry.Entry.TheVariants.{Vacant}
 use Rattle.frame_places.specs.declared.places.Marked.{Marked}
 use Rattle.frame_places.specs.declared.places.Mark.TheVariants.{Queued}
-use Rattle.frame_places.specs.Marks.{AllListed, PutsPlaceValue}
+use Rattle.frame_places.specs.Marks.{AreQueuedPlacesListed, SetsAndQueuesPlace}
 use Rattle.frame_places.specs.Numbers.{PlaceHasNumber}
 use Rattle.frame_places.specs.Work.{all_work}
 use Rattle.frame_places.proofs.MarkLemmas.{AllListed-adds, puts_as}
@@ -35,6 +35,6 @@ returns-in_ok-enqueue_new-in-Vacant g c =
     let last = subst (λ (n : ℕ). PlaceHasNumber new n y) (sym c.len-number.ensures.len) (added_last m new y w absent (update.1 w)) in
     let listed = AllListed-adds m new (all_work c.args.work.now) c.len-number.result y p.marks p.numbers (all_work c.enqueue_new.new.work) (adds_new c.is_entry-entry.result c.args.work.now c.enqueue_new.new.work c.len-number.result c.in_ok-enqueue_new-in-Vacant.ensures) last c.requires.listed in (
       ap (option_map (λ (k : Marked g.row.V.Denot). k.value)) absent,
-      subst (λ z. PutsPlaceValue m z y c.args.value) end p,
-      subst (λ z. AllListed z (all_work c.enqueue_new.new.work)) end listed,
+      subst (λ z. SetsAndQueuesPlace m z y c.args.value) end p,
+      subst (λ z. AreQueuedPlacesListed z (all_work c.enqueue_new.new.work)) end listed,
     )

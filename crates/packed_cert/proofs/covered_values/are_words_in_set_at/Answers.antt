@@ -4,7 +4,7 @@ use Rattle.tcd_base.specs.Bytes.{word_in_bytes}
 use Rattle.value_domain.specs.Sets.{Among}
 use Rattle.value_domain.proofs.Loops.{among_get}
 use Rattle.value_domain.proofs.WordLaws.{among_place}
-use Rattle.packed_cert.specs.ValuesInBytes.{words_at}
+use Rattle.packed_cert.specs.ValuesInBytes.{words_in_bytes}
 use Rattle.packed_cert.proofs.BelowLaws.{passed_more, not_among, among_here, rising_places}
 use Rattle.packed_cert.proofs.covered_values.are_words_in_set_at.Goals as goal
 use Rattle.packed_cert.proofs.covered_values.are_words_in_set_at.Goals.{then-k-n-via-then-k-n, then-k-n-via-else-k-n+then-word_at_place-x}
@@ -29,7 +29,7 @@ loop-x-preserved c =
       end = omega (arith, c.first_word_at_least-k.ensures.end, c.if-k-n.false);
       among = λ i h. elim (cases_lt i c.loop-x.x-index) [
         | inl lt ↦ c.loop-x.invariant.among i lt
-        | inr ge ↦ let e : c.loop-x.x-index ≡ i = omega arith in subst (λ (k : ℕ). Among (get_or c.args.own.now k 0) (words_at c.args.bytes.now c.args.place c.args.n)) e here
+        | inr ge ↦ let e : c.loop-x.x-index ≡ i = omega arith in subst (λ (k : ℕ). Among (get_or c.args.own.now k 0) (words_in_bytes c.args.bytes.now c.args.place c.args.n)) e here
       ];
       below = λ h j l.
           let next = rising_places c.args.own.now c.requires.own c.loop-x.x-index (c.loop-x.x-index + 1) (omega arith) h in
@@ -46,6 +46,6 @@ loop-x-preserved c =
 
 pub returns : goal.returns
 returns c = (
-  (λ t x i. let p = among_place c.args.own.now x i in subst (λ (y : ℕ). Among y (words_at c.args.bytes.now c.args.place c.args.n)) p.2 (c.loop-x.invariant.among p.0 (omega (arith, p.1)))),
+  (λ t x i. let p = among_place c.args.own.now x i in subst (λ (y : ℕ). Among y (words_in_bytes c.args.bytes.now c.args.place c.args.n)) p.2 (c.loop-x.invariant.among p.0 (omega (arith, p.1)))),
   (λ within. refl),
 )

@@ -5,8 +5,8 @@ use Rattle.value_domain.specs.Values.{IsBelow, any_val}
 use Rattle.value_domain.proofs.RangeLaws.{below_any}
 use Rattle.vd_transfer.specs.Changes.{state_after}
 use Rattle.vd_transfer.proofs.ChangeLaws.{length-changed}
-use Rattle.packed_cert.specs.ValuesInBytes.{place_after_value, value_in}
-use Rattle.packed_cert.specs.PointsInBytes.{state_in}
+use Rattle.packed_cert.specs.ValuesInBytes.{place_after_value, value_in_bytes}
+use Rattle.packed_cert.specs.PointsInBytes.{state_in_bytes}
 use Rattle.packed_cert.proofs.ValueShapes.{left_first, stands_at}
 use Rattle.packed_cert.proofs.next_covers.is_changed_row_below.Goals as goal
 use Rattle.packed_cert.proofs.next_covers.is_changed_row_below.Goals.{else-tag-ne0-via-then-tag-ne0+else-not-is_below_value_at, else-tag-ne0-via-else-tag-ne0}
@@ -25,13 +25,13 @@ is_below_value_at-requires-clause-well c =
 
 pub is_below_value_at-requires-clause-stands : goal.is_below_value_at-requires-clause-stands
 is_below_value_at-requires-clause-stands c =
-    let vs = (state_in c.args.version c.args.bytes.now c.args.point.place).regs in
+    let vs = (state_in_bytes c.args.version c.args.bytes.now c.args.point.place).regs in
     let len : length vs ≡ 27 = omega (arith, c.requires.moved.row.count) in
     (left_first c.args.version c.args.bytes.now c.loop-i.at 27 c.loop-i.i vs (omega (arith, c.requires.moved.few)) len (c.loop-i.invariant.have (omega arith)) (c.loop-i.invariant.left (omega arith))).0
 
 pub bounds-bytes-at : goal.bounds-bytes-at
 bounds-bytes-at c =
-    let vs = (state_in c.args.version c.args.bytes.now c.args.point.place).regs in
+    let vs = (state_in_bytes c.args.version c.args.bytes.now c.args.point.place).regs in
     let len : length vs ≡ 27 = omega (arith, c.requires.moved.row.count) in
     let l = left_first c.args.version c.args.bytes.now c.loop-i.at 27 c.loop-i.i vs (omega (arith, c.requires.moved.few)) len (c.loop-i.invariant.have (omega arith)) (c.loop-i.invariant.left (omega arith)) in
     (stands_at c.args.version c.args.bytes.now c.loop-i.at (λ k. (c.type_inv.bytes k).fits) l.0).inside
@@ -41,7 +41,7 @@ changed_value-requires-clause-place c = omega (arith, c.requires.moved.few)
 
 pub overflow_add-at : goal.overflow_add-at
 overflow_add-at c =
-    let vs = (state_in c.args.version c.args.bytes.now c.args.point.place).regs in
+    let vs = (state_in_bytes c.args.version c.args.bytes.now c.args.point.place).regs in
     let len : length vs ≡ 27 = omega (arith, c.requires.moved.row.count) in
     let l = left_first c.args.version c.args.bytes.now c.loop-i.at 27 c.loop-i.i vs (omega (arith, c.requires.moved.few)) len (c.loop-i.invariant.have (omega arith)) (c.loop-i.invariant.left (omega arith)) in
     let next : c.loop-i.at + c.value_length_by_tag-at.result ≡ place_after_value c.args.bytes.now c.loop-i.at = ap (λ (k : ℕ). c.loop-i.at + k) c.value_length_by_tag-at.ensures in
@@ -50,7 +50,7 @@ overflow_add-at c =
 
 pub loop-i-preserved : goal.loop-i-preserved
 loop-i-preserved c =
-    let vs = (state_in c.args.version c.args.bytes.now c.args.point.place).regs in
+    let vs = (state_in_bytes c.args.version c.args.bytes.now c.args.point.place).regs in
     let low = (state_after c.args.s.now c.args.c.now).regs in
     let i = c.loop-i.i in
     let len : length vs ≡ 27 = omega (arith, c.requires.moved.row.count) in
@@ -58,10 +58,10 @@ loop-i-preserved c =
     let next : c.loop-i.at + c.value_length_by_tag-at.result ≡ place_after_value c.args.bytes.now c.loop-i.at = ap (λ (k : ℕ). c.loop-i.at + k) c.value_length_by_tag-at.ensures in
     let more : length low ≡ 27 = length-changed c.args.s.now c.args.c.now (omega arith) in
     let s = stands_at c.args.version c.args.bytes.now c.loop-i.at (λ k. (c.type_inv.bytes k).fits) l.0 in
-    let here : IsBelow (get_or low i any_val) (value_in c.args.version c.args.bytes.now c.loop-i.at) =
+    let here : IsBelow (get_or low i any_val) (value_in_bytes c.args.version c.args.bytes.now c.loop-i.at) =
     elim c.else-tag-ne0.branch [
       | else-tag-ne0-via-then-tag-ne0+else-not-is_below_value_at w ↦
-          subst (λ (v : Val). IsBelow v (value_in c.args.version c.args.bytes.now c.loop-i.at)) w.changed_value.ensures (w.is_below_value_at.ensures.0 w.if-not-is_below_value_at.false)
+          subst (λ (v : Val). IsBelow v (value_in_bytes c.args.version c.args.bytes.now c.loop-i.at)) w.changed_value.ensures (w.is_below_value_at.ensures.0 w.if-not-is_below_value_at.false)
       | else-tag-ne0-via-else-tag-ne0 w ↦
           subst (λ (v : Val). IsBelow (get_or low i any_val) v) (sym (s.shape.any (omega (arith, w.if-tag-ne0.false)))) (below_any (get_or low i any_val) (c.requires.well i (omega (arith, c.requires.moved.few))))
     ]

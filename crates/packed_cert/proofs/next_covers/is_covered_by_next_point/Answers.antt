@@ -4,14 +4,14 @@ use Rattle.value_domain.specs.declared.values.Val.{Val}
 use Rattle.value_domain.specs.Values.{IsBelow, any_val}
 use Rattle.vd_transfer.specs.Changes.{state_after}
 use Rattle.vd_transfer.proofs.ChangeLaws.{length-changed}
-use Rattle.packed_cert.specs.PointsInBytes.{state_in}
+use Rattle.packed_cert.specs.PointsInBytes.{state_in_bytes}
 use Rattle.packed_cert.proofs.next_covers.is_covered_by_next_point.Goals as goal
 
 pub returns-then-are_changed_values_below : goal.returns-then-are_changed_values_below
 returns-then-are_changed_values_below c = λ t.
     let s = c.args.s.now in
     let after = state_after s c.args.c.now in
-    let there = state_in c.args.version c.args.bytes.now c.args.point.place in
+    let there = state_in_bytes c.args.version c.args.bytes.now c.args.point.place in
     let own : length s.regs ≡ 27 = omega arith in
     let len : length after.regs ≡ 27 = length-changed s c.args.c.now own in
     let locals = rw (c.as_slice.ensures.value, c.as_slice-2.ensures.value) at (c.flags_imply.ensures.0 c.if-not-flags_imply.false) in

@@ -12,7 +12,7 @@ use Rattle.value_domain.specs.declared.states.State.{State}
 use Rattle.std.specs.Prelude.{IsTrue}
 use Rattle.packed_cert.specs.declared.places.ReadState.{ReadState}
 use Rattle.packed_cert.specs.ChangedRows.{ChangesOnlyRow}
-use Rattle.packed_cert.specs.PointsInBytes.{state_in, points_in, HasState}
+use Rattle.packed_cert.specs.PointsInBytes.{state_in_bytes, points_in_bytes, HasStateInBytes}
 use Rattle.packed_cert.specs.ValuesInBytes.{read_from_bytes_or}
 use Rattle.value_domain.specs.State.{no_state}
 use Rattle.packed_cert.specs.Moves.{IsStateBefore, DiffersOnlyInRow}
@@ -24,7 +24,7 @@ pub returns-in_err-addr-clause-err : goal.returns-in_err-addr-clause-err
 unfolding points_at
 returns-in_err-addr-clause-err c =
     let p = err_from_is_err_and c.from_residual-in_err-addr.result c.from_residual-in_err-addr.ensures.1 in
-    let before = points_in c.args.version c.args.bytes.now c.loop-i.points.items in
+    let before = points_in_bytes c.args.version c.args.bytes.now c.loop-i.points.items in
     let e = rw c.loop-i.invariant.last at c.in_err-addr.ensures.read.read in
     let fault = many_fail (point_after c.args.version) c.in_ok-count.count c.loop-i.i before c.read_point_count.new.c c.loop-i.c _ c.loop-i-test.true c.loop-i.invariant.read
     (address_fails c.args.version before c.loop-i.c _ (ap (λ (l : _). address_after (last_number_read l) c.loop-i.c) (addresses_in c.args.version c.args.bytes.now c.loop-i.points.items) ∙ e)) in
@@ -34,7 +34,7 @@ pub returns-in_err-read-clause-err : goal.returns-in_err-read-clause-err
 unfolding points_at
 returns-in_err-read-clause-err c =
     let p = err_from_is_err_and c.from_residual-in_err-read.result c.from_residual-in_err-read.ensures.1 in
-    let before = points_in c.args.version c.args.bytes.now c.loop-i.points.items in
+    let before = points_in_bytes c.args.version c.args.bytes.now c.loop-i.points.items in
     let e = rw c.loop-i.invariant.last at c.in_ok-addr.ensures.read.read in
     let fault = many_fail (point_after c.args.version) c.in_ok-count.count c.loop-i.i before c.read_point_count.new.c c.loop-i.c _ c.loop-i-test.true c.loop-i.invariant.read
     (state_fails c.args.version before c.loop-i.c _ _ _ (ap (λ (l : _). address_after (last_number_read l) c.loop-i.c) (addresses_in c.args.version c.args.bytes.now c.loop-i.points.items) ∙ e) c.in_err-read.ensures.err) in
@@ -51,8 +51,8 @@ loop-i-preserved c =
     let q = c.read_address.new.c in
     let item : PointPlace = record { addr = c.in_ok-addr.addr; place = c.in_ok-read.read.at.start; row = c.with_whole_row_if_first-kept.result.row; same = c.with_whole_row_if_first-kept.result.same } in
     let stands = c.in_ok-read.ensures.held in
-    let is : state_in version bytes item.place ≡ c.read_or_skip_state.new.out = ap (read_from_bytes_or no_state) stands.read in
-    let there : HasState version bytes item.place = (_, stands.read) in
+    let is : state_in_bytes version bytes item.place ≡ c.read_or_skip_state.new.out = ap (read_from_bytes_or no_state) stands.read in
+    let there : HasStateInBytes version bytes item.place = (_, stands.read) in
     let more = point_more version bytes ps item c.loop-i.c q _ _ is e c.in_ok-read.ensures.ok in
     let pushed : c.push.new.self.items ≡ ps ++ item ∷ [] = c.in_ok-push.ensures.items in
     let size = c.loop-i.invariant.count in
@@ -67,10 +67,10 @@ loop-i-preserved c =
     record {
       read =
           rw (pushed, points_push version bytes ps item)
-          (many_more (point_after version) c.in_ok-count.count c.loop-i.i (points_in version bytes ps) c.read_point_count.new.c c.loop-i.c _ _ c.loop-i-test.true c.loop-i.invariant.read more);
+          (many_more (point_after version) c.in_ok-count.count c.loop-i.i (points_in_bytes version bytes ps) c.read_point_count.new.c c.loop-i.c _ _ c.loop-i-test.true c.loop-i.invariant.read more);
       bytes = c.read_or_skip_state.ensures.bytes ∙ c.read_address.ensures.read.bytes ∙ c.loop-i.invariant.bytes;
       count = omega (arith, c.in_ok-push.ensures.len, c.loop-i.invariant.count);
-      states = rw pushed (All-push (λ (p : PointPlace). HasState version bytes p.place) ps item c.loop-i.invariant.states there);
+      states = rw pushed (All-push (λ (p : PointPlace). HasStateInBytes version bytes p.place) ps item c.loop-i.invariant.states there);
       rising = rw pushed (rising_map_push (λ (p : PointPlace). p.addr) ps item c.loop-i.invariant.rising next);
       last = rw pushed (sym (last_of-push (λ (p : PointPlace). p.addr) ps item));
       used = c.loop-i.invariant.used;
@@ -78,7 +78,7 @@ loop-i-preserved c =
       state = stands;
       before = λ j d next.
           let here : get_or (ps ++ item ∷ []) j d ≡ item = ap (λ (n : ℕ). get_or (ps ++ item ∷ []) n d) (omega (arith, c.loop-i.invariant.count)) ∙ get_or-append_seam ps item [] d in
-          rw pushed (sym is ∙ ap (λ (p : PointPlace). state_in version bytes p.place) (sym here));
+          rw pushed (sym is ∙ ap (λ (p : PointPlace). state_in_bytes version bytes p.place) (sym here));
       moves = rw pushed (moves_push version bytes ps item c.loop-i.invariant.moves one);
     }
 
@@ -86,4 +86,4 @@ pub returns-clause-ok : goal.returns-clause-ok
 unfolding points_at
 returns-clause-ok c =
     rw c.in_ok-count.ensures.read.read
-    (many_end (point_after c.args.version) c.in_ok-count.count c.loop-i.i (points_in c.args.version c.args.bytes.now c.loop-i.points.items) c.read_point_count.new.c c.loop-i.c c.loop-i-test.false c.loop-i.invariant.read)
+    (many_end (point_after c.args.version) c.in_ok-count.count c.loop-i.i (points_in_bytes c.args.version c.args.bytes.now c.loop-i.points.items) c.read_point_count.new.c c.loop-i.c c.loop-i-test.false c.loop-i.invariant.read)

@@ -3,7 +3,7 @@ use Rattle.std.specs.Prelude.{IsTrue, ◌↔◌}
 use Rattle.std.proofs.lemmas.List.{get_or_default}
 use Rattle.value_domain.specs.declared.values.Val.{Val}
 use Rattle.value_domain.specs.Values.{IsBelow, IsWellFormed, any_val}
-use Rattle.packed_cert.specs.ValuesInBytes.{value_in}
+use Rattle.packed_cert.specs.ValuesInBytes.{value_in_bytes}
 use Rattle.packed_cert.proofs.ValueShapes.{stands_at}
 use Rattle.packed_cert.proofs.LowerLaws.{any_above}
 use Rattle.packed_cert.proofs.restored_values.is_restored_below.Goals as goal
@@ -14,7 +14,7 @@ bounds-high-high c = (stands_at c.args.high.version c.args.high.bytes.now c.args
 pub returns-then-high-eq0 : goal.returns-then-high-eq0
 returns-then-high-eq0 c =
     let high = stands_at c.args.high.version c.args.high.bytes.now c.args.high.place c.cert_bytes_below_256-2.ensures c.requires.high in
-    any_above c.args.i c.args.regs.now c.args.low.version c.args.low.bytes.now c.args.low.place (value_in c.args.high.version c.args.high.bytes.now c.args.high.place) c.cert_bytes_below_256.ensures (omega arith) (omega arith) c.requires.well c.requires.low
+    any_above c.args.i c.args.regs.now c.args.low.version c.args.low.bytes.now c.args.low.place (value_in_bytes c.args.high.version c.args.high.bytes.now c.args.high.place) c.cert_bytes_below_256.ensures (omega arith) (omega arith) c.requires.well c.requires.low
     (high.shape.any (omega arith))
 
 pub is_below_at_places-requires-clause-low : goal.is_below_at_places-requires-clause-low
@@ -31,5 +31,5 @@ is_below_value_at-requires-clause-well c =
 pub returns : goal.returns
 returns c =
     let e = get_or_default c.args.regs.now c.args.i c.index-regs-i.result any_val (omega arith) in
-    let here = subst (λ (v : Val). IsTrue c.is_below_value_at.result ↔ IsBelow v (value_in c.args.high.version c.args.high.bytes.now c.args.high.place)) e c.is_below_value_at.ensures in
+    let here = subst (λ (v : Val). IsTrue c.is_below_value_at.result ↔ IsBelow v (value_in_bytes c.args.high.version c.args.high.bytes.now c.args.high.place)) e c.is_below_value_at.ensures in
     rw (sym c.is_lower_slot.ensures ∙ c.if-is_lower_slot.false) here

@@ -5,7 +5,7 @@ use Rattle.tcd_base.specs.Place.{Place}
 use Rattle.value_domain.specs.Values.{any_val}
 use Rattle.depth_cert.specs.Grammar.{value_at, values_at}
 use Rattle.tcd_base.proofs.ManyLaws.{many_more, many_fail, many_end}
-use Rattle.packed_cert.specs.RepeatedBytes.{SameBytesAtPlaces}
+use Rattle.packed_cert.specs.RepeatedBytes.{AreBytesRepeated}
 use Rattle.packed_cert.specs.ValuesInBytes.{place_after_value, place_in_bytes}
 use Rattle.packed_cert.proofs.SameBytes.{stand_next, value_stands, alike_read, alike_behind, all_read}
 use Rattle.packed_cert.proofs.ReadRows.{row_and_more}
@@ -81,7 +81,7 @@ loop-i-preserved c =
             start = rw w2.stop-is (omega (arith, w2.if-next-stop.true));
             first = rw w2.stop-is inv.first;
             second = rw (w2.stop-is, w2.place-is) (omega (arith, inv.second, fits));
-            same = rw (w2.stop-is, w2.place-is) (subst (λ (m : ℕ). SameBytesAtPlaces bytes (x + n) (y + n) m) left (alike_behind bytes x y n k fits inv.same));
+            same = rw (w2.stop-is, w2.place-is) (subst (λ (m : ℕ). AreBytesRepeated bytes (x + n) (y + n) m) left (alike_behind bytes x y n k fits inv.same));
             row = rw (w2.out-is, w2.row-is) inv.row;
             few = rw w2.row-is (omega (arith, inv.few));
             placed =
@@ -106,7 +106,7 @@ loop-i-preserved c =
             start = rw w2.stop-is (omega arith);
             first = rw w2.stop-is w2.count_repeated_before.ensures.first;
             second = rw (w2.stop-is, w2.place-is) (omega (arith, w2.count_repeated_before.ensures.second));
-            same = rw (w2.stop-is, w2.place-is) (subst (λ (m : ℕ). SameBytesAtPlaces bytes (x + n) w2.place-place-else-next-stop.result m) ahead w2.count_repeated_before.ensures.same);
+            same = rw (w2.stop-is, w2.place-is) (subst (λ (m : ℕ). AreBytesRepeated bytes (x + n) w2.place-place-else-next-stop.result m) ahead w2.count_repeated_before.ensures.same);
             row = rw (w2.out-is, w2.row-is) (row_and_more c.args.out.now c.loop-i.out c.loop-i.i w2.read_value.new.out c.loop-i.row _ (omega arith) inv.row w2.row_with_read_value-row.ensures.read);
             few = rw w2.row-is (omega (arith, w2.row_with_read_value-row.ensures.read.behind));
             placed =

@@ -1,7 +1,7 @@
 use Rattle.std.proofs.Common.{◌≡◌, ◌≤◌, ◌+◌, ◌-◌, length, [], take, drop}
 use Rattle.tcd_base.specs.FieldReaders.{many_fields_at}
 use Rattle.depth_cert.specs.Grammar.{value_at}
-use Rattle.packed_cert.specs.RepeatedBytes.{SameBytesAtPlaces}
+use Rattle.packed_cert.specs.RepeatedBytes.{AreBytesRepeated}
 use Rattle.packed_cert.specs.ValuesInBytes.{AreValuesBetween, place_in_bytes, place_after_values}
 use Rattle.packed_cert.specs.ChangedRows.{ChangesOnlyRow, RowBeginsAtPlace}
 use Rattle.packed_cert.proofs.value_reader.read_changed_values.Given as goal
@@ -15,7 +15,7 @@ invariant-loop-i l = record {
   start : l.from ≤ l.stop;
   first : l.stop ≤ length l.bytes;
   second : l.place + (l.stop - l.from) ≤ length l.bytes;
-  same : SameBytesAtPlaces l.bytes l.from l.place (l.stop - l.from);
+  same : AreBytesRepeated l.bytes l.from l.place (l.stop - l.from);
   row : ChangesOnlyRow l.initial.out l.out l.row;
   few : (l.row).behind ≤ l.i;
   placed : place_after_values l.bytes l.initial.c.place l.i ≡ l.place;

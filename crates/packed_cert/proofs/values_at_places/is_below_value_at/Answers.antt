@@ -5,7 +5,7 @@ use Rattle.value_domain.specs.declared.values.Val.TheVariants.{Set}
 use Rattle.value_domain.specs.Values.{IsBelow, IsMember}
 use Rattle.value_domain.proofs.RangeLaws.{below_any}
 use Rattle.depth_cert.specs.Points.{IsWellFormedCertValue}
-use Rattle.packed_cert.specs.ValuesInBytes.{words_at}
+use Rattle.packed_cert.specs.ValuesInBytes.{words_in_bytes}
 use Rattle.packed_cert.proofs.ValueShapes.{stands_at, long_set, set_rising}
 use Rattle.packed_cert.proofs.values_at_places.is_below_value_at.Goals as goal
 
@@ -42,6 +42,6 @@ pub returns-in-Set : goal.returns-in-Set
 returns-in-Set c =
     let s = stands_at c.args.version c.args.bytes.now c.args.place (λ k. (c.type_inv.bytes k).fits) c.requires.stands in
     let is = s.shape.set (omega (arith, c.if-tag-eq0.false)) (omega (arith, c.if-tag-gt-MOST_WORDS.false)) in
-    let words = words_at c.args.bytes.now (c.args.place + 1) (get_or c.args.bytes.now c.args.place 0) in
+    let words = words_in_bytes c.args.bytes.now (c.args.place + 1) (get_or c.args.bytes.now c.args.place 0) in
     subst (λ (w : Val). IsTrue c.are_words_in_set_at.result ↔ IsBelow c.args.v.now w) (sym is)
     (subst (λ (v : Val). IsTrue c.are_words_in_set_at.result ↔ IsBelow v (Set words)) (sym c.in-Set.is) (rw c.as_slice.ensures.items at c.are_words_in_set_at.ensures))

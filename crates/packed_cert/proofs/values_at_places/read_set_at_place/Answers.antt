@@ -2,7 +2,7 @@ use Rattle.std.proofs.Common.{◌≡◌, ◌+◌, ◌*◌, ◌∙◌, ℕ, List,
 use Rattle.std.proofs.lemmas.Bool.{cases_lt}
 use Rattle.std.proofs.lemmas.List.{length-set, get_or-set_same, get_or-set_other}
 use Rattle.tcd_base.specs.Bytes.{word_in_bytes}
-use Rattle.value_domain.specs.Sets.{AreWords}
+use Rattle.value_domain.specs.Sets.{AreSetWords}
 use Rattle.value_domain.specs.declared.values.Val.TheVariants.{Set}
 use Rattle.packed_cert.proofs.BelowLaws.{front_words}
 use Rattle.packed_cert.proofs.values_at_places.read_set_at_place.Goals as goal
@@ -30,7 +30,7 @@ shared_whole_as_front-set_words g c = (c.requires.few, omega (arith, c.requires.
 
 pub set_words-requires : goal.set_words-requires
 set_words-requires g c =
-    subst AreWords
+    subst AreSetWords
     (sym
     (front_words c.loop-i.words c.args.bytes.now c.args.place c.args.n (omega (arith, c.requires.few, c.loop-i.invariant.count))
     (λ j lt. c.loop-i.invariant.each j (omega (arith, c.loop-i-test.false)))))

@@ -2,7 +2,7 @@ use Rattle.std.proofs.Common.{◌≡◌, ◌∙◌, ◌≤◌, ◌+◌, ℕ, inl
 use Rattle.std.proofs.lemmas.Bool.{cases_lt}
 use Rattle.std.proofs.lemmas.List.{ext_get_or, length-set, get_or-set_same, get_or-set_other}
 use Rattle.value_domain.specs.Values.{any_val}
-use Rattle.packed_cert.specs.PointsInBytes.{state_in}
+use Rattle.packed_cert.specs.PointsInBytes.{state_in_bytes}
 use Rattle.packed_cert.specs.ValuesInBytes.{place_after_value}
 use Rattle.packed_cert.proofs.ValueShapes.{left_first, stands_at}
 use Rattle.packed_cert.proofs.walks.read_row_values.Goals as goal
@@ -17,20 +17,20 @@ loop-i-init c = record {
 
 pub read_value_at_place-requires : goal.read_value_at_place-requires
 read_value_at_place-requires c =
-    let vs = (state_in c.args.version c.args.bytes.now c.args.point.place).regs in
+    let vs = (state_in_bytes c.args.version c.args.bytes.now c.args.point.place).regs in
     let len : length vs ≡ 27 = omega (arith, c.requires.row.count) in
     (left_first c.args.version c.args.bytes.now c.loop-i.at 27 c.loop-i.i vs (omega (arith, c.requires.few)) len (c.loop-i.invariant.have (omega arith)) (c.loop-i.invariant.left (omega arith))).0
 
 pub bounds-bytes-at : goal.bounds-bytes-at
 bounds-bytes-at c =
-    let vs = (state_in c.args.version c.args.bytes.now c.args.point.place).regs in
+    let vs = (state_in_bytes c.args.version c.args.bytes.now c.args.point.place).regs in
     let len : length vs ≡ 27 = omega (arith, c.requires.row.count) in
     let l = left_first c.args.version c.args.bytes.now c.loop-i.at 27 c.loop-i.i vs (omega (arith, c.requires.few)) len (c.loop-i.invariant.have (omega arith)) (c.loop-i.invariant.left (omega arith)) in
     (stands_at c.args.version c.args.bytes.now c.loop-i.at (λ k. (c.type_inv.bytes k).fits) l.0).inside
 
 pub overflow_add-at : goal.overflow_add-at
 overflow_add-at c =
-    let vs = (state_in c.args.version c.args.bytes.now c.args.point.place).regs in
+    let vs = (state_in_bytes c.args.version c.args.bytes.now c.args.point.place).regs in
     let len : length vs ≡ 27 = omega (arith, c.requires.row.count) in
     let l = left_first c.args.version c.args.bytes.now c.loop-i.at 27 c.loop-i.i vs (omega (arith, c.requires.few)) len (c.loop-i.invariant.have (omega arith)) (c.loop-i.invariant.left (omega arith)) in
     let next : c.loop-i.at + c.value_length_by_tag-at.result ≡ place_after_value c.args.bytes.now c.loop-i.at = ap (λ (k : ℕ). c.loop-i.at + k) c.value_length_by_tag-at.ensures in
@@ -39,7 +39,7 @@ overflow_add-at c =
 
 pub loop-i-preserved : goal.loop-i-preserved
 loop-i-preserved c =
-    let vs = (state_in c.args.version c.args.bytes.now c.args.point.place).regs in
+    let vs = (state_in_bytes c.args.version c.args.bytes.now c.args.point.place).regs in
     let out = c.loop-i.out in
     let i = c.loop-i.i in
     let inv = c.loop-i.invariant in
@@ -67,7 +67,7 @@ loop-i-preserved c =
 
 pub returns : goal.returns
 returns c =
-    let vs = (state_in c.args.version c.args.bytes.now c.args.point.place).regs in
+    let vs = (state_in_bytes c.args.version c.args.bytes.now c.args.point.place).regs in
     let inv = c.loop-i.invariant in
     let len : length vs ≡ 27 = omega (arith, c.requires.row.count) in
     ext_get_or any_val c.loop-i.out vs (inv.count ∙ sym len)

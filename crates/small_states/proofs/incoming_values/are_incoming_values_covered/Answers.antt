@@ -3,7 +3,7 @@ use Rattle.std.proofs.lemmas.List.{take_all}
 use Rattle.value_domain.specs.Values.{IsWellFormed}
 use Rattle.small_states.specs.Incoming.{incoming_values}
 use Rattle.small_states.specs.declared.values.SpacedValue.{SpacedValue}
-use Rattle.small_states.specs.CompactForms.{compact_front}
+use Rattle.small_states.specs.CompactForms.{values_to_last_known}
 use Rattle.small_states.proofs.SparseLemmas.{covered_all, covered_here, covered_more, length-front, place_there, place_within}
 use Rattle.small_states.proofs.incoming_values.are_incoming_values_covered.Goals as goal
 
@@ -91,7 +91,7 @@ returns c =
     let v = c.as_slice-known.ensures.value in
     let known = c.args.upper.now.known.items in
     let ws = incoming_values c.args.incoming.now in
-    let whole = ap (λ (l : List SpacedValue). length (compact_front l)) (take_all c.loop-n.n known (rw v at c.loop-n-test.false)) in (
+    let whole = ap (λ (l : List SpacedValue). length (values_to_last_known l)) (take_all c.loop-n.n known (rw v at c.loop-n-test.false)) in (
       (λ t. covered_all known c.args.upper.now.rest ws c.requires.long c.requires.incoming (λ r h. c.loop-n.invariant.1 r (omega (arith, c.loop-n.invariant.0, whole, h)))),
       (λ below. refl),
     )

@@ -2,9 +2,9 @@ use Rattle.std.proofs.Common.{◌∙◌, ◌+◌, ◌++◌, ◌∷◌, [], ℕ, 
 use Rattle.std.proofs.lemmas.List.{take_all}
 use Rattle.value_domain.specs.declared.values.Val.{Val}
 use Rattle.value_domain.specs.State.{joined_regs}
-use Rattle.value_domain.specs.Values.{join_of, IsValue, any_val}
+use Rattle.value_domain.specs.Values.{join_of, IsInLattice, any_val}
 use Rattle.small_states.specs.Incoming.{incoming_values}
-use Rattle.small_states.specs.CompactForms.{all_values, compact_front}
+use Rattle.small_states.specs.CompactForms.{all_values, values_to_last_known}
 use Rattle.small_states.specs.declared.values.SpacedValue.{SpacedValue}
 use Rattle.small_states.proofs.SparseLemmas.{all_few, is_within, joined_few, joined_more, joined_rest, known_place, length-front}
 use Rattle.small_states.proofs.incoming_values.join_incoming_values.Goals as goal
@@ -54,7 +54,7 @@ join_incoming-requires-clause-own c =
     let here = c.index-known-n.result in
     let lt = rw v at c.loop-n-test.true in
     let is = rw v at c.index-known-n.is in
-    subst (λ (u : Val). IsValue c.args.b.now u) (known_place known rest c.loop-n.n here lt is c.loop-n.at c.loop-n.invariant.0)
+    subst (λ (u : Val). IsInLattice c.args.b.now u) (known_place known rest c.loop-n.n here lt is c.loop-n.at c.loop-n.invariant.0)
     (c.requires.left (c.loop-n.at + here.anys) (omega (arith, c.loop-n.invariant.0, is_within known rest c.loop-n.n here lt is)))
 
 pub join_incoming-requires-clause-value : goal.join_incoming-requires-clause-value
@@ -112,7 +112,7 @@ push_unknowns-requires c =
     let v = c.as_slice-known.ensures.value in
     let known = c.args.left.now.known.items in
     let ws = incoming_values c.args.incoming.now in
-    let whole = ap (λ (l : List SpacedValue). length (compact_front l)) (take_all c.loop-n.n known (rw v at c.loop-n-test.false)) in
+    let whole = ap (λ (l : List SpacedValue). length (values_to_last_known l)) (take_all c.loop-n.n known (rw v at c.loop-n-test.false)) in
     omega (
       arith,
       c.count_incoming_values-count.ensures.long,
@@ -132,7 +132,7 @@ returns c =
     let rest = c.args.left.now.rest in
     let ws = incoming_values c.args.incoming.now in
     let values = joined_regs b (all_values c.args.left.now) ws in
-    let whole = c.loop-n.invariant.0 ∙ ap (λ (l : List SpacedValue). length (compact_front l)) (take_all c.loop-n.n known (rw v at c.loop-n-test.false)) in
+    let whole = c.loop-n.invariant.0 ∙ ap (λ (l : List SpacedValue). length (values_to_last_known l)) (take_all c.loop-n.n known (rw v at c.loop-n-test.false)) in
     c.push_unknowns.ensures
     ∙ ap (λ (l : List Val). l ++ replicate rest any_val) (c.loop-n.invariant.1 ∙ ap (λ (m : ℕ). take m values) whole)
     ∙ joined_rest b known rest ws c.requires.long c.requires.left c.requires.incoming

@@ -2,15 +2,15 @@ use Rattle.std.proofs.Common.{◌≡◌, ◌∙◌, ◌+◌, ◌++◌, [], ℕ, 
 use Rattle.std.proofs.lemmas.List.{length-append, length-replicate}
 use Rattle.value_domain.specs.declared.values.Val.{Val}
 use Rattle.value_domain.specs.Values.{any_val}
-use Rattle.small_states.specs.CompactForms.{all_values, compact_front, values_from}
+use Rattle.small_states.specs.CompactForms.{all_values, values_to_last_known, values_from}
 use Rattle.small_states.specs.declared.values.SpacedValue.{SpacedValue}
 use Rattle.small_states.proofs.IncomingLemmas.{forgotten_parts}
 use Rattle.small_states.proofs.SparseLemmas.{length-values_from}
 use Rattle.small_states.proofs.incoming_values.without_lower_values.Goals as goal
 
 -- unknown values at first
-begun : (known : List SpacedValue) → known ≡ [] → compact_front known ++ replicate 8 any_val ≡ replicate 8 any_val
-begun known none = ap (λ (l : List SpacedValue). compact_front l ++ replicate 8 any_val) none
+begun : (known : List SpacedValue) → known ≡ [] → values_to_last_known known ++ replicate 8 any_val ≡ replicate 8 any_val
+begun known none = ap (λ (l : List SpacedValue). values_to_last_known l ++ replicate 8 any_val) none
 
 -- more values
 more : (old new vs : List Val) (from count n : ℕ) → new ≡ old ++ values_from vs from count → length old ≡ n → length new ≡ n + count

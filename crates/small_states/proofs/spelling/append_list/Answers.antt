@@ -4,7 +4,7 @@ use Rattle.std.proofs.lemmas.Result.{on_ok_weaker}
 use Rattle.std.specs.List.{flat_map}
 use Rattle.depth_cert.specs.Spelling.{bytes_of_value}
 use Rattle.small_states.specs.declared.values.SpacedValue.{SpacedValue}
-use Rattle.small_states.specs.CompactForms.{compact_front}
+use Rattle.small_states.specs.CompactForms.{values_to_last_known}
 use Rattle.small_states.proofs.SparseLemmas.{known_well, spelled_all, spelled_more}
 use Rattle.small_states.proofs.spelling.append_list.Goals as goal
 use Rattle.small_states.proofs.spelling.append_list.Goals.{then-not-push_spaced_word+in_ok-append_spaced_value, else-not-push_spaced_word}
@@ -42,6 +42,6 @@ returns c =
     let known = c.args.values.now.known.items in
     let old = c.args.out.now.items ++ c.args.gathered.now in
     let whole =
-    c.loop-n.invariant ∙ ap (λ (l : List SpacedValue). old ++ flat_map bytes_of_value (compact_front l)) (take_all c.loop-n.n known (rw v at c.loop-n-test.false))
+    c.loop-n.invariant ∙ ap (λ (l : List SpacedValue). old ++ flat_map bytes_of_value (values_to_last_known l)) (take_all c.loop-n.n known (rw v at c.loop-n-test.false))
     in
     on_ok_weaker c.push_unknowns.result (λ e. e ∙ ap (λ (l : List ℕ). l ++ replicate c.args.values.now.rest 0) whole ∙ spelled_all known c.args.values.now.rest old) c.push_unknowns.ensures

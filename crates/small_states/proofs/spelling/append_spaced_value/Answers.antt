@@ -5,18 +5,18 @@ use Rattle.value_domain.specs.declared.values.Val.{Val}
 use Rattle.value_domain.specs.declared.values.Val.TheVariants.{Set, Span}
 use Rattle.value_domain.specs.Values.{IsWellFormed}
 use Rattle.depth_cert.specs.Spelling.{bytes_of_value}
-use Rattle.small_states.specs.SmallValues.{small_value_of}
+use Rattle.small_states.specs.SmallValues.{whole_value}
 use Rattle.small_states.proofs.HeldWords.{set_of}
 use Rattle.small_states.proofs.spelling.append_spaced_value.Goals as goal
 
 pub push_set-requires : goal.push_set-requires
 push_set-requires c =
-    let value = sym c.v.view_is ∙ ap small_value_of c.in-Many.is ∙ sym c.as_ref.ensures ∙ set_of c.as_ref.result.now c.in-Some.words.now c.in-Some.ensures in
+    let value = sym c.v.view_is ∙ ap whole_value c.in-Many.is ∙ sym c.as_ref.ensures ∙ set_of c.as_ref.result.now c.in-Some.words.now c.in-Some.ensures in
     (subst IsWellFormed value c.requires).few
 
 pub returns-in-Some : goal.returns-in-Some
 returns-in-Some c =
-    let value = sym c.v.view_is ∙ ap small_value_of c.in-Many.is ∙ sym c.as_ref.ensures ∙ set_of c.as_ref.result.now c.in-Some.words.now c.in-Some.ensures in
+    let value = sym c.v.view_is ∙ ap whole_value c.in-Many.is ∙ sym c.as_ref.ensures ∙ set_of c.as_ref.result.now c.in-Some.words.now c.in-Some.ensures in
     on_ok_weaker c.push_set.result
     (λ e.
     e
@@ -25,12 +25,12 @@ returns-in-Some c =
 
 pub push_range-requires : goal.push_range-requires
 push_range-requires c =
-    let value = sym c.v.view_is ∙ ap small_value_of c.in-Range.is in
+    let value = sym c.v.view_is ∙ ap whole_value c.in-Range.is in
     (subst IsWellFormed value c.requires).0
 
 pub returns-in-Range : goal.returns-in-Range
 returns-in-Range c =
-    let value = sym c.v.view_is ∙ ap small_value_of c.in-Range.is in
+    let value = sym c.v.view_is ∙ ap whole_value c.in-Range.is in
     on_ok_weaker c.push_range.result
     (λ e.
     e

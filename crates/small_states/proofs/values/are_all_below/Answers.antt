@@ -3,7 +3,7 @@ use Rattle.std.proofs.lemmas.List.{take_all}
 use Rattle.value_domain.specs.declared.values.Val.{Val}
 use Rattle.value_domain.specs.Values.{IsBelow, IsWellFormed, any_val}
 use Rattle.small_states.specs.declared.values.SpacedValue.{SpacedValue}
-use Rattle.small_states.specs.CompactForms.{all_values, compact_front}
+use Rattle.small_states.specs.CompactForms.{all_values, values_to_last_known}
 use Rattle.small_states.proofs.SparseLemmas.{covered_all, covered_more, is_within, length-front, value_there}
 use Rattle.small_states.proofs.values.are_all_below.Goals as goal
 
@@ -47,8 +47,8 @@ loop-n-preserved c =
     let high_is = rw w at c.index-highs-n.is in
     let same = c.loop-n.invariant.0 in
     let gaps = c.if-here-above.false in
-    let at = length (compact_front (take n highs)) in
-    let place : length (compact_front (take n lows)) + here.anys ≡ at + above.anys = omega (arith, same, gaps) in
+    let at = length (values_to_last_known (take n highs)) in
+    let place : length (values_to_last_known (take n lows)) + here.anys ≡ at + above.anys = omega (arith, same, gaps) in
     let there = ap (λ (i : ℕ). get_or (all_values c.args.low.now) i any_val) (sym place) ∙ value_there lows c.args.low.now.rest n here low_lt low_is in (
       omega (arith, same, gaps, length-front lows c.args.low.now.rest n here low_lt low_is, length-front highs c.args.high.now.rest n above high_lt high_is),
       (λ r h.
@@ -63,5 +63,5 @@ returns c t =
     let w = c.as_slice-highs.ensures.value in
     let highs = c.args.high.now.known.items in
     let count = ap (λ (l : List SpacedValue). length l) w in
-    let whole = ap (λ (l : List SpacedValue). length (compact_front l)) (take_all c.loop-n.n highs (omega (arith, c.loop-n-test.false, c.if-lows-highs.false, count))) in
+    let whole = ap (λ (l : List SpacedValue). length (values_to_last_known l)) (take_all c.loop-n.n highs (omega (arith, c.loop-n-test.false, c.if-lows-highs.false, count))) in
     covered_all highs c.args.high.now.rest (all_values c.args.low.now) (sym c.requires.long) c.requires.low (λ r h. c.loop-n.invariant.1 r (omega (arith, whole, h)))

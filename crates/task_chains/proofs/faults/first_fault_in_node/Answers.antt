@@ -1,6 +1,6 @@
 use Rattle.std.proofs.Common.{◌++◌, ◌∷◌, [], Contains, ap, sym, subst}
 use Rattle.std.proofs.lemmas.List.Elements.{All-contains, All-push, All-same}
-use Rattle.value_domain.specs.State.{AreValues}
+use Rattle.value_domain.specs.State.{AreInLattice}
 use Rattle.value_domain.specs.declared.states.State.{State}
 use Rattle.depth_cert.specs.declared.keys.Key.{Key}
 use Rattle.depth_cert.specs.declared.points.Point.{Point}
@@ -17,7 +17,7 @@ keeps_rule_17-requires c =
     let points = (c.args.node.now).points in
     let p : Point = record { addr = c.in-Some.addr; state = c.advance.new.self.current } in
     let there : Contains points p = walked points c.loop-addr.invariant.done (c.loop-addr.walk).left c.advance.new.self.left p c.loop-addr.invariant.split c.in-Some.ensures.0 in
-    subst (λ (s : State). AreValues r.bounds.now s.regs) (sym c.state.ensures) (All-contains (λ (q : Point). AreValues r.bounds.now (q.state).regs) points p c.requires there)
+    subst (λ (s : State). AreInLattice r.bounds.now s.regs) (sym c.state.ensures) (All-contains (λ (q : Point). AreInLattice r.bounds.now (q.state).regs) points p c.requires there)
 
 pub returns-then-not-keeps_rule_17-clause-some : goal.returns-then-not-keeps_rule_17-clause-some
 returns-then-not-keeps_rule_17-clause-some c =

@@ -2,7 +2,7 @@ use Rattle.std.proofs.Common.{◌∙◌, refl, ap, sym, subst, arith}
 use Rattle.std.specs.Prelude.{All}
 use Rattle.tcd_plan.specs.PlanData.{PlanData}
 use Rattle.value_domain.specs.Limits.{Limits}
-use Rattle.value_domain.specs.State.{AreValues}
+use Rattle.value_domain.specs.State.{AreInLattice}
 use Rattle.value_domain.specs.VersionLimits.{limits_for}
 use Rattle.depth_cert.specs.declared.points.Point.{Point}
 use Rattle.depth_cert.specs.Nodes.{NodeData}
@@ -20,7 +20,7 @@ first_fault_in_node-requires c =
     let plan : PlanData = c.args.plan.now in
     let limits = c.of-bounds.ensures ∙ ap (limits_for plan) c.version.ensures.version in
     let member = (got (c.args.cert.now).nodes c.loop-i.i c.in-Some.node c.in-Some.ensures).2 in
-    subst (λ (b : Limits). All (λ (p : Point). AreValues b (p.state).regs) (c.in-Some.node).points) (sym limits) (accepted_values c.args.view.now plan c.args.cert.now c.in-Some.node c.requires member)
+    subst (λ (b : Limits). All (λ (p : Point). AreInLattice b (p.state).regs) (c.in-Some.node).points) (sym limits) (accepted_values c.args.view.now plan c.args.cert.now c.in-Some.node c.requires member)
 
 pub returns-in-Some-first_fault_in_node-clause-some : goal.returns-in-Some-first_fault_in_node-clause-some
 returns-in-Some-first_fault_in_node-clause-some c =

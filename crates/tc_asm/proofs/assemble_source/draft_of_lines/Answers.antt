@@ -3,7 +3,7 @@ use Rattle.std.proofs.lemmas.List.{take_all}
 use Rattle.tc_stmt.specs.declared.item.Item.{Item}
 use Rattle.tc_stmt.specs.declared.source.Line.{Line}
 use Rattle.tc_stmt.specs.Items.{item_of}
-use Rattle.tc_stmt.specs.SourceViews.{lines_read, lines_of}
+use Rattle.tc_stmt.specs.SourceViews.{lines_read, source_lines}
 use Rattle.tc_asm.specs.KnownSymbols.{kept}
 use Rattle.tc_stmt.specs.Lines.{LineData}
 use Rattle.tc_asm.specs.DraftedSources.{draft_from_lines}
@@ -25,7 +25,7 @@ loop-i-init c = record {
 pub loop-i-preserved : goal.loop-i-preserved
 loop-i-preserved c =
     let lines = c.as_slice-lines.result.now in
-    let ls = lines_of c.args.source.now in
+    let ls = source_lines c.args.source.now in
     let so_far = draft_from_lines c.args.labels.now (take c.loop-i.i ls) in
     let here = read_here lines c.loop-i.i _ c.loop-i.rest.now (omega arith) ls c.loop-i.invariant.rest in
     let rule = kept_line c.args.known c.args.labels.now ls c.loop-i.i _ _ here c.loop-i.draft c.loop-i.invariant.so_far c.loop-i.invariant.new _ (line_ruled c.args.known c.args.labels.now c.loop-i.rest.now _ _ _ _ _ c.loop-i.draft c.first_items-first.ensures c.in_ok-found.ensures.rule c.min-rule.ensures) in
@@ -41,7 +41,7 @@ loop-i-preserved c =
 pub loop-i-preserved-then-line-eq-NO_RULE : goal.loop-i-preserved-then-line-eq-NO_RULE
 loop-i-preserved-then-line-eq-NO_RULE c =
     let lines = c.as_slice-lines.result.now in
-    let ls = lines_of c.args.source.now in
+    let ls = source_lines c.args.source.now in
     let so_far = draft_from_lines c.args.labels.now (take c.loop-i.i ls) in
     let here = read_here lines c.loop-i.i _ c.loop-i.rest.now (omega arith) ls c.loop-i.invariant.rest in
     let none = c.if-line-eq0.true in
@@ -56,14 +56,14 @@ loop-i-preserved-then-line-eq-NO_RULE c =
 
 pub returns-then-rule-ne-NO_RULE-clause-bad : goal.returns-then-rule-ne-NO_RULE-clause-bad
 returns-then-rule-ne-NO_RULE-clause-bad c =
-    let ls = lines_of c.args.source.now in
+    let ls = source_lines c.args.source.now in
     let here = read_here c.as_slice-lines.result.now c.loop-i.i _ c.loop-i.rest.now (omega arith) ls c.loop-i.invariant.rest in
     least_here ls c.loop-i.i _ _ here c.args.labels.now (draft_from_lines c.args.labels.now (take c.loop-i.i ls)) _ c.requires.labels refl
     (kept_line c.args.known c.args.labels.now ls c.loop-i.i _ _ here c.loop-i.draft c.loop-i.invariant.so_far c.loop-i.invariant.new _ (line_ruled c.args.known c.args.labels.now c.loop-i.rest.now _ _ _ _ _ c.loop-i.draft c.first_items-first.ensures c.in_ok-found.ensures.rule c.min-rule.ensures))
     c.if-rule-ne-NO_RULE.true c.loop-i.invariant.rules
 
 pub returns-clause-ok : goal.returns-clause-ok
-returns-clause-ok c = lines_end c.args.known c.args.labels.now (lines_of c.args.source.now) c.loop-i.i c.loop-i.draft (past c.args.source.now c.as_slice-lines.result.now c.loop-i.i c.as_slice-lines.ensures.value (omega arith)) c.loop-i.invariant.so_far
+returns-clause-ok c = lines_end c.args.known c.args.labels.now (source_lines c.args.source.now) c.loop-i.i c.loop-i.draft (past c.args.source.now c.as_slice-lines.result.now c.loop-i.i c.as_slice-lines.ensures.value (omega arith)) c.loop-i.invariant.so_far
 
 pub returns-clause-rules : goal.returns-clause-rules
 returns-clause-rules c =
@@ -73,5 +73,5 @@ returns-clause-rules c =
 pub returns-clause-whole : goal.returns-clause-whole
 returns-clause-whole c =
     subst (λ (ls : List LineData). IsDraft (draft_from_lines c.args.labels.now ls))
-    (take_all c.loop-i.i (lines_of c.args.source.now) (past c.args.source.now c.as_slice-lines.result.now c.loop-i.i c.as_slice-lines.ensures.value (omega arith)))
+    (take_all c.loop-i.i (source_lines c.args.source.now) (past c.args.source.now c.as_slice-lines.result.now c.loop-i.i c.as_slice-lines.ensures.value (omega arith)))
     c.loop-i.invariant.whole

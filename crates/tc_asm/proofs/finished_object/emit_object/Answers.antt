@@ -3,8 +3,8 @@ use Rattle.std.specs.Prelude.{All, is_some, true}
 use Rattle.tc_object.specs.Names.{object_name_of}
 use Rattle.tc_asm.specs.declared.sections.Part.{Part}
 use Rattle.tc_asm.specs.declared.sections.Use.{Use}
-use Rattle.tc_asm.specs.DraftViews.{part_of}
-use Rattle.tc_asm.specs.Objects.{section_of, relocs_from}
+use Rattle.tc_asm.specs.DraftViews.{draft_section_of}
+use Rattle.tc_asm.specs.Objects.{section_of, relocs_of_sections}
 use Rattle.tc_asm.specs.DraftInvariants.{IsDraft}
 use Rattle.tc_asm.specs.Symbols.{symbol_names}
 use Rattle.tc_asm.proofs.FinishLaws.{parts_named, symbols_named, symbols_small, offsets_small}
@@ -31,6 +31,6 @@ emit_relocs-requires-clause-offsets c =
 pub invariant_of-result : goal.invariant_of-result
 invariant_of-result c =
     object_whole _ _ _ _ (subst IsDraft (sym c.draft.view_is) c.requires)
-    (c.in_ok-sections.ensures ∙ ap (λ (ps : List Part). map section_of (map part_of ps)) c.deref.ensures.value)
+    (c.in_ok-sections.ensures ∙ ap (λ (ps : List Part). map section_of (map draft_section_of ps)) c.deref.ensures.value)
     c.in_ok-symbols.ensures
-    (c.in_ok-relocs.ensures ∙ ap (λ (ps : List Part). relocs_from c.draft.inside.symbols 0 (map part_of ps)) c.deref-2.ensures.value)
+    (c.in_ok-relocs.ensures ∙ ap (λ (ps : List Part). relocs_of_sections c.draft.inside.symbols 0 (map draft_section_of ps)) c.deref-2.ensures.value)

@@ -1,7 +1,7 @@
 use Rattle.std.proofs.Common.{◌≡◌, ◌<◌, ◌++◌, ◌∙◌, ℕ, List, sym, ap, subst, length}
 use Rattle.std.specs.Prelude.{OnOk, string_bytes}
 use Rattle.tc_isa.specs.Rows.{RowData}
-use Rattle.tc_isa.specs.Forms.{bounds, fields}
+use Rattle.tc_isa.specs.Forms.{field_bounds, fields}
 use Rattle.tc_isa.specs.InBounds.{AreFieldsBelow}
 use Rattle.tc_isa.proofs.Made.{inst_within, row_of_inst}
 use Rattle.tc_stmt.proofs.Places.{wants_here}
@@ -24,7 +24,7 @@ append_row_text-requires-clause-wants c =
     (wants_within c.rows.result.now c.wants.result.now c.from-place.result c.rows.ensures.rows c.wants.ensures within)
 
 pub append_row_text-requires-clause-fits : goal.append_row_text-requires-clause-fits
-append_row_text-requires-clause-fits c = subst (λ (r : RowData). AreFieldsBelow (fields c.inst.inside.c c.inst.inside.s1 c.inst.inside.s2 c.inst.inside.n c.inst.inside.k) (bounds r.form)) (row_of_inst c.rows.result.now c.from-place.result _ _ c.inst.invariant c.rows.ensures.rows c.from-place.ensures) c.inst.invariant.fits.below
+append_row_text-requires-clause-fits c = subst (λ (r : RowData). AreFieldsBelow (fields c.inst.inside.c c.inst.inside.s1 c.inst.inside.s2 c.inst.inside.n c.inst.inside.k) (field_bounds r.form)) (row_of_inst c.rows.result.now c.from-place.result _ _ c.inst.invariant c.rows.ensures.rows c.from-place.ensures) c.inst.invariant.fits.below
 
 pub returns : goal.returns
 returns c =

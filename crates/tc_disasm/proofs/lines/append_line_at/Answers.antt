@@ -2,7 +2,7 @@ use Rattle.std.proofs.Common.{◌≡◌, ◌≤◌, ◌+◌, ◌++◌, ℕ, List
 use Rattle.std.specs.Prelude.{OnOk, IfOk, string_bytes}
 use Rattle.std.proofs.lemmas.List.{take_rest}
 use Rattle.tcd_base.specs.declared.errors.NoMemory.{NoMemory}
-use Rattle.tc_disasm.specs.Listing.{listing_line_at, listed_size_at}
+use Rattle.tc_disasm.specs.Listing.{listing_line_at, instruction_or_data_size}
 use Rattle.tc_disasm.proofs.lines.append_line_at.Goals as goal
 
 further : (r : Result ℕ NoMemory) (at most left : ℕ) → at + left ≡ most → IfOk r (λ n. n ≤ left) → IfOk r (λ n. at + n ≤ most)
@@ -15,7 +15,7 @@ returns c =
     let within : IfOk c.append_line.result (λ n. n ≤ length (drop c.args.at c.args.bytes.now)) = subst (λ (bs : List ℕ). IfOk c.append_line.result (λ n. n ≤ length bs)) e c.append_line.ensures.within in
     record {
       text = subst (λ (bs : List ℕ). OnOk c.append_line.result (string_bytes c.append_line.new.text ≡ string_bytes c.args.text.now ++ listing_line_at (c.args.address + c.args.at) bs)) e c.append_line.ensures.text;
-      size = subst (λ (bs : List ℕ). IfOk c.append_line.result (λ n. n ≡ listed_size_at bs)) e c.append_line.ensures.size;
+      size = subst (λ (bs : List ℕ). IfOk c.append_line.result (λ n. n ≡ instruction_or_data_size bs)) e c.append_line.ensures.size;
       some = c.append_line.ensures.some;
       within = further c.append_line.result c.args.at (length c.args.bytes.now) (length (drop c.args.at c.args.bytes.now)) (omega (arith, length-drop c.args.at c.args.bytes.now, c.requires.within)) within;
     }

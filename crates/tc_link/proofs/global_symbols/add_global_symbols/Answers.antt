@@ -1,7 +1,7 @@
 use Rattle.std.proofs.Common.{◌+◌, ◌++◌, ◌∙◌, ℕ, List, ap, take, map}
 use Rattle.std.specs.Prelude.{filter}
 use Rattle.std.specs.List.{count_by}
-use Rattle.tc_link.specs.GlobalSymbols.{GlobalData, is_global, global_data, global_address, has_global_name, twice_of_count}
+use Rattle.tc_link.specs.GlobalSymbols.{GlobalData, is_global, global_data, first_global_address, has_global_name, twice_of_count}
 use Rattle.tc_link.proofs.CountLaws.{symbols_more}
 use Rattle.tc_link.proofs.GlobalLaws.{symbols_next}
 use Rattle.tc_link.proofs.global_symbols.add_global_symbols.Goals as goal
@@ -16,5 +16,5 @@ loop-symbol-preserved c =
       globals = λ placed p before at rel q.
           let sofar : List GlobalData = before ++ map (global_data p.bases) (filter is_global (take i c.args.symbols.now)) in
           c.in_ok-add_symbol_if_global.ensures.globals placed p sofar at (c.loop-symbol.invariant.globals placed p before at rel) q
-          ∙ ap (λ (gs : List GlobalData). global_address gs q) (symbols_next before p.bases c.args.symbols.now i c.symbol-item.result c.loop-symbol-test.true c.symbol-item.is);
+          ∙ ap (λ (gs : List GlobalData). first_global_address gs q) (symbols_next before p.bases c.args.symbols.now i c.symbol-item.result c.loop-symbol-test.true c.symbol-item.is);
     }

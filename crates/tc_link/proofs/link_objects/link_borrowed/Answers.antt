@@ -4,10 +4,10 @@ use Rattle.std.proofs.lemmas.Result.{err_from_is_err_and}
 use Rattle.elf_image.specs.Images.{ImageData, SegmentData, AreSegmentBytes, IsImage, segment_data}
 use Rattle.tc_link.specs.Layouts.{PlaceData, LayoutData, IsLayout}
 use Rattle.tc_link.specs.Placing.{PlacedData, sections_to_link}
-use Rattle.tc_link.specs.GlobalSymbols.{globals_of, global_address, AreGlobals}
+use Rattle.tc_link.specs.GlobalSymbols.{globals_of, first_global_address, HoldsGlobals}
 use Rattle.tc_link.specs.Segments.{segments_of}
-use Rattle.tc_link.specs.Relocated.{relocated_contents}
-use Rattle.tc_link.specs.Refusals.{Refusal, no_place_refusal_in, no_room_refusal_after}
+use Rattle.tc_link.specs.Relocated.{all_relocated_sections}
+use Rattle.tc_link.specs.Refusals.{Refusal, first_no_place_refusal, first_no_room_refusal}
 use Rattle.tc_link.specs.Errors.{refusal_of}
 use Rattle.tc_link.proofs.ImageLaws.{image_of_bytes}
 use Rattle.tc_link.proofs.PlacedLaws.{placed_objects}
@@ -30,7 +30,7 @@ pub returns-in_err-check_places-clause-err : goal.returns-in_err-check_places-cl
 returns-in_err-check_places-clause-err c =
     let e : c.deref.result.now ≡ c.args.layout.now.places = c.deref.ensures.value ∙ ap (λ (l : LayoutData). l.places) c.layout.view_is in
     let x : Option Refusal = refusal_of c.in_err-check_places.field-0.0 in
-    let h = subst (λ (ps : List PlaceData). IfSome x (λ (r : Refusal). no_place_refusal_in ps c.args.objects.now ≡ Some r)) e c.in_err-check_places.ensures.err in
+    let h = subst (λ (ps : List PlaceData). IfSome x (λ (r : Refusal). first_no_place_refusal ps c.args.objects.now ≡ Some r)) e c.in_err-check_places.ensures.err in
     let p = err_from_is_err_and c.from_residual-in_err-check_places.result c.from_residual-in_err-check_places.ensures.1 in
     rw (p.1, p.2) (linked_told c.args.objects.now c.args.layout.now x (told_place c.args.objects.now c.args.layout.now x c.in_ok-check_repeated_symbols.ensures.ok c.in_ok-check_missing_symbols.ensures.ok h))
 
@@ -38,9 +38,9 @@ pub returns-in_err-placed-clause-err : goal.returns-in_err-placed-clause-err
 returns-in_err-placed-clause-err c =
     let e : c.deref.result.now ≡ c.args.layout.now.places = c.deref.ensures.value ∙ ap (λ (l : LayoutData). l.places) c.layout.view_is in
     let f : c.deref-2.result.now ≡ c.args.layout.now.places = c.deref-2.ensures.value ∙ ap (λ (l : LayoutData). l.places) c.layout.view_is in
-    let none : no_place_refusal_in c.args.layout.now.places c.args.objects.now ≡ None = ap (λ (ps : List PlaceData). no_place_refusal_in ps c.args.objects.now) (sym e) ∙ c.in_ok-check_places.ensures.ok in
+    let none : first_no_place_refusal c.args.layout.now.places c.args.objects.now ≡ None = ap (λ (ps : List PlaceData). first_no_place_refusal ps c.args.objects.now) (sym e) ∙ c.in_ok-check_places.ensures.ok in
     let x : Option Refusal = refusal_of c.in_err-placed.field-0.0 in
-    let h = subst (λ (ps : List PlaceData). IfSome x (λ (r : Refusal). no_room_refusal_after ps [] (sections_to_link c.args.objects.now) ≡ Some r)) f c.in_err-placed.ensures.err in
+    let h = subst (λ (ps : List PlaceData). IfSome x (λ (r : Refusal). first_no_room_refusal ps [] (sections_to_link c.args.objects.now) ≡ Some r)) f c.in_err-placed.ensures.err in
     let p = err_from_is_err_and c.from_residual-in_err-placed.result c.from_residual-in_err-placed.ensures.1 in
     rw (p.1, p.2) (linked_told c.args.objects.now c.args.layout.now x (told_room c.args.objects.now c.args.layout.now x c.in_ok-check_repeated_symbols.ensures.ok c.in_ok-check_missing_symbols.ensures.ok none h))
 
@@ -67,8 +67,8 @@ returns-in_default-clause-err c =
     c.in_ok-check_repeated_symbols.ensures.ok c.in_ok-check_missing_symbols.ensures.ok c.in_ok-check_places.ensures.ok c.in_ok-placed.ensures.room (c.deref-3.ensures.value ∙ c.in_ok-placed.ensures.placed) in
     let name : c.as_str.result.now ≡ c.args.layout.now.entry = c.as_str.ensures.value ∙ ap (λ (l : LayoutData). l.entry) c.layout.view_is in
     let again : c.deref-4.result.now ≡ c.deref-3.result.now = c.deref-4.ensures.value ∙ sym c.deref-3.ensures.value in
-    let globals : AreGlobals c.in_ok-names.names c.deref-4.result.now (globals_of c.deref-4.result.now) = c.in_ok-names.ensures.globals c.deref-4.result.now (ap (map (λ (p : PlacedData). p.object)) (again ∙ at.same) ∙ placed_objects c.args.layout.now.places [] c.args.objects.now) in
-    let entry = ap (global_address (globals_of c.deref-3.result.now)) (sym name) ∙ ap (λ (ps : List PlacedData). global_address (globals_of ps) c.as_str.result.now) (sym again) ∙ sym (globals c.as_str.result.now) ∙ sym c.global_symbol_address.ensures ∙ c.in_default.is in
+    let globals : HoldsGlobals c.in_ok-names.names c.deref-4.result.now (globals_of c.deref-4.result.now) = c.in_ok-names.ensures.globals c.deref-4.result.now (ap (map (λ (p : PlacedData). p.object)) (again ∙ at.same) ∙ placed_objects c.args.layout.now.places [] c.args.objects.now) in
+    let entry = ap (first_global_address (globals_of c.deref-3.result.now)) (sym name) ∙ ap (λ (ps : List PlacedData). first_global_address (globals_of ps) c.as_str.result.now) (sym again) ∙ sym (globals c.as_str.result.now) ∙ sym c.global_symbol_address.ensures ∙ c.in_default.is in
     sym (linked_made c.args.objects.now c.args.layout.now c.deref-3.result.now at.none at.same) ∙ made_no_entry c.args.layout.now c.deref-3.result.now c.in_ok-contents.ensures.none entry
 
 pub invariant_of-result : goal.invariant_of-result
@@ -76,10 +76,10 @@ invariant_of-result c =
     let at = are_placed c.args.objects.now c.args.layout.now _ _ c.deref-3.result.now (c.deref.ensures.value ∙ ap (λ (l : LayoutData). l.places) c.layout.view_is) (c.deref-2.ensures.value ∙ ap (λ (l : LayoutData). l.places) c.layout.view_is)
     c.in_ok-check_repeated_symbols.ensures.ok c.in_ok-check_missing_symbols.ensures.ok c.in_ok-check_places.ensures.ok c.in_ok-placed.ensures.room (c.deref-3.ensures.value ∙ c.in_ok-placed.ensures.placed) in
     let places : c.deref-5.result.now ≡ c.args.layout.now.places = c.deref-5.ensures.value ∙ ap (λ (l : LayoutData). l.places) c.layout.view_is in
-    let contents : c.deref-6.result.now ≡ relocated_contents c.deref-3.result.now = c.deref-6.ensures.value ∙ c.in_ok-contents.ensures.sections in
-    let segments : map segment_data c.in_ok-segments.segments.items ≡ segments_of c.args.layout.now.places (relocated_contents c.deref-3.result.now) =
+    let contents : c.deref-6.result.now ≡ all_relocated_sections c.deref-3.result.now = c.deref-6.ensures.value ∙ c.in_ok-contents.ensures.sections in
+    let segments : map segment_data c.in_ok-segments.segments.items ≡ segments_of c.args.layout.now.places (all_relocated_sections c.deref-3.result.now) =
     c.in_ok-segments.ensures.ok ∙ ap (λ (ps : List PlaceData). segments_of ps c.deref-6.result.now) places ∙ ap (segments_of c.args.layout.now.places) contents in
-    let bytes : AreSegmentBytes (segments_of c.args.layout.now.places (relocated_contents c.deref-3.result.now)) = subst AreSegmentBytes (ap (map segment_data) c.deref-7.ensures.value ∙ segments) c.establish_segment_bytes.ensures in
+    let bytes : AreSegmentBytes (segments_of c.args.layout.now.places (all_relocated_sections c.deref-3.result.now)) = subst AreSegmentBytes (ap (map segment_data) c.deref-7.ensures.value ∙ segments) c.establish_segment_bytes.ensures in
     let limits = linked_image c.args.objects.now c.args.layout.now c.deref-3.result.now (subst IsLayout c.layout.view_is c.layout.invariant) c.in_ok-placed.ensures.good at.none at.same c.in-Some.entry (omega arith) in
     subst (λ (ss : List SegmentData). IsImage (record { entry = c.in-Some.entry; segments = ss })) (sym segments) (image_of_bytes _ limits bytes)
 
@@ -89,11 +89,11 @@ returns-clause-ok c =
     c.in_ok-check_repeated_symbols.ensures.ok c.in_ok-check_missing_symbols.ensures.ok c.in_ok-check_places.ensures.ok c.in_ok-placed.ensures.room (c.deref-3.ensures.value ∙ c.in_ok-placed.ensures.placed) in
     let name : c.as_str.result.now ≡ c.args.layout.now.entry = c.as_str.ensures.value ∙ ap (λ (l : LayoutData). l.entry) c.layout.view_is in
     let again : c.deref-4.result.now ≡ c.deref-3.result.now = c.deref-4.ensures.value ∙ sym c.deref-3.ensures.value in
-    let globals : AreGlobals c.in_ok-names.names c.deref-4.result.now (globals_of c.deref-4.result.now) = c.in_ok-names.ensures.globals c.deref-4.result.now (ap (map (λ (p : PlacedData). p.object)) (again ∙ at.same) ∙ placed_objects c.args.layout.now.places [] c.args.objects.now) in
-    let entry = ap (global_address (globals_of c.deref-3.result.now)) (sym name) ∙ ap (λ (ps : List PlacedData). global_address (globals_of ps) c.as_str.result.now) (sym again) ∙ sym (globals c.as_str.result.now) ∙ sym c.global_symbol_address.ensures ∙ c.in-Some.is in
+    let globals : HoldsGlobals c.in_ok-names.names c.deref-4.result.now (globals_of c.deref-4.result.now) = c.in_ok-names.ensures.globals c.deref-4.result.now (ap (map (λ (p : PlacedData). p.object)) (again ∙ at.same) ∙ placed_objects c.args.layout.now.places [] c.args.objects.now) in
+    let entry = ap (first_global_address (globals_of c.deref-3.result.now)) (sym name) ∙ ap (λ (ps : List PlacedData). first_global_address (globals_of ps) c.as_str.result.now) (sym again) ∙ sym (globals c.as_str.result.now) ∙ sym c.global_symbol_address.ensures ∙ c.in-Some.is in
     let places : c.deref-5.result.now ≡ c.args.layout.now.places = c.deref-5.ensures.value ∙ ap (λ (l : LayoutData). l.places) c.layout.view_is in
-    let contents : c.deref-6.result.now ≡ relocated_contents c.deref-3.result.now = c.deref-6.ensures.value ∙ c.in_ok-contents.ensures.sections in
-    let segments : map segment_data c.in_ok-segments.segments.items ≡ segments_of c.args.layout.now.places (relocated_contents c.deref-3.result.now) =
+    let contents : c.deref-6.result.now ≡ all_relocated_sections c.deref-3.result.now = c.deref-6.ensures.value ∙ c.in_ok-contents.ensures.sections in
+    let segments : map segment_data c.in_ok-segments.segments.items ≡ segments_of c.args.layout.now.places (all_relocated_sections c.deref-3.result.now) =
     c.in_ok-segments.ensures.ok ∙ ap (λ (ps : List PlaceData). segments_of ps c.deref-6.result.now) places ∙ ap (segments_of c.args.layout.now.places) contents in
     sym (linked_made c.args.objects.now c.args.layout.now c.deref-3.result.now at.none at.same)
     ∙ made_ok c.args.layout.now c.deref-3.result.now c.in-Some.entry c.in_ok-contents.ensures.none entry

@@ -2,8 +2,8 @@ use Rattle.std.proofs.Common.{◌≡◌, ◌++◌, ◌∙◌, ℕ, List, None, O
 use Rattle.std.specs.Prelude.{IfSome}
 use Rattle.std.proofs.lemmas.Result.{err_from_is_err_and}
 use Rattle.tc_object.specs.Objects.{SectionData, ObjectData, IsObject}
-use Rattle.tc_link.specs.Placing.{sections_to_link, placed_after, bases_after}
-use Rattle.tc_link.specs.Refusals.{Refusal, no_room_refusal_after}
+use Rattle.tc_link.specs.Placing.{sections_to_link, placed_after, section_bases_after}
+use Rattle.tc_link.specs.Refusals.{Refusal, first_no_room_refusal}
 use Rattle.tc_link.specs.PlaceSizes.{AreTaken}
 use Rattle.tc_link.specs.Errors.{refusal_of}
 use Rattle.tc_link.proofs.ItemLaws.{good_more, zero_at}
@@ -11,7 +11,7 @@ use Rattle.tc_link.proofs.RoomLaws.{are_taken_none, placed_next, taken_next, roo
 use Rattle.tc_link.proofs.placed.place_objects.Goals as goal
 
 pub loop-object-init : goal.loop-object-init
-unfolding placed_after no_room_refusal_after
+unfolding placed_after first_no_room_refusal
 loop-object-init c =
     let zero : (k : ℕ) → get_or c.deref_mut-sizes.result.now k 0 ≡ 0 = λ k. ap (λ (l : List ℕ). get_or l k 0) (c.deref_mut-sizes.ensures.value ∙ c.in_ok-zeros.ensures.items_if_clones_equal (λ y e. e)) ∙ zero_at _ k in
     record {
@@ -30,9 +30,9 @@ loop-object-preserved c =
     let before : List SectionData = sections_to_link (take i all) in
     let inv = c.loop-object.invariant in
     let e : c.deref.result.now ≡ o.sections = c.deref.ensures.value ∙ ap (λ (x : ObjectData). x.sections) c.object.view_is in
-    let bases : c.in_ok-bases.bases.items ≡ bases_after c.args.places.now before o.sections = c.in_ok-bases.ensures.bases before inv.taken ∙ ap (bases_after c.args.places.now before) e in
+    let bases : c.in_ok-bases.bases.items ≡ section_bases_after c.args.places.now before o.sections = c.in_ok-bases.ensures.bases before inv.taken ∙ ap (section_bases_after c.args.places.now before) e in
     let taken = subst (λ (ss : List SectionData). AreTaken c.args.places.now (before ++ ss) c.place_sections.new.sizes) e (c.in_ok-bases.ensures.taken before inv.taken) in
-    let room : no_room_refusal_after c.args.places.now before o.sections ≡ None = ap (no_room_refusal_after c.args.places.now before) (sym e) ∙ c.in_ok-bases.ensures.room before inv.taken in
+    let room : first_no_room_refusal c.args.places.now before o.sections ≡ None = ap (first_no_room_refusal c.args.places.now before) (sym e) ∙ c.in_ok-bases.ensures.room before inv.taken in
     record {
       placed = c.in_ok-push.ensures.items ∙ placed_next c.args.places.now all i o c.loop-object.placed.items c.in_ok-bases.bases.items c.loop-object-test.true c.object-item.is inv.placed bases;
       taken = taken_next c.args.places.now all i o c.place_sections.new.sizes c.loop-object-test.true c.object-item.is taken;
@@ -50,6 +50,6 @@ returns-in_err-bases-clause-err c =
     let inv = c.loop-object.invariant in
     let e : c.deref.result.now ≡ o.sections = c.deref.ensures.value ∙ ap (λ (x : ObjectData). x.sections) c.object.view_is in
     let x : Option Refusal = refusal_of c.in_err-bases.field-0.0 in
-    let h = subst (λ (ss : List SectionData). IfSome x (λ (r : Refusal). no_room_refusal_after c.args.places.now before ss ≡ Some r)) e (c.in_err-bases.ensures.err before inv.taken) in
+    let h = subst (λ (ss : List SectionData). IfSome x (λ (r : Refusal). first_no_room_refusal c.args.places.now before ss ≡ Some r)) e (c.in_err-bases.ensures.err before inv.taken) in
     let p = err_from_is_err_and c.from_residual-in_err-bases.result c.from_residual-in_err-bases.ensures.1 in
     rw (p.1, p.2) (room_told c.args.places.now all i o x c.loop-object-test.true c.object-item.is inv.room h)

@@ -1,7 +1,7 @@
 use Rattle.std.proofs.Common.{◌≡◌, ◌<◌, [], ℕ, None, take, get_or}
 use Rattle.tc_object.specs.Objects.{ObjectData, IsObject}
 use Rattle.tc_link.specs.Placing.{sections_to_link, placed_after}
-use Rattle.tc_link.specs.Refusals.{no_room_refusal_after}
+use Rattle.tc_link.specs.Refusals.{first_no_room_refusal}
 use Rattle.tc_link.specs.PlaceSizes.{AreTaken, AreSmallPlaceSizes}
 use Rattle.tc_link.proofs.placed.place_objects.Given as goal
 
@@ -10,6 +10,6 @@ invariant-loop-object l = record {
   placed : l.placed.items ≡ placed_after l.places [] (take l.object-index l.objects);
   taken : AreTaken l.places (sections_to_link (take l.object-index l.objects)) l.sizes;
   good : (k : ℕ) (d : ObjectData) → k < l.object-index → IsObject (get_or l.objects k d);
-  room : no_room_refusal_after l.places [] (sections_to_link (take l.object-index l.objects)) ≡ None;
+  room : first_no_room_refusal l.places [] (sections_to_link (take l.object-index l.objects)) ≡ None;
   small : AreSmallPlaceSizes l.sizes;
 }

@@ -1,14 +1,14 @@
 use Rattle.std.proofs.Common.{◌≡◌, ◌+◌, ◌++◌, ◌∷◌, [], ℕ, List, Some, refl, sym, ap, subst, ◌∙◌, take}
 use Rattle.std.proofs.lemmas.List.{append-nil, take_all}
 use Rattle.tc_object.specs.Objects.{SectionData}
-use Rattle.tc_link.specs.Placing.{bases_after}
-use Rattle.tc_link.specs.Refusals.{no_room, no_room_refusal_after}
+use Rattle.tc_link.specs.Placing.{section_bases_after}
+use Rattle.tc_link.specs.Refusals.{no_room, first_no_room_refusal}
 use Rattle.tc_link.specs.PlaceSizes.{AreTaken}
 use Rattle.tc_link.proofs.RoomLaws.{take_next, bases_step, taken_step, room_step, room_fault}
 use Rattle.tc_link.proofs.placed.place_sections.Goals as goal
 
 pub loop-section-init : goal.loop-section-init
-unfolding bases_after no_room_refusal_after
+unfolding section_bases_after first_no_room_refusal
 loop-section-init c = record {
   bases = λ before t. c.new-bases.ensures.items;
   taken = λ before t. subst (λ (l : List SectionData). AreTaken c.args.places.now l c.args.sizes.now) (sym (append-nil before)) t;

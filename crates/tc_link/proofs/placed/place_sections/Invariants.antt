@@ -1,14 +1,14 @@
 use Rattle.std.proofs.Common.{◌≡◌, ◌++◌, List, None, take}
 use Rattle.tc_object.specs.Objects.{SectionData}
-use Rattle.tc_link.specs.Placing.{bases_after}
-use Rattle.tc_link.specs.Refusals.{no_room_refusal_after}
+use Rattle.tc_link.specs.Placing.{section_bases_after}
+use Rattle.tc_link.specs.Refusals.{first_no_room_refusal}
 use Rattle.tc_link.specs.PlaceSizes.{AreTaken, AreSmallPlaceSizes}
 use Rattle.tc_link.proofs.placed.place_sections.Given as goal
 
 abbrev pub invariant-loop-section : goal.invariant-loop-section
 invariant-loop-section l = record {
-  bases : (before : List SectionData) → AreTaken l.places before l.initial.sizes → l.bases.items ≡ bases_after l.places before (take l.section-index l.sections);
+  bases : (before : List SectionData) → AreTaken l.places before l.initial.sizes → l.bases.items ≡ section_bases_after l.places before (take l.section-index l.sections);
   taken : (before : List SectionData) → AreTaken l.places before l.initial.sizes → AreTaken l.places (before ++ take l.section-index l.sections) l.sizes;
-  room : (before : List SectionData) → AreTaken l.places before l.initial.sizes → no_room_refusal_after l.places before (take l.section-index l.sections) ≡ None;
+  room : (before : List SectionData) → AreTaken l.places before l.initial.sizes → first_no_room_refusal l.places before (take l.section-index l.sections) ≡ None;
   small : AreSmallPlaceSizes l.sizes;
 }

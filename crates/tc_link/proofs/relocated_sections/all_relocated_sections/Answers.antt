@@ -2,7 +2,7 @@ use Rattle.std.proofs.Common.{◌∙◌, ℕ, List, refl}
 use Rattle.std.proofs.lemmas.Result.{err_from_is_err_and}
 use Rattle.tc_link.specs.Placing.{PlacedData}
 use Rattle.tc_link.specs.GlobalSymbols.{GlobalData, globals_of}
-use Rattle.tc_link.specs.Refusals.{first_refusal_from, refusal_at, reloc_refusal_in}
+use Rattle.tc_link.specs.Refusals.{first_refusal_from, refusal_at, first_reloc_refusal}
 use Rattle.tc_link.specs.Errors.{refusal_of}
 use Rattle.tc_link.proofs.FirstLaws.{more_item, told_item}
 use Rattle.tc_link.proofs.RelocLaws.{contents_next}
@@ -26,7 +26,7 @@ loop-number-preserved c =
     }
 
 pub returns-in_err-sections-clause-err : goal.returns-in_err-sections-clause-err
-unfolding reloc_refusal_in
+unfolding first_reloc_refusal
 returns-in_err-sections-clause-err c =
     let g : List GlobalData = globals_of c.args.placed.now in
     let i : ℕ = c.loop-number.number in

@@ -2,7 +2,7 @@ use Rattle.std.proofs.Common.{◌≡◌, ◌<◌, ◌∙◌, Bool, Some, None, r
 use Rattle.std.specs.Option.{option_map}
 use Rattle.std.specs.Borrow.{Bor}
 use Rattle.tc_object.specs.Objects.{SymbolData, ObjectData}
-use Rattle.tc_link.specs.Refusals.{first_refusal_from, missing, missing_symbol_refusal, missing_symbol_refusal_in, is_used_by_relocs}
+use Rattle.tc_link.specs.Refusals.{first_refusal_from, missing, missing_symbol_refusal, first_missing_symbol_refusal, is_used_by_relocs}
 use Rattle.tc_link.proofs.FirstLaws.{more_item, found_item, first_end}
 use Rattle.tc_link.proofs.symbol_checks.check_missing_symbols.Goals as goal
 
@@ -11,7 +11,7 @@ unfolding first_refusal_from
 loop-object-init c = refl
 
 pub returns-in-Some-clause-err : goal.returns-in-Some-clause-err
-unfolding missing_symbol_refusal_in
+unfolding first_missing_symbol_refusal
 returns-in-Some-clause-err c =
     let x : ObjectData = c.object-item.result in
     let e : c.deref-in-loop-object.result.now ≡ x.symbols = c.deref-in-loop-object.ensures.value ∙ ap (λ (o : ObjectData). o.symbols) c.object.view_is in
@@ -33,5 +33,5 @@ loop-object-preserved c =
     more_item (λ _ (o : ObjectData). first_refusal_from (missing_symbol_refusal c.args.objects.now o.relocs) 0 o.symbols) c.args.objects.now c.loop-object.object-index x c.loop-object-test.true c.object-item.is c.loop-object.invariant inner
 
 pub returns-clause-ok : goal.returns-clause-ok
-unfolding missing_symbol_refusal_in
+unfolding first_missing_symbol_refusal
 returns-clause-ok c = first_end (λ _ (o : ObjectData). first_refusal_from (missing_symbol_refusal c.args.objects.now o.relocs) 0 o.symbols) c.args.objects.now c.loop-object.object-index c.loop-object-test.false c.loop-object.invariant

@@ -1,5 +1,5 @@
 use Rattle.std.proofs.Common.{◌%◌, set, get_or, subst, sym, ap, ◌∙◌}
-use Rattle.tc_mem.specs.Pages.{memory_of, ArePages, ArePageBytesSmall, page_bytes_with_words}
+use Rattle.tc_mem.specs.Pages.{memory_of, AreOrderedPages, ArePageBytesSmall, page_bytes_with_words}
 use Rattle.tc_mem.specs.declared.page.Page.{Page}
 use Rattle.std.proofs.lemmas.List.Elements.{All-get_or}
 use Rattle.tc_mem.proofs.Small.{HasBytes-mem, IsSmall, AreSmall-put, bytes_with_small}
@@ -28,10 +28,10 @@ returns-clause-written c =
     ap (λ (p : Page). memory_of (set c.args.pages.now c.in-Some.i p)) c.write_page_area.ensures.written
     ∙ write_area_found c.args.pages.now c.in-Some.i c.args.addr c.args.words.now area c.told-words c.write_page_area.result c.write_page_area.ensures.mapped
 
-kept_pages : (c : goal.After-write_page_area) → ArePages (set c.args.pages.now c.in-Some.i c.write_page_area.new.page)
+kept_pages : (c : goal.After-write_page_area) → AreOrderedPages (set c.args.pages.now c.in-Some.i c.write_page_area.new.page)
 kept_pages c =
     let at = is_at c.args.pages.now c.in-Some.i _ c.requires.pages.pages c.in-Some.ensures.within c.in-Some.ensures.found in
-    subst (λ (p : Page). ArePages (set c.args.pages.now c.in-Some.i p)) (sym c.write_page_area.ensures.written)
+    subst (λ (p : Page). AreOrderedPages (set c.args.pages.now c.in-Some.i p)) (sym c.write_page_area.ensures.written)
     (write_keeps c.args.pages.now c.in-Some.i _ (page_bytes_with_words (get_or c.args.pages.now c.in-Some.i no_page).bytes (c.args.addr % 4096) c.args.words.now) at (length-bytes_with _ _ _) c.write_page_area.result)
 
 kept_small : (c : goal.After-write_page_area) → ArePageBytesSmall (set c.args.pages.now c.in-Some.i c.write_page_area.new.page)

@@ -1,5 +1,5 @@
 use Rattle.std.proofs.Common.{◌%◌, set, get_or, subst, sym, ap, ◌∙◌, length-set}
-use Rattle.tc_mem.specs.Pages.{memory_of, ArePages, ArePageBytesSmall}
+use Rattle.tc_mem.specs.Pages.{memory_of, AreOrderedPages, ArePageBytesSmall}
 use Rattle.tc_mem.specs.declared.page.Page.{Page}
 use Rattle.std.proofs.Common.{arith}
 use Rattle.std.proofs.lemmas.List.Elements.{All-get_or}
@@ -25,10 +25,10 @@ returns-clause-written c =
     ap (λ (p : Page). memory_of (set c.args.pages.now c.in-Some.i p)) c.write_page_byte.ensures.written
     ∙ write_found c.args.pages.now c.in-Some.i c.args.addr c.args.byte at c.write_page_byte.result c.write_page_byte.ensures.mapped
 
-kept_pages : (c : goal.After-write_page_byte) → ArePages (set c.args.pages.now c.in-Some.i c.write_page_byte.new.page)
+kept_pages : (c : goal.After-write_page_byte) → AreOrderedPages (set c.args.pages.now c.in-Some.i c.write_page_byte.new.page)
 kept_pages c =
     let at = is_at c.args.pages.now c.in-Some.i _ c.requires.pages c.in-Some.ensures.within c.in-Some.ensures.found in
-    subst (λ (p : Page). ArePages (set c.args.pages.now c.in-Some.i p)) (sym c.write_page_byte.ensures.written)
+    subst (λ (p : Page). AreOrderedPages (set c.args.pages.now c.in-Some.i p)) (sym c.write_page_byte.ensures.written)
     (write_keeps c.args.pages.now c.in-Some.i _ (set (get_or c.args.pages.now c.in-Some.i no_page).bytes (c.args.addr % 4096) c.args.byte) at (length-set _ _ _) c.write_page_byte.result)
 
 pub returns-clause-kept : goal.returns-clause-kept

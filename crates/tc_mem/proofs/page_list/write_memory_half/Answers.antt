@@ -1,6 +1,6 @@
 use Rattle.std.proofs.Common.{◌+◌, ◌/◌, ◌%◌, ◌^◌, ◌≤◌, set, get_or, subst, sym, ap, ◌∙◌, arith, length-set}
 use Rattle.std.proofs.lemmas.List.Elements.{All-get_or}
-use Rattle.tc_mem.specs.Pages.{memory_of, ArePages, ArePageBytesSmall}
+use Rattle.tc_mem.specs.Pages.{memory_of, AreOrderedPages, ArePageBytesSmall}
 use Rattle.tc_mem.specs.declared.page.Page.{Page}
 use Rattle.tc_mem.proofs.Accesses.{is_at, write_keeps}
 use Rattle.tc_mem.proofs.Blocks.{block_none, block_is, half_unwritten, half_written}
@@ -33,10 +33,10 @@ returns-clause-written c =
     ap (λ (p : Page). memory_of (set c.args.pages.now c.in-Some.i p)) c.write_mapped_page_half.ensures.written
     ∙ half_written c.args.pages.now c.in-Some.i c.args.addr at fits c.args.half c.write_mapped_page_half.result c.write_mapped_page_half.ensures.mapped
 
-kept_pages : (c : goal.After-write_mapped_page_half) → ArePages (set c.args.pages.now c.in-Some.i c.write_mapped_page_half.new.page)
+kept_pages : (c : goal.After-write_mapped_page_half) → AreOrderedPages (set c.args.pages.now c.in-Some.i c.write_mapped_page_half.new.page)
 kept_pages c =
     let at = is_at c.args.pages.now c.in-Some.i _ c.requires.pages c.in-Some.ensures.within c.in-Some.ensures.found in
-    subst (λ (p : Page). ArePages (set c.args.pages.now c.in-Some.i p)) (sym c.write_mapped_page_half.ensures.written)
+    subst (λ (p : Page). AreOrderedPages (set c.args.pages.now c.in-Some.i p)) (sym c.write_mapped_page_half.ensures.written)
     (write_keeps c.args.pages.now c.in-Some.i _ (set (set (get_or c.args.pages.now c.in-Some.i no_page).bytes (c.args.addr % 4096) (c.args.half % 2 ^ 8)) (c.args.addr % 4096 + 1) (c.args.half / 2 ^ 8 % 2 ^ 8)) at (length-set _ _ _ ∙ length-set _ _ _) c.write_mapped_page_half.result)
 
 kept_small : (c : goal.After-write_mapped_page_half) → ArePageBytesSmall (set c.args.pages.now c.in-Some.i c.write_mapped_page_half.new.page)

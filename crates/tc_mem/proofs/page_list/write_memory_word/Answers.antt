@@ -1,6 +1,6 @@
 use Rattle.std.proofs.Common.{◌+◌, ◌%◌, ◌≤◌, [], ◌∷◌, set, get_or, subst, sym, ap, ◌∙◌, arith}
 use Rattle.std.proofs.lemmas.List.Elements.{All-get_or}
-use Rattle.tc_mem.specs.Pages.{memory_of, page_bytes_with_words, ArePages, ArePageBytesSmall}
+use Rattle.tc_mem.specs.Pages.{memory_of, page_bytes_with_words, AreOrderedPages, ArePageBytesSmall}
 use Rattle.tc_mem.specs.declared.page.Page.{Page}
 use Rattle.tc_mem.proofs.Accesses.{is_at, write_keeps}
 use Rattle.tc_mem.proofs.Blocks.{block_none, block_is, word_unwritten, word_written}
@@ -34,10 +34,10 @@ returns-clause-written c =
     ap (λ (p : Page). memory_of (set c.args.pages.now c.in-Some.i p)) c.write_mapped_page_word.ensures.written
     ∙ word_written c.args.pages.now c.in-Some.i c.args.addr at fits c.args.word c.write_mapped_page_word.result c.write_mapped_page_word.ensures.mapped
 
-kept_pages : (c : goal.After-write_mapped_page_word) → ArePages (set c.args.pages.now c.in-Some.i c.write_mapped_page_word.new.page)
+kept_pages : (c : goal.After-write_mapped_page_word) → AreOrderedPages (set c.args.pages.now c.in-Some.i c.write_mapped_page_word.new.page)
 kept_pages c =
     let at = is_at c.args.pages.now c.in-Some.i _ c.requires.pages c.in-Some.ensures.within c.in-Some.ensures.found in
-    subst (λ (p : Page). ArePages (set c.args.pages.now c.in-Some.i p)) (sym c.write_mapped_page_word.ensures.written)
+    subst (λ (p : Page). AreOrderedPages (set c.args.pages.now c.in-Some.i p)) (sym c.write_mapped_page_word.ensures.written)
     (write_keeps c.args.pages.now c.in-Some.i _ (page_bytes_with_words (get_or c.args.pages.now c.in-Some.i no_page).bytes (c.args.addr % 4096) (c.args.word ∷ [])) at (length-bytes_with _ _ _) c.write_mapped_page_word.result)
 
 kept_small : (c : goal.After-write_mapped_page_word) → ArePageBytesSmall (set c.args.pages.now c.in-Some.i c.write_mapped_page_word.new.page)

@@ -1,14 +1,14 @@
 use Rattle.std.proofs.Common.{map, ap, sym, ◌∙◌, Err, arith}
 use Rattle.tc_isa.specs.Rows.{row_of}
 use Rattle.tc_lex.specs.Operands.{operand_of}
-use Rattle.tc_stmt.specs.StatementRow.{start_tally}
+use Rattle.tc_stmt.specs.StatementRow.{empty_tally}
 use Rattle.tc_stmt.proofs.Outcomes.{outcome-ok, outcome-err, outcome-end}
 use Rattle.tc_stmt.proofs.Places.{wants_here, long_wants}
 use Rattle.tc_stmt.proofs.Skips.{skip_first, skip_next}
 use Rattle.tc_stmt.proofs.statement_row.search_statement_row.Goals as goal
 
 pub rows-init : goal.rows-init
-rows-init c = sym (skip_first c.args.name.now (map operand_of c.args.os.now) (map row_of c.args.rows.now) c.first_row-i.result start_tally (c.first_row-i.ensures (map row_of c.args.rows.now) c.requires.first))
+rows-init c = sym (skip_first c.args.name.now (map operand_of c.args.os.now) (map row_of c.args.rows.now) c.first_row-i.result empty_tally (c.first_row-i.ensures (map row_of c.args.rows.now) c.requires.first))
 
 pub try_statement_row-requires : goal.try_statement_row-requires
 try_statement_row-requires c = wants_here c.args.rows.now c.args.wants.now c.rows.i _ _ c.requires.wants (omega arith) (omega (arith, long_wants c.args.rows.now c.args.wants.now c.requires.wants))

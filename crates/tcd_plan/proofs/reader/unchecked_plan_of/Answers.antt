@@ -2,7 +2,7 @@ use Rattle.std.proofs.Common.{◌≡◌, ◌<◌, ◌^◌, List, None, All, rule
 use Rattle.serde_json.specs.Data.{Data}
 use Rattle.serde_json.specs.View.{view}
 use Rattle.tcd_plan.specs.PlanData.{IsPlan, PlanData}
-use Rattle.tcd_plan.specs.PlanReader.{HasShortPlanArrays, irq_of, plan_refusal, plan_in}
+use Rattle.tcd_plan.specs.PlanReader.{HasShortPlanArrays, irq_of, plan_refusal, unchecked_plan_of}
 use Rattle.tcd_plan.proofs.Accepted.{accepted, few_arrays}
 use Rattle.tcd_plan.proofs.Pieces.{irqs_small}
 use Rattle.tcd_plan.proofs.TellsPlan.{ascending, ccpn-lt, tells_plan}
@@ -12,7 +12,7 @@ use Rattle.tcd_plan.proofs.reader.unchecked_plan_of.Goals as goal
 few_in : (d : Data) → plan_refusal d ≡ None → HasShortPlanArrays d
 few_in d e = few_arrays d (accepted d e).too_many (accepted d e).areas
 
-is_plan_in : (d : Data) (p : PlanData) → p ≡ plan_in d → plan_refusal d ≡ None → IsPlan p
+is_plan_in : (d : Data) (p : PlanData) → p ≡ unchecked_plan_of d → plan_refusal d ≡ None → IsPlan p
 is_plan_in d p same e = subst (λ (q : PlanData). IsPlan q) (sym same) (tells_plan d e)
 
 pub ranges_of-requires : goal.ranges_of-requires
@@ -40,7 +40,7 @@ json_nested_byte-requires c =
     ccpn-lt d (accepted d c.requires).bad_value
 
 pub invariant_of-result : goal.invariant_of-result
-unfolding plan_in
+unfolding unchecked_plan_of
 invariant_of-result c =
     let d = view c.args.value.now in
     is_plan_in d _ (search rules) c.requires

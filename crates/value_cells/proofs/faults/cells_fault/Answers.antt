@@ -2,14 +2,14 @@ use Rattle.std.proofs.Common.{◌+◌, ◌≤◌, ◌^◌, ◌∙◌, List, refl
 use Rattle.std.specs.Prelude.{All}
 use Rattle.tcd_plan.specs.PlanData.{PlanData, IsPlan}
 use Rattle.value_domain.specs.Limits.{Limits}
-use Rattle.value_domain.specs.State.{AreValues}
+use Rattle.value_domain.specs.State.{AreInLattice}
 use Rattle.value_domain.specs.VersionLimits.{limits_for}
 use Rattle.depth_cert.specs.declared.points.Point.{Point}
 use Rattle.depth_cert.specs.Nodes.{NodeData}
-use Rattle.cfg_recover.specs.RulesHoldOrFail.{limits_in, Accepts}
+use Rattle.cfg_recover.specs.RulesHoldOrFail.{limits_of_cert, Accepts}
 use Rattle.value_cells.specs.declared.cells.Cell.{Cell}
 use Rattle.value_cells.specs.Cells.{with_cells}
-use Rattle.value_cells.specs.Keeping.{KeepsCells, IsRule16Fault, IsRule16NodeFault, KeepsCellsAtPoint}
+use Rattle.value_cells.specs.Keeping.{CertKeepsCells, IsFirstRule16Fault, IsFirstRule16NodeFault, PointKeepsCells}
 use Rattle.cfg_recover.proofs.FirstFault.{all_more, accepted_values}
 use Rattle.value_cells.proofs.FaultLaws.{all_keep, first_breaks, cells_fit}
 use Rattle.packed_cert.proofs.WalkedPoints.{never_none, got}
@@ -24,7 +24,7 @@ first_cell_fault_in_node-requires-clause-values c =
     let accepted = subst (λ (p : PlanData). Accepts c.args.image.now p c.args.cert.now) (sym c.with_cells-other.ensures) c.requires.accepted in
     let limits = c.of-bounds.ensures ∙ ap (limits_for other) c.version.ensures.version in
     let member = (got (c.args.cert.now).nodes c.loop-i.i c.in-Some.node c.in-Some.ensures).2 in
-    subst (λ (b : Limits). All (λ (p : Point). AreValues b (p.state).regs) (c.in-Some.node).points) (sym limits) (accepted_values c.args.image.now other c.args.cert.now c.in-Some.node accepted member)
+    subst (λ (b : Limits). All (λ (p : Point). AreInLattice b (p.state).regs) (c.in-Some.node).points) (sym limits) (accepted_values c.args.image.now other c.args.cert.now c.in-Some.node accepted member)
 
 pub first_cell_fault_in_node-requires-clause-cells : goal.first_cell_fault_in_node-requires-clause-cells
 first_cell_fault_in_node-requires-clause-cells c =
@@ -39,11 +39,11 @@ returns-in-Some-first_cell_fault_in_node-clause-some c =
     let node : NodeData = c.in-Some.node in
     let addr = c.in-Some-first_cell_fault_in_node.addr in
     let limits = c.of-bounds.ensures ∙ ap (limits_for other) c.version.ensures.version in
-    let found = subst (λ (b : Limits). IsRule16NodeFault b image other c.list.result.now node addr) limits c.in-Some-first_cell_fault_in_node.ensures.some in
-    let breaks = subst (λ (l : List Cell). IsRule16NodeFault (limits_in other cert) image other l node addr) c.list.ensures found in
+    let found = subst (λ (b : Limits). IsFirstRule16NodeFault b image other c.list.result.now node addr) limits c.in-Some-first_cell_fault_in_node.ensures.some in
+    let breaks = subst (λ (l : List Cell). IsFirstRule16NodeFault (limits_of_cert other cert) image other l node addr) c.list.ensures found in
     let here = got cert.nodes c.loop-i.i node c.in-Some.ensures in
     let first = first_breaks image other cells cert c.version.ensures.limits cert.nodes refl c.loop-i.i node addr here.0 here.1 c.loop-i.invariant breaks in
-    subst (λ (n : NodeData). IsRule16Fault image (with_cells c.args.plan.now cells) cells cert n.key addr) (sym c.node.view_is) (subst (λ (p : PlanData). IsRule16Fault image p cells cert node.key addr) c.with_cells-other.ensures first)
+    subst (λ (n : NodeData). IsFirstRule16Fault image (with_cells c.args.plan.now cells) cells cert n.key addr) (sym c.node.view_is) (subst (λ (p : PlanData). IsFirstRule16Fault image p cells cert node.key addr) c.with_cells-other.ensures first)
 
 pub loop-i-preserved : goal.loop-i-preserved
 loop-i-preserved c =
@@ -52,13 +52,13 @@ loop-i-preserved c =
     let cert = c.args.cert.now in
     let node : NodeData = c.in-Some.node in
     let limits = c.of-bounds.ensures ∙ ap (limits_for other) c.version.ensures.version in
-    let found = subst (λ (b : Limits). All (KeepsCellsAtPoint b image other c.list.result.now) node.points) limits c.in_default-first_cell_fault_in_node.ensures.none in
-    let keeps = subst (λ (l : List Cell). All (KeepsCellsAtPoint (limits_in other cert) image other l) node.points) c.list.ensures found in
+    let found = subst (λ (b : Limits). All (PointKeepsCells b image other c.list.result.now) node.points) limits c.in_default-first_cell_fault_in_node.ensures.none in
+    let keeps = subst (λ (l : List Cell). All (PointKeepsCells (limits_of_cert other cert) image other l) node.points) c.list.ensures found in
     let here = got cert.nodes c.loop-i.i node c.in-Some.ensures in
-    all_more (λ (n : NodeData). All (KeepsCellsAtPoint (limits_in other cert) image other c.args.cells.now) n.points) cert.nodes c.loop-i.i node here.0 here.1 c.loop-i.invariant keeps
+    all_more (λ (n : NodeData). All (PointKeepsCells (limits_of_cert other cert) image other c.args.cells.now) n.points) cert.nodes c.loop-i.i node here.0 here.1 c.loop-i.invariant keeps
 
 pub returns-clause-none : goal.returns-clause-none
 returns-clause-none c =
     let other : PlanData = c.with_cells-other.result in
-    subst (λ (p : PlanData). KeepsCells c.args.image.now p c.args.cells.now c.args.cert.now) c.with_cells-other.ensures
+    subst (λ (p : PlanData). CertKeepsCells c.args.image.now p c.args.cells.now c.args.cert.now) c.with_cells-other.ensures
     (all_keep c.args.image.now other c.args.cells.now c.args.cert.now c.version.ensures.limits (c.args.cert.now).nodes refl c.loop-i.i (omega (arith, c.loop-i-test.false, c.len-i-end.ensures)) c.loop-i.invariant)

@@ -3,7 +3,7 @@ use Rattle.std.proofs.lemmas.List.{take_all}
 use Rattle.std.proofs.Math.ListN.{length-set}
 use Rattle.value_domain.specs.declared.values.Val.{Val}
 use Rattle.value_domain.specs.State.{joined_regs}
-use Rattle.value_domain.specs.Values.{join_of, IsValue, cover, members, any_val}
+use Rattle.value_domain.specs.Values.{join_of, IsInLattice, cover, members, any_val}
 use Rattle.value_domain.proofs.RegLaws.{read_at, regs_more, regs_left, regs_same, length-joined}
 use Rattle.value_domain.proofs.states.join_regs.Goals as goal
 use Rattle.value_domain.proofs.states.join_regs.Goals.{then-not-are_values_equal, else-not-are_values_equal}
@@ -31,7 +31,7 @@ loop-i-preserved c =
           let v = c.index-s-i.result in
           let u = c.index-t-i.result in
           let eq : v ≡ u = cc (c.are_values_equal.ensures.0 w.if-not-are_values_equal.false) in
-          let value = subst (λ (x : Val). IsValue c.args.b.now x) (read_at c.args.s.now c.loop-i.i v any_val (omega arith) c.index-s-i.is) (c.requires.left c.loop-i.i (omega arith)) in
+          let value = subst (λ (x : Val). IsInLattice c.args.b.now x) (read_at c.args.s.now c.loop-i.i v any_val (omega arith) c.index-s-i.is) (c.requires.left c.loop-i.i (omega arith)) in
           rw w.out-is
           (record {
             done = regs_same c.args.b.now c.args.s.now c.args.t.now c.loop-i.out c.loop-i.i v u (omega arith) (omega arith) (omega (arith, c.loop-i.invariant.len))

@@ -1,6 +1,6 @@
 use Rattle.std.proofs.Common.{◌≡◌, ℕ, Bool, true, List}
 use Rattle.std.specs.List.{filter, list_any}
-use Rattle.tc_isa.specs.Arithmetic.{signed_order_place}
+use Rattle.tc_isa.specs.Arithmetic.{signed_rank}
 use Rattle.value_domain.specs.Sets.{Among, Within}
 use Rattle.value_domain.proofs.MeetLaws.{among_filter, filter_has, any_among, among_any}
 use Rattle.vd_transfer.specs.Relations.{is_related, related_words}
@@ -23,6 +23,6 @@ unfolding related_words signed_related_words
 returns c = λ rel. record {
   sound = kept_sound (is_related rel);
   monotone = kept_monotone (is_related rel);
-  signed_sound = kept_sound (λ x y. is_related rel (signed_order_place x) (signed_order_place y));
-  signed_monotone = kept_monotone (λ x y. is_related rel (signed_order_place x) (signed_order_place y));
+  signed_sound = kept_sound (λ x y. is_related rel (signed_rank x) (signed_rank y));
+  signed_monotone = kept_monotone (λ x y. is_related rel (signed_rank x) (signed_rank y));
 }

@@ -1,12 +1,12 @@
 use Rattle.std.proofs.Common.{◌≡◌, ◌≤◌, ◌<◌, ◌+◌, ◌*◌, ◌++◌, ◌-◌, ℕ, take, length, get_or}
-use Rattle.value_domain.specs.Values.{cover, members, IsValue}
+use Rattle.value_domain.specs.Values.{cover, members, IsInLattice}
 use Rattle.vd_transfer.specs.Operations.{HasMembers}
 use Rattle.vd_transfer.proofs.operations.join_result_row.Given as goal
 
 abbrev pub invariant-loop-e : goal.invariant-loop-e
 invariant-loop-e l = record {
   cover : l.v ≡ cover l.b (members l.initial.v ++ take (8 * l.e) l.words);
-  value : IsValue l.b l.v;
+  value : IsInLattice l.b l.v;
   met : HasMembers l.v l.met;
   eights : HasMembers l.v l.eights;
 }
@@ -18,7 +18,7 @@ abbrev pub invariant-loop-i : goal.invariant-loop-i
 invariant-loop-i l = record {
   within : l.i ≤ length l.words;
   cover : l.v ≡ cover l.b (members l.fn.v ++ take l.i l.words);
-  value : IsValue l.b l.v;
+  value : IsInLattice l.b l.v;
   met : HasMembers l.v l.met;
   eights : HasMembers l.v l.eights;
 }

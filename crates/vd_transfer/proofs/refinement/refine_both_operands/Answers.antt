@@ -1,6 +1,6 @@
 use Rattle.std.proofs.Common.{ap, ◌∙◌, Some, subst, sym}
 use Rattle.value_domain.specs.declared.states.State.{State}
-use Rattle.value_domain.specs.State.{AreValues}
+use Rattle.value_domain.specs.State.{AreInLattice}
 use Rattle.vd_transfer.specs.Changes.{state_after}
 use Rattle.vd_transfer.proofs.ChangeLaws.{second-is, second_values, second-free}
 use Rattle.vd_transfer.proofs.SideLaws.{two_none, two_half, two_both}
@@ -16,7 +16,7 @@ returns-then-not-refine_right_operand-clause-two c =
 
 pub returns-then-not-refine_right_operand-clause-values : goal.returns-then-not-refine_right_operand-clause-values
 returns-then-not-refine_right_operand-clause-values c =
-    subst (λ (t : State). AreValues c.args.b.now t.regs) (sym (second-free c.args.s.now c.narrow_left_register.new.c c.refine_right_operand.new.out c.narrow_left_register.ensures.free.0)) c.narrow_left_register.ensures.values
+    subst (λ (t : State). AreInLattice c.args.b.now t.regs) (sym (second-free c.args.s.now c.narrow_left_register.new.c c.refine_right_operand.new.out c.narrow_left_register.ensures.free.0)) c.narrow_left_register.ensures.values
 
 pub returns-clause-two : goal.returns-clause-two
 returns-clause-two c =

@@ -1,7 +1,7 @@
 use Rattle.std.proofs.Common.{◌≡◌, ◌∙◌, ◌&&◌, Bool, length, leb, sym, ap, arith}
 use Rattle.value_domain.specs.declared.values.Val.{Val}
 use Rattle.value_domain.specs.declared.values.Val.TheVariants.{Set}
-use Rattle.vd_transfer.specs.Operations.{value_of}
+use Rattle.vd_transfer.specs.Operations.{operation_value}
 use Rattle.cfg_recover.proofs.OperationLaws.{no_load, has_room, any_loaded, hit_state, hit_values, miss_value, same_word, is_nothing}
 use Rattle.cfg_recover.proofs.operation_cache.CachedOperation.write_change.Goals as goal
 use Rattle.cfg_recover.proofs.operation_cache.CachedOperation.write_change.Goals.{then-s, else-s}
@@ -54,7 +54,7 @@ returns-then-is_none-clause-results c =
       gives =
           c.copy_to-then-is_none.ensures
           ∙ m.0
-          ∙ ap (λ (v : Val). value_of b o.op v (Set o.y.now)) (sym c.set_words.ensures)
-          ∙ ap (λ (v : Val). value_of b o.op c.set_words.new.out v) (sym c.set_words-then-is_none.ensures);
+          ∙ ap (λ (v : Val). operation_value b o.op v (Set o.y.now)) (sym c.set_words.ensures)
+          ∙ ap (λ (v : Val). operation_value b o.op c.set_words.new.out v) (sym c.set_words-then-is_none.ensures);
       value = rw c.copy_to-then-is_none.ensures m.1;
     }

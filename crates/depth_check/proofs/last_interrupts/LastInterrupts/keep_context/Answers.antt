@@ -1,6 +1,6 @@
 use Rattle.std.proofs.Common.{subst}
 use Rattle.value_domain.specs.Limits.{Limits}
-use Rattle.value_domain.specs.Values.{IsValue}
+use Rattle.value_domain.specs.Values.{IsInLattice}
 use Rattle.depth_check.specs.PointChecks.{point_check_data}
 use Rattle.depth_check.proofs.InterruptLaws.{below_context}
 use Rattle.depth_check.proofs.last_interrupts.LastInterrupts.keep_context.Goals as goal
@@ -9,7 +9,7 @@ pub returns : goal.returns
 returns c =
     let t = point_check_data c.at.inside in
     let kept = rw (← c.at.view_is) at c.requires.interrupts in
-    let value = subst (λ (l : Limits). IsValue l c.stack_to_keep-sp.result) c.at.invariant.limits (rw (← c.at.view_is) at c.stack_to_keep-sp.ensures.value) in
+    let value = subst (λ (l : Limits). IsInLattice l c.stack_to_keep-sp.result) c.at.invariant.limits (rw (← c.at.view_is) at c.stack_to_keep-sp.ensures.value) in
     rw (← c.at.view_is)
     (record {
       last = record {

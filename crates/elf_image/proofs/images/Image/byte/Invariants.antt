@@ -1,7 +1,7 @@
 use Rattle.std.proofs.Common.{◌≡◌, map, drop}
-use Rattle.elf_image.specs.Images.{segments_byte, segment_data}
+use Rattle.elf_image.specs.Images.{byte_in_segments, segment_data}
 use Rattle.elf_image.proofs.images.Image.byte.Given as goal
 
 -- a byte that the segments hold is held by the rest
 abbrev pub invariant-loop-segment : goal.invariant-loop-segment
-invariant-loop-segment l = segments_byte l.self.segments l.addr ≡ segments_byte (map segment_data (drop l.segment-index l.segment-items)) l.addr
+invariant-loop-segment l = byte_in_segments l.self.segments l.addr ≡ byte_in_segments (map segment_data (drop l.segment-index l.segment-items)) l.addr

@@ -1,7 +1,7 @@
 use Rattle.std.proofs.Common.{◌+◌, ◌≤◌, length, map, sym, ap, ◌∙◌, arith}
 use Rattle.std.proofs.lemmas.Result.{err_from_is_err_and}
 use Rattle.std.proofs.lemmas.List.Elements.{All-weaker}
-use Rattle.elf_image.specs.ReadElf.{overlap_refusal, load_headers, segment_of}
+use Rattle.elf_image.specs.ReadElf.{overlap_refusal, load_headers, loaded_segment}
 use Rattle.elf_image.proofs.Good.{Good, loads_good}
 use Rattle.elf_image.proofs.Loaded.{loaded_is_image}
 use Rattle.elf_image.proofs.Refusals.{refused_start, refused_segment, refused_loads, refused_overlap, image_of-loaded}
@@ -38,10 +38,10 @@ pub invariant_of-result : goal.invariant_of-result
 invariant_of-result c =
     let bytes = c.args.bytes.now in
     let loads = c.in_ok-loads.ensures.ok in
-    loaded_is_image bytes c.elf_word_at.result _ (omega arith) (λ k. (c.type_inv.bytes k).fits) (sym c.in_ok-check_program_headers.ensures) loads.1 (sym (c.in_ok-check_no_overlap.ensures ∙ ap overlap_refusal (c.deref.ensures.value ∙ loads.0))) (c.in_ok-segments.ensures.ok ∙ ap (map (segment_of bytes)) (c.deref-2.ensures.value ∙ loads.0))
+    loaded_is_image bytes c.elf_word_at.result _ (omega arith) (λ k. (c.type_inv.bytes k).fits) (sym c.in_ok-check_program_headers.ensures) loads.1 (sym (c.in_ok-check_no_overlap.ensures ∙ ap overlap_refusal (c.deref.ensures.value ∙ loads.0))) (c.in_ok-segments.ensures.ok ∙ ap (map (loaded_segment bytes)) (c.deref-2.ensures.value ∙ loads.0))
 
 pub returns : goal.returns
 returns c =
     let bytes = c.args.bytes.now in
     let loads = c.in_ok-loads.ensures.ok in
-    image_of-loaded bytes c.elf_word_at.result _ c.in_ok-check_elf_header.ensures.refusal c.in_ok-check_program_headers.ensures loads.1 (c.in_ok-check_no_overlap.ensures ∙ ap overlap_refusal (c.deref.ensures.value ∙ loads.0)) c.elf_word_at.ensures (c.in_ok-segments.ensures.ok ∙ ap (map (segment_of bytes)) (c.deref-2.ensures.value ∙ loads.0))
+    image_of-loaded bytes c.elf_word_at.result _ c.in_ok-check_elf_header.ensures.refusal c.in_ok-check_program_headers.ensures loads.1 (c.in_ok-check_no_overlap.ensures ∙ ap overlap_refusal (c.deref.ensures.value ∙ loads.0)) c.elf_word_at.ensures (c.in_ok-segments.ensures.ok ∙ ap (map (loaded_segment bytes)) (c.deref-2.ensures.value ∙ loads.0))

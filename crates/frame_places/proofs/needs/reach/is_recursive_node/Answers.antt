@@ -1,5 +1,5 @@
 use Rattle.std.proofs.Common.{◌∙◌, List, Bool, subst, sym, ap, length}
-use Rattle.frame_places.specs.NodeGraph.{AreEdgesBetween, AreReachingMarks}
+use Rattle.frame_places.specs.NodeGraph.{AreEdgesBelow, AreReachingMarks}
 use Rattle.frame_places.proofs.ReachLemmas.{recurring_marks, sources_below}
 use Rattle.frame_places.proofs.needs.reach.is_recursive_node.Goals as goal
 
@@ -9,7 +9,7 @@ reaching_marks_by_predecessors-requires-clause-sources c = sources_below c.args.
 pub has_marked_successor-requires : goal.has_marked_successor-requires
 has_marked_successor-requires c =
     let are = c.in_ok-marks.ensures c.args.edges.now c.requires.sources in
-    subst (AreEdgesBetween c.args.edges.now) (sym (ap (λ (l : List Bool). length l) c.as_slice.ensures.value ∙ are.each)) c.requires.edges
+    subst (AreEdgesBelow c.args.edges.now) (sym (ap (λ (l : List Bool). length l) c.as_slice.ensures.value ∙ are.each)) c.requires.edges
 
 pub returns : goal.returns
 returns c =

@@ -3,7 +3,7 @@ use Rattle.std.specs.List.Sorted.{IsStrictlyIncreasing}
 use Rattle.depth_cert.specs.Nodes.{NodeData}
 use Rattle.depth_cert.specs.Certs.{CertData}
 use Rattle.packed_cert.specs.declared.places.NodePlaces.{NodePlaces}
-use Rattle.packed_cert.specs.NodesInBytes.{nodes_of}
+use Rattle.packed_cert.specs.NodesInBytes.{nodes_in_bytes}
 use Rattle.packed_cert.specs.EnteredAlike.{HaveSameEntryAndExit}
 use Rattle.packed_cert.proofs.NodeReads.{keys_in}
 use Rattle.packed_cert.proofs.CertFinds.{entered_alike, same_place}
@@ -27,6 +27,6 @@ returns-then-one-two c same =
     let bytes = c.as_slice-bytes.result.now in
     let ns = c.as_slice-nodes.result.now in
     subst (λ (l : List NodeData). HaveSameEntryAndExit l c.args.a.now c.args.b.now)
-    (ap (λ (l : List ℕ). nodes_of version l ns) c.as_slice-bytes.ensures.value ∙ ap (nodes_of version c.self.inside.bytes.items) c.as_slice-nodes.ensures.value ∙ ap (λ (d : CertData). d.nodes) c.self.view_is)
+    (ap (λ (l : List ℕ). nodes_in_bytes version l ns) c.as_slice-bytes.ensures.value ∙ ap (nodes_in_bytes version c.self.inside.bytes.items) c.as_slice-nodes.ensures.value ∙ ap (λ (d : CertData). d.nodes) c.self.view_is)
     (entered_alike version bytes ns c.args.a.now c.args.b.now c.in-Some.one.0 c.in-Some-entry_and_exit_places.two.0 c.in-Some.one.1 c.in-Some-entry_and_exit_places.two.1 c.in-Some.ensures c.in-Some-entry_and_exit_places.ensures c.if-one-two.true
     (same_place c.in-Some.one.1 c.in-Some-entry_and_exit_places.two.1 c.eq.result c.eq.ensures same))

@@ -5,7 +5,7 @@ use Rattle.std.proofs.lemmas.List.{get_or_default}
 use Rattle.depth_cert.specs.Nodes.{NodeData, find_node}
 use Rattle.depth_cert.specs.Certs.{CertData}
 use Rattle.packed_cert.specs.declared.places.NodePlaces.{NodePlaces}
-use Rattle.packed_cert.specs.NodesInBytes.{node_of, nodes_of, AreNodePlaces}
+use Rattle.packed_cert.specs.NodesInBytes.{node_in_bytes, nodes_in_bytes, AreNodePlaces}
 use Rattle.packed_cert.proofs.NodeReads.{keys_in}
 use Rattle.packed_cert.proofs.CertFinds.{Parts, node_found, node_missing, node_past}
 use Rattle.packed_cert.proofs.certs.Cert.node.Goals as goal
@@ -26,10 +26,10 @@ returns-then-nodes-new c =
     let all = subst (All (AreNodePlaces version bytes)) (sym c.as_slice-nodes.ensures.value) c.self.invariant.nodes in
     let parts = subst (λ (k : ℕ). Parts k ns c.count_nodes_below-at.result) c.key_number-number.ensures c.count_nodes_below-at.ensures in
     let e = ap (λ (d : NodePlaces). d.number) (get_or_default ns c.count_nodes_below-at.result m _ c.if-at-nodes.true) ∙ c.if-nodes-at.true ∙ c.key_number-number.ensures in
-    let made : c.new.result ≡ node_of version bytes m = c.new.ensures ∙ ap (λ (l : List ℕ). node_of version l m) c.as_slice.ensures.value in
-    ap (λ (d : NodeData). Some d) (made ∙ ap (node_of version bytes) c.index-nodes-new-then-nodes-new.is)
+    let made : c.new.result ≡ node_in_bytes version bytes m = c.new.ensures ∙ ap (λ (l : List ℕ). node_in_bytes version l m) c.as_slice.ensures.value in
+    ap (λ (d : NodeData). Some d) (made ∙ ap (node_in_bytes version bytes) c.index-nodes-new-then-nodes-new.is)
     ∙ sym (node_found version bytes c.args.key.now c.count_nodes_below-at.result m ns all c.if-at-nodes.true parts e)
-    ∙ ap (λ (l : List NodePlaces). find_node c.args.key.now (nodes_of version bytes l)) c.as_slice-nodes.ensures.value
+    ∙ ap (λ (l : List NodePlaces). find_node c.args.key.now (nodes_in_bytes version bytes l)) c.as_slice-nodes.ensures.value
     ∙ ap (λ (d : CertData). find_node c.args.key.now d.nodes) c.self.view_is
 
 pub returns : goal.returns
@@ -46,7 +46,7 @@ returns c =
     c.self.invariant.limits.rising
     in
     sym (ap (λ (d : CertData). find_node key d.nodes) (sym c.self.view_is)
-    ∙ ap (λ (l : List NodePlaces). find_node key (nodes_of version bytes l)) (sym c.as_slice-nodes.ensures.value)
+    ∙ ap (λ (l : List NodePlaces). find_node key (nodes_in_bytes version bytes l)) (sym c.as_slice-nodes.ensures.value)
     ∙ elim c.else-new-nodes.branch [
       | else-new-nodes-via-then-new-nodes+else-nodes-new w ↦
           node_missing version bytes key c.count_nodes_below-at.result _ ns all rising parts (rw c.key_number-number.ensures at w.if-nodes-at.false)

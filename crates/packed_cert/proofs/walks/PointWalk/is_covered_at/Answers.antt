@@ -2,8 +2,8 @@ use Rattle.std.proofs.Common.{◌≡◌, ◌+◌, ◌-◌, ◌∙◌, true, fals
 use Rattle.std.specs.Prelude.{IsTrue, ◌↔◌}
 use Rattle.value_domain.specs.declared.states.State.{State}
 use Rattle.value_domain.specs.State.{Covers}
-use Rattle.packed_cert.specs.PointsInBytes.{state_in, points_in}
-use Rattle.packed_cert.specs.Walks.{WalkData, CoversAt}
+use Rattle.packed_cert.specs.PointsInBytes.{state_in_bytes, points_in_bytes}
+use Rattle.packed_cert.specs.Walks.{WalkData, IsCoveredAt}
 use Rattle.packed_cert.proofs.NodeFinds.{point_missing, point_past, covers_same, covered_found, covered_missing}
 use Rattle.packed_cert.proofs.walks.PointWalk.is_covered_at.Goals as goal
 use Rattle.packed_cert.proofs.walks.PointWalk.is_covered_at.Goals.{else-new-points-via-then-new-points+else-points-new, else-new-points-via-else-new-points}
@@ -12,23 +12,23 @@ pub returns-then-points-self : goal.returns-then-points-self
 returns-then-points-self c =
     let own = c.self.inside in
     let last : own.next - 1 + 1 ≡ own.next = omega arith in
-    let same = ap (state_in own.version own.bytes.now) (sym c.if-points-self.true) ∙ sym (c.self.invariant.here.last (own.next - 1) _ last) in
-    subst (λ (w : WalkData). IsTrue true ↔ CoversAt w c.args.addr) c.self.view_is
+    let same = ap (state_in_bytes own.version own.bytes.now) (sym c.if-points-self.true) ∙ sym (c.self.invariant.here.last (own.next - 1) _ last) in
+    subst (λ (w : WalkData). IsTrue true ↔ IsCoveredAt w c.args.addr) c.self.view_is
     (covered_found own.version own.bytes.now c.args.addr c.count_points_below-at.result _ own.points.now own.state true c.if-at-points.true c.count_points_below-at.ensures c.if-points-at.true
     (λ t. subst (λ (u : State). Covers u own.state) (sym same) (covers_same own.state), λ covers. refl))
 
 pub returns-then-points-new : goal.returns-then-points-new
 returns-then-points-new c =
     let own = c.self.inside in
-    subst (λ (w : WalkData). IsTrue c.covers.result ↔ CoversAt w c.args.addr) c.self.view_is
+    subst (λ (w : WalkData). IsTrue c.covers.result ↔ IsCoveredAt w c.args.addr) c.self.view_is
     (covered_found own.version own.bytes.now c.args.addr c.count_points_below-at.result _ own.points.now own.state c.covers.result c.if-at-points.true c.count_points_below-at.ensures c.if-points-at.true
     (subst (λ (u : State). IsTrue c.covers.result ↔ Covers u own.state) c.new.ensures c.covers.ensures))
 
 pub returns : goal.returns
 returns c =
     let own = c.self.inside in
-    subst (λ (w : WalkData). IsTrue false ↔ CoversAt w c.args.addr) c.self.view_is
-    (covered_missing c.args.addr (points_in own.version own.bytes.now own.points.now) own.state
+    subst (λ (w : WalkData). IsTrue false ↔ IsCoveredAt w c.args.addr) c.self.view_is
+    (covered_missing c.args.addr (points_in_bytes own.version own.bytes.now own.points.now) own.state
     (elim c.else-new-points.branch [
       | else-new-points-via-then-new-points+else-points-new w ↦
           point_missing own.version own.bytes.now c.args.addr c.count_points_below-at.result _ own.points.now c.self.invariant.rising c.count_points_below-at.ensures w.if-points-at.false

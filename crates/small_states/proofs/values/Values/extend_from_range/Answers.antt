@@ -2,7 +2,7 @@ use Rattle.std.proofs.Common.{◌≡◌, ◌∙◌, ◌+◌, ◌-◌, ◌++◌, 
 use Rattle.std.proofs.lemmas.List.{append_assoc, length-append, take_all}
 use Rattle.value_domain.specs.declared.values.Val.{Val}
 use Rattle.value_domain.specs.Values.{any_val}
-use Rattle.small_states.specs.CompactForms.{all_values, compact_front, values_from}
+use Rattle.small_states.specs.CompactForms.{all_values, values_to_last_known, values_from}
 use Rattle.small_states.specs.declared.values.SpacedValue.{SpacedValue}
 use Rattle.small_states.proofs.SparseLemmas.{length-front, length-values_from, none_yet, part_behind, part_gap, part_more, part_rest}
 use Rattle.small_states.proofs.values.Values.extend_from_range.Goals as goal
@@ -80,7 +80,7 @@ loop-n-preserved c =
     let done = c.loop-n.done in
     let old = all_values c.args.self.now in
     let inv = c.loop-n.invariant in
-    let next : at + here.anys + 1 ≡ length (compact_front (take (c.loop-n.n + 1) known)) = omega (arith, inv.0, length-front known rest c.loop-n.n here lt is) in
+    let next : at + here.anys + 1 ≡ length (values_to_last_known (take (c.loop-n.n + 1) known)) = omega (arith, inv.0, length-front known rest c.loop-n.n here lt is) in
     elim c.if-place-from.branch [
       | then-place-from+in_ok-value+in_ok-push_after_unknowns w ↦
           let gap : ℕ = at + here.anys - done in
@@ -126,7 +126,7 @@ returns c =
     let anys = replicate (to - done) any_val in
     let e : to - from ≡ c.args.count = omega arith in
     let inv = c.loop-n.invariant in
-    let whole = ap (λ (l : List SpacedValue). length (compact_front l)) (take_all c.loop-n.n known (rw v at c.loop-n-test.false)) in
+    let whole = ap (λ (l : List SpacedValue). length (values_to_last_known l)) (take_all c.loop-n.n known (rw v at c.loop-n-test.false)) in
     c.push_unknowns-2.ensures
     ∙ ap (λ (l : List Val). l ++ anys) inv.3
     ∙ append_assoc old (values_from vs from (done - from)) anys

@@ -1,7 +1,7 @@
 use Rattle.std.proofs.Common.{◌∙◌, ◌<◌, List, length, sym, ap, arith}
 use Rattle.std.proofs.lemmas.List.{take_all}
 use Rattle.small_states.specs.declared.values.SpacedValue.{SpacedValue}
-use Rattle.small_states.specs.CompactForms.{compact_front}
+use Rattle.small_states.specs.CompactForms.{values_to_last_known}
 use Rattle.small_states.proofs.SparseLemmas.{any_behind, found_any, found_value}
 use Rattle.small_states.proofs.values.Values.value_or_any.Goals as goal
 use Rattle.small_states.proofs.values.Values.value_or_any.Goals.{then-n-len+else-here-anys, else-n-len}
@@ -27,5 +27,5 @@ returns c =
           (omega (arith, w.if-here-anys.false, c.locate_index-n.ensures.before lt here, ap (λ (s : SpacedValue). s.anys) w.index-here.ensures))
       | else-n-len w ↦
           any_behind known rest c.args.i
-          (omega (arith, c.locate_index-n.ensures.at, ap (λ (l : List SpacedValue). length (compact_front l)) (take_all at.0 known (omega (arith, w.if-n-len.false)))))
+          (omega (arith, c.locate_index-n.ensures.at, ap (λ (l : List SpacedValue). length (values_to_last_known l)) (take_all at.0 known (omega (arith, w.if-n-len.false)))))
     ])

@@ -4,7 +4,7 @@ use Rattle.std.proofs.Math.ListN.{length-set}
 use Rattle.value_domain.specs.declared.values.Val.{Val}
 use Rattle.value_domain.specs.Values.{any_val}
 use Rattle.small_states.specs.declared.values.SpacedValue.{SpacedValue}
-use Rattle.small_states.specs.CompactForms.{compact_front}
+use Rattle.small_states.specs.CompactForms.{values_to_last_known}
 use Rattle.small_states.proofs.SparseLemmas.{all_few, is_within, length-front, written_more}
 use Rattle.small_states.proofs.values.Values.write_to.Goals as goal
 use Rattle.small_states.proofs.values.Values.write_to.Goals.{then-not-stands_for, else-not-stands_for}
@@ -80,7 +80,7 @@ loop-n-preserved c =
     ap (λ (l : List Val). l ++ here.value ∷ [])
     (c.write_unknowns.ensures.written
     ∙ ap (λ (l : List Val). l ++ replicate (at + here.anys - at) any_val) c.loop-n.invariant.0
-    ∙ ap (λ (m : ℕ). compact_front (take n known) ++ replicate m any_val) run)
+    ∙ ap (λ (m : ℕ). values_to_last_known (take n known) ++ replicate m any_val) run)
     ∙ written_more known rest n here lt is
     in
     let up_to = length-front known rest n here lt is in
@@ -107,9 +107,9 @@ returns c =
     let known = c.args.self.now.known.items in
     let rest = c.args.self.now.rest in
     let done = take_all c.loop-n.n known (rw v at c.loop-n-test.false) in
-    let whole = ap (λ (l : List SpacedValue). length (compact_front l)) done in
+    let whole = ap (λ (l : List SpacedValue). length (values_to_last_known l)) done in
     let left : 27 - c.loop-n.at ≡ rest = omega (arith, c.requires, c.loop-n.invariant.1, whole, all_few known rest) in
     sym (take_all 27 c.write_unknowns-2.new.out (omega (arith, c.write_unknowns-2.ensures.long)))
     ∙ c.write_unknowns-2.ensures.written
-    ∙ ap (λ (l : List Val). l ++ replicate (27 - c.loop-n.at) any_val) (c.loop-n.invariant.0 ∙ ap (λ (l : List SpacedValue). compact_front l) done)
-    ∙ ap (λ (m : ℕ). compact_front known ++ replicate m any_val) left
+    ∙ ap (λ (l : List Val). l ++ replicate (27 - c.loop-n.at) any_val) (c.loop-n.invariant.0 ∙ ap (λ (l : List SpacedValue). values_to_last_known l) done)
+    ∙ ap (λ (m : ℕ). values_to_last_known known ++ replicate m any_val) left

@@ -4,7 +4,7 @@ use Rattle.cfg_recover.specs.RulesHoldOrFail.{Accepts}
 use Rattle.depth_maker.specs.Answers.{IsRightMakeErr}
 use Rattle.value_cells.specs.declared.cells.Cell.{Cell}
 use Rattle.value_cells.specs.Cells.{with_cells}
-use Rattle.tcd_reading.specs.Reports.{says, report_with_file}
+use Rattle.tcd_reading.specs.Reports.{text_report, report_with_file}
 use Rattle.tcd_reading.specs.declared.status.Status.TheVariants.{Refused}
 use Rattle.tcd_driver.specs.BestCert.{IsLeastWithNeed}
 use Rattle.tcd_driver.specs.Cellcert.{IsCellcertReport, refused}
@@ -19,7 +19,7 @@ pub returns-in_ok-line-in-Some : goal.returns-in_ok-line-in-Some
 returns-in_ok-line-in-Some c =
     broken_report c.args.name.now c.args.image.now (plan_data c.plan.inside) c.args.plan.now c.args.cells.now _ c.in-Ok.need c.plan.view_is c.plan.invariant c.requires
     (subst (λ (q : PlanData). IsLeastWithNeed c.args.image.now q 2 c.in-Ok.cert c.in-Ok.need) c.with_cells.ensures c.in-Ok.ensures) c.in-Some.key c.in-Some.addr _ c.in-Some.ensures.some
-    (c.of.ensures ∙ ap (λ t. says Refused t) c.in_ok-line-in-Some.ensures)
+    (c.of.ensures ∙ ap (λ t. text_report Refused t) c.in_ok-line-in-Some.ensures)
 
 pub returns-in_ok-report_with_file-in-None : goal.returns-in_ok-report_with_file-in-None
 returns-in_ok-report_with_file-in-None c =

@@ -1,7 +1,7 @@
 use Rattle.std.proofs.Common.{Err, ap, ◌∙◌}
 use Rattle.tcd_plan.specs.PlanData.{plan_data}
 use Rattle.tcd_reading.specs.Reports.{report_with_file}
-use Rattle.tcd_driver.specs.BestCert.{MakesBestCert}
+use Rattle.tcd_driver.specs.BestCert.{IsBestCertOrErr}
 use Rattle.tcd_driver.specs.Cert.{IsCertReport, refused}
 use Rattle.tcd_driver.proofs.MakingLaws.{certifying_report, unmade}
 use Rattle.tcd_driver.proofs.commands.cert.certify_image.Goals as goal
@@ -13,5 +13,5 @@ returns-in_ok-report_with_file-in-Ok c =
 
 pub returns-in-Err : goal.returns-in-Err
 returns-in-Err c =
-    unmade (IsCertReport c.args.name.now c.args.image.now c.args.plan.now) (λ e. MakesBestCert c.args.image.now c.args.plan.now (Err e)) c.in-Err.e _ c.in-Err.ensures c.report_no_cert.ensures
+    unmade (IsCertReport c.args.name.now c.args.image.now c.args.plan.now) (λ e. IsBestCertOrErr c.args.image.now c.args.plan.now (Err e)) c.in-Err.e _ c.in-Err.ensures c.report_no_cert.ensures
     (λ rule key addr r why e. refused rule key addr why e)

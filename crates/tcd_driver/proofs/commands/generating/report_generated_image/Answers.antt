@@ -1,7 +1,7 @@
 use Rattle.std.proofs.Common.{ap, ◌∙◌}
 use Rattle.tcd_plan.specs.PlanData.{plan_data}
 use Rattle.depth_maker.specs.Answers.{IsRightMakeErr}
-use Rattle.tcd_reading.specs.Reports.{says}
+use Rattle.tcd_reading.specs.Reports.{text_report}
 use Rattle.tcd_driver.specs.Gen.{IsGenReport, refused}
 use Rattle.tcd_reading.specs.declared.status.Status.TheVariants.{Done}
 use Rattle.tcd_driver.proofs.GenReports.{counted_report}
@@ -11,7 +11,7 @@ use Rattle.tcd_driver.proofs.commands.generating.report_generated_image.Goals as
 pub returns-in_ok-line-in-Ok : goal.returns-in_ok-line-in-Ok
 returns-in_ok-line-in-Ok c =
     counted_report c.args.functions c.args.image.now (plan_data c.plan.inside) c.args.plan.now _ c.in-Ok.need _ c.plan.view_is c.in-Ok.ensures
-    (c.of.ensures ∙ ap (λ t. says Done t) c.in_ok-line-in-Ok.ensures)
+    (c.of.ensures ∙ ap (λ t. text_report Done t) c.in_ok-line-in-Ok.ensures)
 
 pub returns-in-Err : goal.returns-in-Err
 returns-in-Err c =

@@ -1,6 +1,6 @@
 use Rattle.std.proofs.Common.{subst, ap, ◌∙◌}
 use Rattle.tc_machine.specs.Safe.{Safe}
-use Rattle.tcd_reading.specs.Reports.{says}
+use Rattle.tcd_reading.specs.Reports.{text_report}
 use Rattle.tcd_driver.specs.Reporting.{refused, reported}
 use Rattle.tcd_reading.specs.declared.status.Status.TheVariants.{Refused}
 use Rattle.tcd_driver.proofs.commands.report.check_and_report.Goals as goal
@@ -14,4 +14,4 @@ returns-in_ok-text-in-Yes c =
 
 pub returns-in_ok-line-in-No : goal.returns-in_ok-line-in-No
 returns-in_ok-line-in-No c =
-    refused c.in-No.rule c.in-No.key c.in-No.addr c.in-No.ensures.judges (c.of-in-No.ensures ∙ ap (λ t. says Refused t) c.in_ok-line-in-No.ensures)
+    refused c.in-No.rule c.in-No.key c.in-No.addr c.in-No.ensures.judges (c.of-in-No.ensures ∙ ap (λ t. text_report Refused t) c.in_ok-line-in-No.ensures)

@@ -1,8 +1,8 @@
 use Rattle.std.proofs.Common.{Err, ap, ◌∙◌}
 use Rattle.tcd_plan.specs.PlanData.{plan_data}
 use Rattle.tcd_reading.specs.Reports.{report_with_two_files}
-use Rattle.tcd_driver.specs.BestCert.{MakesBestCert}
-use Rattle.tcd_driver.specs.Ship.{IsImageShipReport, refused}
+use Rattle.tcd_driver.specs.BestCert.{IsBestCertOrErr}
+use Rattle.tcd_driver.specs.Ship.{IsShipReportOnImage, refused}
 use Rattle.tcd_driver.proofs.MakingLaws.{unmade}
 use Rattle.tcd_driver.proofs.ShipReports.{shipping_report}
 use Rattle.tcd_driver.proofs.commands.ship.ship_image.Goals as goal
@@ -15,5 +15,5 @@ returns-in_ok-report_with_two_files-in-Ok-make_best_cert c =
 
 pub returns-in-Err-make_best_cert : goal.returns-in-Err-make_best_cert
 returns-in-Err-make_best_cert c =
-    unmade (IsImageShipReport c.args.names.now.elf.now c.args.names.now.cert.now c.args.plan.now c.args.image.now) (λ e. MakesBestCert c.args.image.now c.args.plan.now (Err e)) c.in-Err-make_best_cert.e _ c.in-Err-make_best_cert.ensures c.report_no_cert.ensures
+    unmade (IsShipReportOnImage c.args.names.now.elf.now c.args.names.now.cert.now c.args.plan.now c.args.image.now) (λ e. IsBestCertOrErr c.args.image.now c.args.plan.now (Err e)) c.in-Err-make_best_cert.e _ c.in-Err-make_best_cert.ensures c.report_no_cert.ensures
     (λ rule key addr r why e. refused rule key addr why e)

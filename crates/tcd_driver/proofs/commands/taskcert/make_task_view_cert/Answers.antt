@@ -1,4 +1,4 @@
-use Rattle.tcd_driver.specs.Taskcert.{MakesTaskViewCert}
+use Rattle.tcd_driver.specs.Taskcert.{IsTaskViewCertOrErr}
 use Rattle.tcd_reading.proofs.Told.{passed_on}
 use Rattle.tcd_driver.proofs.TaskcertReports.{apart_fails, unmade_view}
 use Rattle.tcd_driver.proofs.commands.taskcert.make_task_view_cert.Goals as goal
@@ -15,4 +15,4 @@ returns-in-None c = (c.in_ok-cert.ensures, c.in-None.ensures.none)
 
 pub returns-in_err-cert : goal.returns-in_err-cert
 returns-in_err-cert c =
-    passed_on (MakesTaskViewCert c.args.view.now c.args.plan.now c.args.tasks.now) c.from_residual.result _ c.from_residual.ensures.1 (unmade_view c.args.view.now c.args.plan.now c.args.tasks.now _ c.in_err-cert.ensures)
+    passed_on (IsTaskViewCertOrErr c.args.view.now c.args.plan.now c.args.tasks.now) c.from_residual.result _ c.from_residual.ensures.1 (unmade_view c.args.view.now c.args.plan.now c.args.tasks.now _ c.in_err-cert.ensures)

@@ -1,7 +1,7 @@
 use Rattle.std.proofs.Common.{arith, length, ap, ◌∙◌}
 use Rattle.tcd_plan.specs.PlanData.{plan_data}
 use Rattle.task_chains.specs.Tasks.{TasksData}
-use Rattle.tcd_reading.specs.Reports.{says}
+use Rattle.tcd_reading.specs.Reports.{text_report}
 use Rattle.tcd_driver.specs.Tasks.{no_switch, refused}
 use Rattle.tcd_reading.specs.declared.status.Status.TheVariants.{Done, Refused}
 use Rattle.tcd_driver.proofs.TasksReports.{certified_tasks}
@@ -9,7 +9,7 @@ use Rattle.tcd_driver.proofs.commands.tasks.tasks_verdict.Goals as goal
 
 pub returns-in-Some : goal.returns-in-Some
 returns-in-Some c =
-    no_switch c.in-Some.addr c.in-Some.ensures.some (c.of.ensures ∙ ap (λ t. says Refused t) c.in_ok-refused_switch_line.ensures)
+    no_switch c.in-Some.addr c.in-Some.ensures.some (c.of.ensures ∙ ap (λ t. text_report Refused t) c.in_ok-refused_switch_line.ensures)
 
 pub returns-in_ok-line-in-Sum : goal.returns-in_ok-line-in-Sum
 returns-in_ok-line-in-Sum c =
@@ -18,9 +18,9 @@ returns-in_ok-line-in-Sum c =
     (rw c.in-Sum.is at c.in_ok-sum.ensures).0 (rw c.in-Sum.is at c.in_ok-sum.ensures).1
     (let le = c.if-sum-from.true in let is = c.from.ensures in omega arith)
     (c.len-count.ensures.value ∙ ap (λ (t : TasksData). length t.list) c.tasks.view_is)
-    (c.of-then-sum-from.ensures ∙ ap (λ t. says Done t) c.in_ok-line-in-Sum.ensures)
+    (c.of-then-sum-from.ensures ∙ ap (λ t. text_report Done t) c.in_ok-line-in-Sum.ensures)
 
 pub returns-in_ok-line-in-Against : goal.returns-in_ok-line-in-Against
 returns-in_ok-line-in-Against c =
     refused c.in-Against.task c.in-Against.rule c.in-Against.key c.in-Against.addr c.in_default.ensures.none (rw c.in-Against.is at c.in_ok-sum.ensures)
-    (c.of-in-Against.ensures ∙ ap (λ t. says Refused t) c.in_ok-line-in-Against.ensures)
+    (c.of-in-Against.ensures ∙ ap (λ t. text_report Refused t) c.in_ok-line-in-Against.ensures)

@@ -1,6 +1,6 @@
 use Rattle.std.proofs.Common.{◌≡◌, ◌+◌, ◌*◌, ◌++◌, List, [], ◌∷◌, ℕ, ap, sym, ◌∙◌, subst}
 use Rattle.std.specs.Prelude.{OnOk}
-use Rattle.tcd_report.specs.Generated.{call_if_below, generated_function_address, generated_function_code}
+use Rattle.tcd_report.specs.Generated.{call_if_any, generated_function_address, generated_function_code}
 use Rattle.tcd_report.proofs.ImageLemmas.Instructions.{function_bytes}
 use Rattle.tcd_report.proofs.ImageLemmas.Ranges.{joined_four}
 use Rattle.tcd_report.proofs.generating.functions.append_function.Goals as goal
@@ -12,8 +12,8 @@ returns c =
     let before : List ℕ = c.args.out.now.items in
     let head : List ℕ = 0x20 ∷ 0x08 ∷ 0x74 ∷ 0xaf ∷ [] in
     let tail : List ℕ = 0x00 ∷ 0x90 ∷ [] in
-    let left : ℕ → List ℕ = λ a. call_if_below n (a + 4) (2 * i + 1) in
-    let right : ℕ → List ℕ = λ a. call_if_below n (a + 8) (2 * i + 2) in
+    let left : ℕ → List ℕ = λ a. call_if_any n (a + 4) (2 * i + 1) in
+    let right : ℕ → List ℕ = λ a. call_if_any n (a + 8) (2 * i + 2) in
     let at : ℕ = c.generated_function_address-at.result in
     let there : c.append_call_if_any-2.new.out.items ≡ ((before ++ head) ++ left (generated_function_address i)) ++ right (generated_function_address i) =
     c.in_ok-append_call_if_any-2.ensures

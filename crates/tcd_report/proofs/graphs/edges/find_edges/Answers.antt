@@ -2,7 +2,7 @@ use Rattle.std.proofs.Common.{◌++◌, ◌∙◌, ap, sym}
 use Rattle.std.proofs.lemmas.Result.{on_ok_weaker}
 use Rattle.value_domain.specs.Sets.{sorted_set_of}
 use Rattle.tcd_report.specs.Graphs.{unique_addresses, entries_of_kind, successors_at, jump_targets_of, return_addresses_after}
-use Rattle.tc_machine.specs.Instructions.{machine_address_ahead}
+use Rattle.tc_machine.specs.Instructions.{wrapping_sum}
 use Rattle.depth_cert.specs.Points.{point_of}
 use Rattle.cfg_recover.specs.Duties.{entered_keys, entry_duties_of}
 use Rattle.tcd_report.proofs.GraphLemmas.DutyLists.{jumps_told, calls_told, systems_told, misaligned_told, interrupts_told, returns_told, misaligned_once}
@@ -40,7 +40,7 @@ returns-clause-edges c =
           ∙ ap unique_addresses (
           c.deref-7.ensures.value
           ∙ c.in_ok-set_return_addresses.ensures
-          ∙ ap (return_addresses_after cert (machine_address_ahead point.addr found.size)) (c.deref-6.ensures.value ∙ keys)
+          ∙ ap (return_addresses_after cert (wrapping_sum point.addr found.size)) (c.deref-6.ensures.value ∙ keys)
           ∙ sym (returns_told b image plan cert key point.addr s found.shape found.size)
           );
       aln = c.in_ok-set_misaligned_entry.ensures ∙ sym (misaligned_once b plan key s found.shape) ∙ ap unique_addresses (sym (misaligned_told b image plan cert key point.addr s found.shape found.size));

@@ -1,5 +1,5 @@
 use Rattle.std.proofs.Common.{◌∙◌, ◌++◌, ◌∷◌, [], List, Contains, ap, sym, subst, string_bytes}
-use Rattle.value_domain.specs.State.{AreValues}
+use Rattle.value_domain.specs.State.{AreInLattice}
 use Rattle.value_domain.specs.declared.states.State.{State}
 use Rattle.depth_cert.specs.declared.keys.Key.{Key}
 use Rattle.depth_cert.specs.declared.points.Point.{Point}
@@ -18,7 +18,7 @@ append_point_lines-requires-clause-values c =
     let j = c.args.judged.now in
     let p : Point = point_of c.in-Some.addr c.advance.new.self.current in
     let there : Contains (c.args.node.now).points p = walked (c.args.node.now).points c.loop-addr.invariant.done (c.loop-addr.walk).left c.advance.new.self.left p c.loop-addr.invariant.split c.in-Some.ensures.0 in
-    subst (λ (s : State). AreValues j.bounds.now s.regs) (sym c.state.ensures)
+    subst (λ (s : State). AreInLattice j.bounds.now s.regs) (sym c.state.ensures)
     (point_values j.image.now j.plan.now j.cert.now c.requires.judged.accepted c.args.node.now c.requires.stands p there j.bounds.now c.requires.judged.limits)
 
 pub append_point_lines-requires-clause-faultless : goal.append_point_lines-requires-clause-faultless

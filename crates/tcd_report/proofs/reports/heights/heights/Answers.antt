@@ -6,7 +6,7 @@ use Rattle.std.proofs.lemmas.List.Elements.{Contains-get_or}
 use Rattle.depth_cert.specs.declared.keys.Key.{Key}
 use Rattle.depth_cert.specs.Nodes.{NodeData}
 use Rattle.depth_cert.specs.Certs.{CertData, IsCert}
-use Rattle.tcd_report.specs.Reports.Heights.{IsGreatestHeightOf, HasCalleeHeightAt, HasNodeHeight, height_rank_of}
+use Rattle.tcd_report.specs.Reports.Heights.{IsGreatestHeightInList, IsHeightThroughCall, HasNodeHeight, height_rank_of}
 use Rattle.depth_cert.specs.Keys.{key_cmp}
 use Rattle.tcd_report.proofs.ReportLemmas.HeightLaws.{tells_low, tells_more, has_more, height_is, ranked, callees_known, all_known}
 use Rattle.tcd_report.proofs.reports.heights.heights.Goals as goal
@@ -60,8 +60,8 @@ loop-key-preserved c =
     subst (λ (l : List (ℕ × Key)). IsSortedBy (λ x y. is_lt (ordering_then (nat_cmp x.0 y.0) (key_cmp x.1 y.1))) l) (sym c.deref-key-items.ensures.value) c.in_ok-sort.ensures.sorted in
     let heights = c.loop-key.heights in
     let rows : ℕ = c.height_of_node-rows.result in
-    let most : IsGreatestHeightOf (HasCalleeHeightAt j.image.now j.plan.now cert heights (r.0).key) (r.0).points rows =
-    subst (λ (n : NodeData). IsGreatestHeightOf (HasCalleeHeightAt j.image.now j.plan.now cert heights n.key) n.points rows) node_is c.height_of_node-rows.ensures in
+    let most : IsGreatestHeightInList (IsHeightThroughCall j.image.now j.plan.now cert heights (r.0).key) (r.0).points rows =
+    subst (λ (n : NodeData). IsGreatestHeightInList (IsHeightThroughCall j.image.now j.plan.now cert heights n.key) n.points rows) node_is c.height_of_node-rows.ensures in
     let known = callees_known j.image.now j.plan.now cert is c.requires.accepted heights key_cmp order moved sorted i x r.0 lt at c.loop-key.invariant.all (r.1).1 in
     let told : HasNodeHeight j.image.now j.plan.now cert x.1 rows =
     record {

@@ -5,7 +5,7 @@ use Rattle.std.proofs.lemmas.Option.{slice_get_within, get_or_from_slice_get}
 use Rattle.depth_cert.specs.declared.keys.Key.{Key}
 use Rattle.depth_cert.specs.Nodes.{NodeData}
 use Rattle.depth_cert.specs.Keys.{key_eq}
-use Rattle.tcd_report.specs.Reports.Longest.{longest_with}
+use Rattle.tcd_report.specs.Reports.Longest.{longest_so_far}
 use Rattle.tcd_report.proofs.ReportLemmas.LongestLaws.{longest_more, longest_all}
 use Rattle.packed_cert.proofs.WalkedPoints.{never_none, got}
 use Rattle.tcd_report.proofs.reports.longest_by_priority.longest_calls_by_priority.Goals as goal
@@ -30,8 +30,8 @@ loop-i-preserved c =
     let key_is = ap (λ (n : NodeData). n.key) c.node.view_is in
     let prio_is = c.from-prio.ensures ∙ ap (λ (k : Key). k.prio) key_is in
     let told : get key_eq heights node.key ≡ Some h = sym (ap (get key_eq heights) key_is) ∙ sym c.in-Some-get.ensures.value in
-    let is : n ≡ longest_with (get nat_eq rows (node.key).prio) h =
-    c.longest_so_far-most.ensures ∙ ap (λ o. longest_with o h) c.get-in-loop-i-2.ensures.value ∙ ap (λ p. longest_with (get nat_eq rows p) h) prio_is in
+    let is : n ≡ longest_so_far (get nat_eq rows (node.key).prio) h =
+    c.longest_so_far-most.ensures ∙ ap (λ o. longest_so_far o h) c.get-in-loop-i-2.ensures.value ∙ ap (λ p. longest_so_far (get nat_eq rows p) h) prio_is in
     longest_more heights rows c.insert.new.self nodes c.loop-i.i node h n (slice_get_within nodes c.loop-i.i node found) (sym (get_or_from_slice_get nodes c.loop-i.i node node found)) told is
     (λ q. c.in_ok-insert.ensures.updates.0 q ∙ ap (λ p. cond (nat_eq p q) (Some n) (get nat_eq rows q)) prio_is) c.loop-i.invariant
 
