@@ -34,18 +34,17 @@ is_same_place (exit k) (exit j) = is_same_key k j
 is_same_place (point k p) (exit j) = false
 is_same_place (exit k) (point j q) = false
 
--- what is known at a place of an assignment, a point or an exit, by a certificate's node of that
--- frame
+-- what a certificate's node states at a place of its frame, a point or the exit, if anything
 abbrev pub known_by_node : Place → NodeData → Option Known
 known_by_node (point k p) n = option_map (λ q. state q.state) (find_point p n.points)
 known_by_node (exit k) n = option_map leaving n.exit
 
--- the frame of a place
+-- the key of the frame that a place is in
 abbrev pub key_of_place : Place → Key
 key_of_place (point k p) = k
 key_of_place (exit k) = k
 
--- what a certificate states at a place
+-- a certificate as an assignment: what its nodes state at each place
 abbrev pub assignment_of_cert : CertData → Assignment
 assignment_of_cert cert y = option_and_then (known_by_node y) (find (λ n. is_same_key n.key (key_of_place y)) cert.nodes)
 
@@ -55,12 +54,12 @@ pub record AssignmentCovers (a : Assignment) (y : Place) (v : Known) : Type 0 wh
   pub at : a y ≡ Some known
   pub covers : CoversKnown known v
 
--- the upper assignment covers everything that this assignment has, place by place
+-- an assignment is below `upper`, which covers all that the first one has, place by place
 abbrev pub IsAssignmentBelow : Assignment → Assignment → Type 0
 IsAssignmentBelow a upper = (y : Place) (v : Known) → a y ≡ Some v → AssignmentCovers upper y v
 
--- the least that covers both what an assignment has at a place, if anything, and this; none for
--- states with different numbers of locals
+-- what an assignment has at a place, joined with v: the least that covers both; none for states
+-- with different numbers of locals
 abbrev pub joined_at_place : Limits → Option Known → Known → Option Known
 joined_at_place b None v = Some v
 joined_at_place b (Some w) v = joined_known b w v

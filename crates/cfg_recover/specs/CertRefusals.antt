@@ -68,8 +68,8 @@ pub record IsLeastAssignment (b : Limits) (image : ImageData) (plan : PlanData) 
 
 -- ---- needs
 
--- numbers of areas, for a refusal by too great a need: they suffice at each point of an assignment
--- for the locals, and at each entry also for one more and the entered frame's number
+-- numbers of areas suffice as needs: at each point for the locals, and at each entry also for one
+-- more and the entered frame's need
 pub record AreSufficientNeeds (b : Limits) (image : ImageData) (plan : PlanData) (a : Assignment) (need : Key → ℕ) : Type 0 where
   pub locals : (k : Key) (p : ℕ) (s : State) → a (point k p) ≡ Some (state s) → length s.locals.items ≤ need k
   pub entered : (k : Key) (p : ℕ) (s : State) (t : Key) → EntersInAssignment b image plan a k p s t → length s.locals.items + 1 + need t ≤ need k
@@ -87,7 +87,7 @@ pub record EntersRecursion (b : Limits) (image : ImageData) (plan : PlanData) (a
   pub enters : EntersInAssignment b image plan a k p before into
   pub back : IsFrameReachedFrom b image plan a k into
 
--- points are ordered by key, then address
+-- the number of a point, by which refusals order points: by key, then address
 abbrev pub point_order_number : Key → ℕ → ℕ
 point_order_number k p = number_of_key k * 2 ^ 32 + p
 

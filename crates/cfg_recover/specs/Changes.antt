@@ -8,7 +8,7 @@ use Rattle.vd_transfer.specs.declared.change.Change.{Change}
 use Rattle.value_domain.specs.Values.{word_val}
 use Rattle.vd_transfer.specs.Changes.{identity_change_of, no_write, register_write}
 
--- a called function begins with its caller's values and without locals
+-- the change at a called function's entry: all values stay, no locals, and `lower` is false
 abbrev pub call_entry_change : State → Change
 call_entry_change s = record (identity_change_of s) { lower = false; locals = record { items = [] } }
 
@@ -17,7 +17,7 @@ call_entry_change s = record (identity_change_of s) { lower = false; locals = re
 abbrev pub sys_entry_change : Val → ℕ → State → Change
 sys_entry_change sp tin s = record (call_entry_change s) { first = register_write 26 sp; second = register_write 15 (word_val tin); ie = false }
 
--- an interrupt's handler begins with unknown values, except A10
+-- the change at the entry of an interrupt's handler: values are unknown except A10, CCPN is ccpn
 abbrev pub handler_entry_change : Val → ℕ → Change
 handler_entry_change sp ccpn = record {
   base = Any;
@@ -30,7 +30,7 @@ handler_entry_change sp ccpn = record {
   locals = record { items = [] };
 }
 
--- the handler of misaligned accesses begins with unknown values, except A10 and the trap's number 4
--- in D15
+-- the change at the entry of the handler of misaligned accesses: only A10 is known, and D15, which
+-- has the trap's number 4
 abbrev pub aln_entry_change : Val → ℕ → Change
 aln_entry_change sp ccpn = record (handler_entry_change sp ccpn) { second = register_write 15 (word_val 4) }

@@ -44,7 +44,7 @@ abbrev pub FindsShapeAndSize : ImageData → PlanData → ℕ → Option Located
 FindsShapeAndSize image plan p (Some found) = IsCode image plan p found.shape found.size
 FindsShapeAndSize image plan p None = HasCode image plan p → ⊥
 
--- the shape and the size of an instruction that was decoded, if one was
+-- the shape and the size of the instruction that a decoding gives; none if the decoding fails
 abbrev pub shape_and_size_of : Result (InstData × ℕ) DecodeErr → Option Located
 shape_and_size_of (Ok (inst, n)) = Some (record { shape = shape_of inst; size = n })
 shape_and_size_of (Err e) = None

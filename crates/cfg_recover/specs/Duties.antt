@@ -53,7 +53,8 @@ value_loaded_by_shape b image plan s _ = any_val
 abbrev pub jumps_to : State → List ℕ → List Owed
 jumps_to s targets = map (λ t. owed 4 (jump t s)) targets
 
--- the duty of a point to jump on a side of its branch (K4), if that side is possible
+-- the duty of a point to jump to q on a branch's side (K4), in the refined state; none if
+-- impossible
 abbrev pub jump_on : ℕ → Option State → List Owed
 jump_on q None = []
 jump_on q (Some s) = owed 4 (jump q s) ∷ []
@@ -76,8 +77,8 @@ successor_duties_of b image plan p s (Syscall tin) n = []
 successor_duties_of b image plan p s (Mtcr src number) n = []
 successor_duties_of b image plan p s shape n = next_duty_of b image plan p s shape n
 
--- what a point owes by entering a frame through a call (K5) or a system call (K12): the duty to
--- enter it, and the duty to go on after its return (K4)
+-- what a point owes by a call (K5) or system call (K12): to enter this key's frame, and to go on at
+-- `back` (K4)
 abbrev pub entry_and_return : ℕ → Key → State → ℕ → List Owed
 entry_and_return rule key s back = owed rule (enter key s) ∷ owed 4 (resume key back) ∷ []
 

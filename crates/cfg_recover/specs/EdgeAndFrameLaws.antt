@@ -96,7 +96,7 @@ pub record FramesFollowRun (image : ImageData) (plan : PlanData) (m : Machine) :
       (es : List Event) (e : Event) (f : RunFrame) (older : List RunFrame) → frames image plan m es ≡ f ∷ older
       → FramesFollowStep (run m es) e f older (frames image plan m (es ++ e ∷ []))
 
--- in every run
+-- the law of frames: in every run of every machine, the frames follow the steps
 abbrev pub FramesFollowAllRuns : Type 0
 FramesFollowAllRuns = (image : ImageData) (plan : PlanData) (m : Machine) → FramesFollowRun image plan m
 
@@ -123,7 +123,7 @@ pub record FramesDescribeMachine (plan : PlanData) (cert : CertData) (m : Machin
 abbrev pub FramesHeld : ImageData → PlanData → CertData → Type 0
 FramesHeld image plan cert = (m : Machine) (es : List Event) → Starts image plan m → AllFit plan m es → AreAllFramesHeld plan cert (run m es) (frames image plan m es)
 
--- at each boundary of every run from every start state
+-- the law of held frames: frames that are held in every run describe the machine at each boundary
 abbrev pub HeldFramesDescribeMachine : Type 0
 HeldFramesDescribeMachine =
     (image : ImageData) (plan : PlanData) (cert : CertData) → FramesHeld image plan cert

@@ -43,7 +43,8 @@ IsEdgeWayOwed ds key prio fs q (aln x) = OwesEntry ds 10 (handler_key 4 x key.pr
 IsEdgeWayOwed ds key prio fs q ret = IsReturnTo q fs
 IsEdgeWayOwed ds key prio fs q rfe = IsReturnTo q fs
 
--- the point of the newest frame, its instruction, and the step's way among its duties
+-- a step's edge is owed: the newest frame's node has a point at pc, whose duties, or the return,
+-- have the step's way
 pub record IsEdgeOwed (image : ImageData) (plan : PlanData) (cert : CertData) (m : Machine) (e : Event) (f : RunFrame) (fs : List RunFrame) : Type 0 where
   pub node : NodeData
   pub stands : find_node f.key cert.nodes ≡ Some node

@@ -30,13 +30,13 @@ irq_key plan p = record { kind = irq_kind; entry = bit_or plan.biv (p * 2 ^ 5); 
 abbrev pub sys_key : PlanData → Key → Key
 sys_key plan key = record { kind = sys_kind; entry = bit_or plan.btv (6 * 2 ^ 5); prio = key.prio; is = true }
 
--- the handler of misaligned accesses
+-- the key of the handler of misaligned accesses, which a frame of this key enters
 abbrev pub aln_key : PlanData → Key → Key
 aln_key plan key = record { kind = aln_kind; entry = bit_or plan.btv (2 * 2 ^ 5); prio = key.prio; is = true }
 
 -- ---- states at entries
--- The stack pointer of a handler is the interrupt stack's, or A10 (register 26) if that stack is in
--- use.
+-- the stack pointer of a handler: the start of the interrupt stack, or the state's A10 (register
+-- 26) if that stack is in use
 abbrev pub entry_stack_of : PlanData → Key → State → Val
 entry_stack_of plan key s = if key.is then reg_of plan s 26 else word_val plan.isp
 
@@ -79,7 +79,7 @@ handler_key kind entry prio = record { kind = kind; entry = entry; prio = prio; 
 abbrev pub possible_irqs_of : PlanData → State → List ℕ
 possible_irqs_of plan s = if s.ie then filter (λ p. nat_lt s.ccpn p) plan.irqs else []
 
--- the stack pointer of a handler, from A10 of the frame that it interrupts
+-- a handler's stack pointer: the interrupt stack's start, or this A10 if that stack is in use
 abbrev pub entry_stack_from_a10 : PlanData → Key → Val → Val
 entry_stack_from_a10 plan key sp = if key.is then sp else word_val plan.isp
 

@@ -37,7 +37,7 @@ pub record FirstFaultNamesFirstFailure (image : ImageData) (plan : PlanData) (ce
   pub first : (q : ℕ) (j : Key) (x : ℕ) → IsFaultPlace image plan cert q j x → (r ≡ 1) ⊎ IsFaultNotAfter r k p q j x
   pub refuted : Accepts image plan cert → ⊥
 
--- of each first fault of a certificate
+-- a law of what is printed: a first fault names the first place where a rule fails
 abbrev pub FirstFaultsNameFirstFailures : Type 0
 FirstFaultsNameFirstFailures =
     (image : ImageData) (plan : PlanData) (cert : CertData) (r : ℕ) (k : Key) (p : ℕ) → image.entry < 2 ^ 32 → IsCert cert

@@ -29,7 +29,7 @@ duties_of_jump (Some j) = jumps_to j.state j.targets.items
 abbrev pub duties_of_jumps : List (Option Jump) → List Owed
 duties_of_jumps jumps = flat_map duties_of_jump jumps
 
--- the duty to go on at q after an entered frame's return, if that may return
+-- the duty to go on at q after the return of this key's frame (K4), if that may return
 abbrev pub duties_of_flow_return : Key → Option ℕ → List Owed
 duties_of_flow_return key None = []
 duties_of_flow_return key (Some q) = owed 4 (resume key q) ∷ []
@@ -63,7 +63,7 @@ abbrev pub duties_of_flow : PlanData → Key → State → Flow → List Owed
 duties_of_flow plan key s f =
     duties_of_jumps f.jumps ++ duties_of_entry (rule_of_entry f.enter) key f.enter ++ duties_of_entry 10 key f.aln ++ duties_of_irqs plan f.irq_entry f.irqs.items ++ duties_of_leaving key s f.leave
 
--- how an instruction of this shape leaves its frame
+-- how an instruction of this shape leaves its frame: by RET, by RFE, or not at all
 unfoldable pub flow_leave_of : Shape → Leave
 flow_leave_of shape.Ret = Ret
 flow_leave_of shape.Rfe = Rfe

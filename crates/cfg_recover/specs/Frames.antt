@@ -22,13 +22,13 @@ pub record RunFrame : Type 0 where
   pub key : Key
   pub at : ℕ
 
--- the frames of a run, the newest of which goes on at an address
+-- the frames of a run after the newest one went on to the address q
 abbrev pub frames_after_jump : ℕ → List RunFrame → List RunFrame
 frames_after_jump q [] = []
 frames_after_jump q (f ∷ fs) = record { key = f.key; at = q } ∷ fs
 
--- The newest frame will go on at `back`, and enters a frame at q. The new frame's key follows from
--- the newest one's.
+-- the frames of a run after the newest one, which goes on at `back`, entered one at q; its key
+-- follows from the newest's
 abbrev pub frames_after_entry : (Key → Key) → ℕ → ℕ → List RunFrame → List RunFrame
 frames_after_entry key back q [] = []
 frames_after_entry key back q (f ∷ fs) = record { key = key f.key; at = q } ∷ record { key = f.key; at = back } ∷ fs

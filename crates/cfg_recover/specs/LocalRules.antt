@@ -21,8 +21,8 @@ use Rattle.depth_cert.specs.declared.keys.Key.{Key}
 use Rattle.cfg_recover.specs.Code.{IsCode, HasCode}
 
 -- ---- targets
--- the targets of a jump or a call by register, which K5's own part asks to be known: the words of
--- the register's value with bit 0 cleared, ascending, each once; none for a span
+-- the targets of a jump or a call by a register with this value: a Set's words with bit 0 cleared;
+-- none for a Span
 abbrev pub targets_of_value : Val → Option (List ℕ)
 targets_of_value (Set ws) = Some (sorted_set_of (map (λ w. w / 2 * 2) ws))
 targets_of_value (Span lo last step) = None

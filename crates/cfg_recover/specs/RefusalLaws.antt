@@ -7,7 +7,7 @@ use Rattle.value_domain.specs.Limits.{Limits}
 use Rattle.depth_cert.specs.declared.keys.Key.{Key}
 use Rattle.cfg_recover.specs.CertRefusals.{IsRefusalWithLimits, HasRefusalReason}
 
--- of each refusal
+-- the law of refusals: each refusal to make a certificate has one of the five reasons
 abbrev pub RefusalsHaveReasons : Type 0
 RefusalsHaveReasons =
     (b : Limits) (image : ImageData) (plan : PlanData) (r : ℕ) (k : Key) (p : ℕ) → IsRefusalWithLimits b image plan r k p → HasRefusalReason b image plan r k p

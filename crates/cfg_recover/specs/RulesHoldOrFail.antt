@@ -20,7 +20,7 @@ use Rattle.cfg_recover.specs.LocalRules.{LocalRuleHoldsAtPoint}
 use Rattle.cfg_recover.specs.LocalFaults.{IsFaultless}
 use Rattle.cfg_recover.specs.Duties.{Duty, jump, enter, resume, leave, Owed, duties_of}
 
--- the limits with which the rules hold or fail: those of the plan and of the certificate's format
+-- the limits of a certificate, with which rules hold or fail: those of the plan and of the format
 abbrev pub limits_of_cert : PlanData → CertData → Limits
 limits_of_cert plan cert = limits_for plan cert.version
 
@@ -121,7 +121,7 @@ pub record IsFirstFault (image : ImageData) (plan : PlanData) (cert : CertData) 
   pub start : (r ≡ 1) ⊎ StartRuleHolds image plan cert
   pub least : (q : ℕ) (j : Key) (x : ℕ) → RuleFails image plan cert q j x → (r ≡ 1) ⊎ (fault_number r k p ≤ fault_number q j x)
 
--- the need that is certified if the rules hold in a certificate: that of its node of the start
--- frame, 0 without one
+-- the need that a certificate certifies, in areas: that of the node of the start frame, 0 without
+-- one
 abbrev pub certified_need : ImageData → PlanData → CertData → ℕ
 certified_need image plan cert = need_or_zero (find_node (start_key image plan) cert.nodes)

@@ -36,7 +36,7 @@ pub record IsSameOperation (k : CachedOperation) (o : SetOperation) : Type 0 whe
   pub x : k.x ≡ Set o.x.now
   pub y : k.y ≡ Set o.y.now
 
--- the result is that of this operation on the entry's operands, and a value of the limits
+-- the entry's result is that of this operation on the entry's operands, and a value of the limits
 pub record HasResultOf (b : Limits) (k : CachedOperation) (op : Op) : Type 0 where
   pub gives : k.result ≡ operation_value b op k.x k.y
   pub value : IsInLattice b k.result

@@ -49,8 +49,8 @@ fn ccpn_after_return(s: &State, exit: &Exit, kind: u8) -> u8
     if kind == CALL { exit.ccpn } else { s.ccpn }
 }
 
-/// Returns one register's value in a caller's state after a return: the exit's for a lower
-/// register, else the old one.
+/// Returns the value in register slot `i` after a return: for a lower register the exit's, one of
+/// the 14 in `lower`, else `v`.
 fn value_after_return<'a>(i: usize, lower: &'a [Val; 14], v: &'a Val) -> &'a Val
     ensures { result.now
         ≡ (if states.is_lower_slot i

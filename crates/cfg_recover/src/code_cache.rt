@@ -42,8 +42,8 @@ impl KnownCodes {
         }
     }
 
-    /// Returns the instruction at an address of rom, or `None` if there is none. An instruction
-    /// that is in the cache isn't decoded again.
+    /// Returns the shape and size of the instruction at an address of rom, or `None` if there is
+    /// none. An instruction whose word is in the cache isn't decoded again.
     #[inline(always)]
     pub fn locate(&mut self, image: &Image, plan: &Plan, addr: u32) -> Option<Located>
         ensures code { FindsShapeAndSize image.now plan.now addr result }
@@ -84,8 +84,8 @@ impl KnownCodes {
     }
 }
 
-/// Returns the cache's entry for a word: the instruction that its four bytes begin with, if they
-/// decode.
+/// Returns the cache's entry for a word: the shape and size of the instruction that its four bytes
+/// begin with, if they decode.
 #[inline(never)]
 fn decode_word(word: u32) -> KnownCode
     ensures { result.word ≡ word }
@@ -100,8 +100,8 @@ fn decode_word(word: u32) -> KnownCode
     KnownCode { word, found }
 }
 
-/// Returns the word by which the cache of instructions knows one, from its first four bytes. An
-/// instruction of two bytes has a word of these alone.
+/// Returns the word by which the cache knows an instruction, from four bytes: all of them, or only
+/// the first two of a 16-bit instruction.
 #[inline(always)]
 fn code_cache_word(bytes: [u8; 4]) -> u32
     ensures { shape_and_size_of_word result ≡ shape_and_size_of (decoded_of bytes) }
@@ -111,7 +111,7 @@ fn code_cache_word(bytes: [u8; 4]) -> u32
     if word % 2 == 1 { word } else { word % 0x1_0000 }
 }
 
-/// Establishes that bytes are below 256, which their type says.
+/// Establishes a fact for proofs: bytes of code are below 256, as their type says.
 fn code_bytes_below_256(bytes: &[u8])
     ensures { (k : ℕ) → slice_index bytes.now k < 2 ^ 8 }
 {}

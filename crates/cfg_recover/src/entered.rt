@@ -19,7 +19,7 @@ use tcd_plan::Plan;
 use value_domain::{Bounds, State};
 use vd_transfer::address_by_shape;
 
-/// Appends the keys of the frames that a call or a system call enters, in the order of its duties.
+/// Appends the keys of the frames that the call or SYSCALL at `addr` may enter, in duty order.
 pub fn push_entered_keys(
     keys: &mut Vec<Key>,
     plan: &Plan,

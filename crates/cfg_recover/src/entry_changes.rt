@@ -47,8 +47,8 @@ pub fn sys_entry_change(b: &Bounds, plan: &Plan, key: &Key, s: &State, tin: u8) 
     c
 }
 
-/// Returns the change from a point's abstract state to that at the entry of an interrupt's handler,
-/// with this CCPN.
+/// Returns the change from a point's abstract state to that at an interrupt handler's entry, where
+/// CCPN is `ccpn` and only A10 is known.
 pub fn handler_entry_change(b: &Bounds, plan: &Plan, key: &Key, s: &State, ccpn: u8) -> Change
     requires { AreInLattice b.now s.now.regs }
     ensures entry { state_after s.now result
@@ -97,8 +97,8 @@ fn entry_constant(b: &Bounds, x: u32) -> Val
     Val::one(x)
 }
 
-/// Returns the change from a point's state to that at the entry of a handler with this stack
-/// pointer and CCPN: all else is unknown.
+/// Returns the change from a point's state to that at a handler's entry with this A10 and CCPN. All
+/// other registers are unknown, and IE is off.
 fn handler_entry_change_with_stack(s: &State, sp: Val, ccpn: u8) -> Change
     ensures { result ≡ changes.handler_entry_change sp ccpn }
 {

@@ -18,8 +18,8 @@ use tcd_plan::Plan;
 use value_domain::{Bounds, State};
 use vd_transfer::state_after_change;
 
-/// Returns which frames a point enters by a call or a system call, for its Flow, or `None` if the
-/// instruction is neither.
+/// Returns the frames that a point's call or SYSCALL may enter, with their entry state, for the
+/// point's Flow; `None` for other instructions.
 pub(crate) fn call_flow_entry(
     b: &Bounds,
     plan: &Plan,
@@ -77,7 +77,7 @@ pub(crate) fn misaligned_flow_entry(
 }
 
 /// Returns how a point's instruction leaves its frame, for the point's Flow: by RET, by RFE, or not
-/// at all.
+/// at all. `key` and `s` are for the contract.
 #[tactic(auto, unfolding(crate::specs::FlowDuties::flow_leave_of))]
 pub(crate) fn flow_leave(key: &Key, s: &State, inst: &Inst) -> Leave
     ensures told { duties_of_leaving key.now s.now result

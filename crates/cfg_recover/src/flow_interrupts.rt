@@ -7,7 +7,7 @@ use tcd_plan::Plan;
 use value_domain::State;
 
 /// Returns the priorities of the plan's interrupts that may be taken in an abstract state: those
-/// above CCPN, if IE may be on.
+/// above the least CCPN, if IE may be on.
 pub fn possible_irqs(plan: &Plan, s: &State) -> ArrayVec<u8, 32>
     ensures { result.items ≡ possible_irqs_of plan.now s.now }
 {
@@ -18,7 +18,7 @@ pub fn possible_irqs(plan: &Plan, s: &State) -> ArrayVec<u8, 32>
     }
 }
 
-/// Returns the interrupts of a list whose priorities are above CCPN.
+/// Returns the priorities of a list that are above `ccpn`, in the list's order.
 fn irqs_above(irqs: &[u8], ccpn: u8) -> ArrayVec<u8, 32>
     requires { length irqs.now ≤ 32 }
     ensures { result.items ≡ filter (λ p. nat_lt ccpn p) irqs.now }

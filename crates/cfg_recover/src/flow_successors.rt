@@ -25,8 +25,8 @@ use vd_transfer::{
     Base, Change, write_instruction_change, identity_change, refine, state_after_change, write_address_by_shape,
 };
 
-/// Returns the jumps of a point's Flow to its successors in the same frame (K4), without the one
-/// after a call or a system call.
+/// Returns the jumps of a point's Flow to successors in the same frame (K4); none after a call, a
+/// system call or a return. A branch has one for each side.
 pub(crate) fn successor_jumps(
     b: &Bounds,
     image: &Image,
@@ -89,8 +89,8 @@ pub fn write_successor_change(
     }
 }
 
-/// Returns the jump of a point's Flow on a side of its branch, with the refined state, or `None` if
-/// that side isn't possible.
+/// Returns the jump of a point's Flow to `to`, on a side of its branch, with the refined state;
+/// `None` if that side isn't possible.
 fn jump_on_branch_side(
     b: &Bounds,
     plan: &Plan,
@@ -128,8 +128,8 @@ fn jump_to_next(b: &Bounds, image: &Image, plan: &Plan, s: &State, at: InstAt<'_
     }
 }
 
-/// Writes the identity change, by which a point's successor has the point's state. Mostly a state
-/// has no locals, and then none are copied.
+/// Writes into `c` the change that changes nothing in the state `s`. Mostly a state has no locals,
+/// and then none are copied.
 #[inline(always)]
 fn write_identity_change(s: &State, c: &mut Change)
     ensures { state_after s.now c.new ≡ s.now }
@@ -148,8 +148,8 @@ fn write_identity_change(s: &State, c: &mut Change)
     c.locals = ArrayVec::new();
 }
 
-/// Overwrites `out` with the abstract value that a point's load gets from these addresses, or with
-/// any word if the instruction isn't a load.
+/// Overwrites `out` with the abstract value that a load gets from the addresses `at`, or with any
+/// word if the instruction isn't a load.
 fn write_loaded_value(b: &Bounds, image: &Image, plan: &Plan, shape: Shape, at: &Val, out: &mut Val)
     requires shape { IsShape shape }
     requires value { IsInLattice b.now at.now }

@@ -29,7 +29,7 @@ pub fn direct_target(addr: u32, to: Target) -> Option<u32>
     }
 }
 
-/// The addresses to which a jump or a call at `addr` may go; none if they are unknown.
+/// Returns the addresses to which a jump or call at `addr` may go; none if the register has a Span.
 pub fn targets(plan: &Plan, s: &State, addr: u32, to: Target) -> ArrayVec<u32, 128>
     requires { IsTarget to }
     ensures { result.items ≡ unwrap_or (targets_of plan.now s.now addr to) [] }
@@ -50,8 +50,8 @@ pub(crate) fn one_target(x: u32) -> ArrayVec<u32, 128>
     targets
 }
 
-/// Returns the targets of a jump or call by a register, none if unknown. This is a function of its
-/// own, so that direct jumps fill no room for a value.
+/// Returns the targets of a jump or call by the register `r`, or an empty list if they are unknown.
+/// A function of its own, so that direct jumps need no stack for a value.
 #[inline(never)]
 fn targets_in_register(plan: &Plan, s: &State, r: u8) -> ArrayVec<u32, 128>
     requires { r < 32 }

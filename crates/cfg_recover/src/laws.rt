@@ -5,9 +5,8 @@ ghost use Rattle.cfg_recover.specs.FlowDuties.{FlowDutiesAreOfCode};
 ghost use Rattle.cfg_recover.specs.MovesAreOwed.{InterruptsAreOwed, JumpsAreOwed, PointStoresAreInRange, TrapsAreOwed, CallsAreOwed, SystemCallsAreOwed};
 ghost use Rattle.cfg_recover.specs.RefusalLaws.{RefusalsHaveReasons};
 
-/// The laws of moves, for a machine at a point whose state holds the registers. Each step is a duty
-/// of the point: a jump, a call, a system call, an interrupt or a trap. Stores are in range. A Flow
-/// has the duties of the instruction at its point.
+/// States the laws of moves: a machine at a point, whose state holds the registers, only does what
+/// the point owes, and stores in range.
 pub fn move_laws()
     ensures moves { JumpsAreOwed }
     ensures traps { TrapsAreOwed }
@@ -18,8 +17,8 @@ pub fn move_laws()
     ensures flow { FlowDutiesAreOfCode }
 {}
 
-/// The laws of edges and frames: what they are at each step of a machine. Held frames describe the
-/// machine; an owed edge is a duty of the newest frame's point, or a return to the frame before.
+/// States the laws of edges and frames: both follow a machine's steps, held frames describe the
+/// machine, and owed edges are duties or returns.
 pub fn frame_laws()
     ensures edges { EdgesMatchSteps }
     ensures frames { FramesFollowAllRuns }
@@ -27,8 +26,8 @@ pub fn frame_laws()
     ensures owed { StepsAreOwedByPoints }
 {}
 
-/// The laws of what the checker prints. A first fault names the first place where a rule fails; the
-/// certified need is that of the start's node.
+/// States the laws of what the checker prints: a first fault names the first place where a rule
+/// fails; the certified need is the start's.
 pub fn fault_laws()
     ensures first { FirstFaultsNameFirstFailures }
     ensures need { CertifiedNeedIsOfStart }

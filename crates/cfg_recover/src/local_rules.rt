@@ -61,7 +61,7 @@ pub struct Located {
     pub size: u32,
 }
 
-/// The instruction at a point, if no rule's own part fails there; else the least rule that fails.
+/// Returns the instruction at a point, or the least rule whose own part fails there.
 pub fn check_local_rules(
     b: &Bounds,
     image: &Image,
@@ -111,8 +111,8 @@ pub(crate) fn check_local_rules_of_inst(
     }
 }
 
-/// Returns the instruction that was found at a point, if no rule's own part fails there, else the
-/// least rule that fails. The contract holds for each image and address with that instruction.
+/// Returns the decoded instruction of a point, if no rule's own part fails there, else the least
+/// rule that fails: K3 if none was decoded. The address isn't needed.
 pub fn check_decoded<'a>(
     b: &Bounds,
     plan: &Plan,
@@ -198,7 +198,7 @@ pub(crate) fn first_local_fault(
     }
 }
 
-/// Returns the number of a rule that fails, or `None` if its condition holds.
+/// Returns this rule, as one that is broken, or `None` if its condition `holds`.
 #[inline(always)]
 pub fn broken_rule_unless(holds: bool, rule: u8) -> Option<u8>
     ensures { result ≡ (if holds then None else Some rule) }
@@ -206,8 +206,8 @@ pub fn broken_rule_unless(holds: bool, rule: u8) -> Option<u8>
     if holds { None } else { Some(rule) }
 }
 
-/// Tries K9, then K10, for a load or store with only one address. Returns the first whose own part
-/// fails, or `None`.
+/// Returns the first of K9 and K10 whose own part fails for a load or store at the only address
+/// `x`, or `None`.
 pub(crate) fn access_fault_at_word(plan: &Plan, x: u32, shape: Shape) -> Option<u8>
     requires shape { IsShape shape }
     ensures { (b : Limits) (s : State) → address_of_access b plan.now shape s ≡ word_val x
@@ -222,8 +222,8 @@ pub(crate) fn access_fault_at_word(plan: &Plan, x: u32, shape: Shape) -> Option<
     None
 }
 
-/// Tries K9, then K10, for a load or store with any addresses. Returns the first that fails, or
-/// `None`. This is a function of its own, so that an access with one address builds no value.
+/// Returns the first of K9 and K10 whose own part fails for a load or store, or `None`. A function
+/// of its own, so that an access with one address builds no value.
 #[inline(never)]
 pub(crate) fn access_fault_at_value(b: &Bounds, plan: &Plan, s: &State, shape: Shape) -> Option<u8>
     requires shape { IsShape shape }
@@ -241,7 +241,7 @@ pub(crate) fn access_fault_at_value(b: &Bounds, plan: &Plan, s: &State, shape: S
     None
 }
 
-/// Tests K5 at a jump or call: true if its targets are a known list of addresses.
+/// Tests K5's own part at a jump or call: the target is fixed, or the register's value is a Set.
 pub(crate) fn has_known_targets(plan: &Plan, s: &State, to: Target) -> bool
     requires { IsTarget to }
     ensures { (p : ℕ) → IsTrue result ↔ IsSome (targets_of plan.now s.now p to) }
@@ -295,8 +295,8 @@ pub(crate) fn may_store_at_value(plan: &Plan, at: &Val, shape: Shape) -> bool
     }
 }
 
-/// Tests K9 for an instruction with only one address: true if a store there is wholly in one ram
-/// range or one peripheral range.
+/// Tests K9 for an instruction with the only address `x`: true if a store there is wholly in one
+/// ram range or one peripheral range. Other instructions pass.
 pub(crate) fn may_store_at_word(plan: &Plan, x: u32, shape: Shape) -> bool
     ensures { IsTrue result ↔ StoresInRangeAtValue plan.now (word_val x) shape }
 {
@@ -306,8 +306,8 @@ pub(crate) fn may_store_at_word(plan: &Plan, x: u32, shape: Shape) -> bool
     }
 }
 
-/// Tests K10's own part: true if each possible address is a multiple of the access's size, or the
-/// plan states the trap of misaligned accesses.
+/// Tests K10's own part: true if each address in `at` is a multiple of the access's size, or the
+/// plan states the trap. Other instructions pass.
 pub(crate) fn may_access_at_value(plan: &Plan, at: &Val, shape: Shape) -> bool
     requires shape { IsShape shape }
     requires well { IsWellFormed at.now }
@@ -320,8 +320,8 @@ pub(crate) fn may_access_at_value(plan: &Plan, at: &Val, shape: Shape) -> bool
     }
 }
 
-/// Tests K10's own part for an access with only one address: true if that is aligned, or the plan
-/// states the trap of misaligned accesses.
+/// Tests K10's own part for an access at the only address `x`: true if that is aligned, or the plan
+/// states the trap. Other instructions pass.
 pub(crate) fn may_access_at_word(plan: &Plan, x: u32, shape: Shape) -> bool
     requires { IsShape shape }
     ensures { IsTrue result ↔ MayAccessAtValue plan.now (word_val x) shape }
@@ -340,7 +340,7 @@ pub(crate) fn may_call_system(plan: &Plan) -> bool
     plan.sys
 }
 
-/// Tries K9, then K10, for a load or store. Returns the first whose own part fails, or `None`.
+/// Returns the first of K9 and K10 whose own part fails for a load or store; else `None`.
 fn access_fault(b: &Bounds, plan: &Plan, s: &State, shape: Shape) -> Option<u8>
     requires shape { IsShape shape }
     requires values { AreInLattice b.now s.now.regs }
@@ -352,8 +352,8 @@ fn access_fault(b: &Bounds, plan: &Plan, s: &State, shape: Shape) -> Option<u8>
     }
 }
 
-/// Returns the address that the own parts of K9 and K10 test, if the instruction is a load or a
-/// store whose base has only one word.
+/// Returns the address of a load or store if that is known to be a single one; `None` for other
+/// instructions.
 #[tactic(auto, unfolding(vd_transfer::specs::EffectsOnStates::address_of_access))]
 fn single_address_by_shape(b: &Bounds, plan: &Plan, s: &State, shape: Shape) -> Option<u32>
     requires shape { IsShape shape }
@@ -377,8 +377,8 @@ fn single_address_by_shape(b: &Bounds, plan: &Plan, s: &State, shape: Shape) -> 
     }
 }
 
-/// Returns the address that the own parts of K9 and K10 test, if the base register of the access
-/// has only one word.
+/// Returns the address of an access if the value of its base register is a single word, else
+/// `None`. `offset` counts unless the base is increased after the access.
 #[inline(always)]
 fn single_address_by_base(
     b: &Bounds,
@@ -402,8 +402,8 @@ fn single_address_by_base(
     Some(alu(Op::Add, x, offset))
 }
 
-/// Tests what K5 asks of a register that names targets: its value is a Set. Its words with bit 0
-/// cleared are the targets.
+/// Tests what K5 asks of the value of a jump's or call's register: true if the value is a Set,
+/// whose words name the targets.
 fn is_set_of_targets(v: &Val) -> bool
     ensures { IsTrue result ↔ IsSome (targets_of_value v.now) }
 {
@@ -434,8 +434,8 @@ fn may_handler_return(key: &Key, s: &State) -> bool
     }
 }
 
-/// Tests K10 for an access of this size: true if each address is aligned, or the plan states the
-/// trap of misaligned accesses.
+/// Tests K10's own part: true if each address in `at` is a multiple of `size`, or the plan states
+/// the trap of misaligned accesses.
 fn is_aligned_or_trap_stated(plan: &Plan, at: &Val, size: u8) -> bool
     requires well { IsWellFormed at.now }
     requires size { IsShapeAccessSize size }
@@ -444,8 +444,8 @@ fn is_aligned_or_trap_stated(plan: &Plan, at: &Val, size: u8) -> bool
     plan.aln || aligned(at, size)
 }
 
-/// Tests K10 for an access of this size with only one address: true if that is aligned, or the plan
-/// states the trap.
+/// Tests K10's own part: true if the only address `x` is a multiple of `size`, or the plan states
+/// the trap of misaligned accesses.
 fn is_word_aligned_or_trap_stated(plan: &Plan, x: u32, size: u8) -> bool
     requires { IsShapeAccessSize size }
     ensures { IsTrue result
@@ -464,15 +464,15 @@ pub(crate) fn keeps_fixed_registers_in_load(dst: u8, base: Arg, after: bool) -> 
     may_write_register(dst) && keeps_fixed_base(base, after)
 }
 
-/// Tests K13 for a branch: true if it decrements no register, or one that isn't fixed.
+/// Tests K13 for a branch that compares register `x`: true unless `x` is fixed and decremented.
 pub(crate) fn keeps_fixed_registers_in_branch(x: u8, lowers: bool) -> bool
     ensures { IsTrue result ↔ (IsTrue lowers → RegisterHasValue x) }
 {
     !lowers || may_write_register(x)
 }
 
-/// Tests K13 for the base of a load or a store: true if the access doesn't increase it, or it isn't
-/// one of the fixed registers.
+/// Tests K13 for the base of a load or store: true if the access doesn't increase that, or the base
+/// isn't a fixed register.
 pub(crate) fn keeps_fixed_base(base: Arg, after: bool) -> bool
     ensures { IsTrue result ↔ IncreasesNoFixedRegister base after }
 {
@@ -482,8 +482,8 @@ pub(crate) fn keeps_fixed_base(base: Arg, after: bool) -> bool
     }
 }
 
-/// Tests K13 for one register: true unless it is one of the fixed ones, A0, A1, A8, A9 and A11, for
-/// which a state has no value.
+/// Tests K13 for a register, where D0 to D15 are 0 to 15 and A0 to A15 are 16 to 31. False for A0,
+/// A1, A8, A9 and A11.
 #[tactic(auto, unfolding(vd_transfer::specs::Registers::register_slot))]
 pub(crate) fn may_write_register(r: u8) -> bool
     ensures { IsTrue result ↔ RegisterHasValue r }

@@ -60,8 +60,8 @@ fn is_cached_set(v: &Val, words: &[u32]) -> bool
     }
 }
 
-/// Returns the operation of an instruction that the cache may keep: both operands are data
-/// registers whose values are Sets of many words. The result goes to a data register.
+/// Returns the operation of an instruction that the cache may keep. Operands and result are in data
+/// registers, and both operands are Sets of eight or more words.
 #[inline(always)]
 fn cacheable_operation(shape: Shape, s: &State) -> Option<SetOperation<'_>>
     ensures shape { IfSome result (λ o. o.shape ≡ shape) }
@@ -84,8 +84,8 @@ fn cacheable_operation(shape: Shape, s: &State) -> Option<SetOperation<'_>>
     })
 }
 
-/// Returns the words of a data register's value, if that is a Set of so many words that the cache
-/// keeps operations on them.
+/// Returns the words of a data register's value, if that is a Set of at least eight words, on which
+/// the cache keeps operations.
 fn cacheable_words(s: &State, r: Arg) -> Option<&[u32]>
     ensures { IfSome result (λ ws. IsSetOperand s.now r ws.now) }
 {

@@ -29,9 +29,8 @@ pub fn code_at(image: &Image, plan: &Plan, addr: u32) -> Option<(Inst, u32)>
     }
 }
 
-/// Returns four bytes of code from an address on, if one rom range and the image's segments have
-/// them. Segment number `near` is tried first; `near` becomes the number of the one that holds
-/// them.
+/// Returns the four bytes of code from an address on, if one rom range and the image's segments
+/// have them. Segment number `near` is tried first, and replaced by the one found.
 #[inline(always)]
 pub(crate) fn four_bytes_in_rom(
     image: &Image,
@@ -49,7 +48,7 @@ pub(crate) fn four_bytes_in_rom(
 }
 
 /// Returns the image's byte of code at an address, if a segment holds one. Segment number `near` is
-/// tried first; `near` becomes the number of the one that holds the byte.
+/// tried first, and replaced by the one found.
 #[inline(always)]
 pub(crate) fn code_byte_at(image: &Image, addr: u32, near: &mut usize) -> Option<u8>
     ensures { result ≡ image_byte image.now addr }
@@ -87,7 +86,7 @@ fn two_bytes_in_rom(image: &Image, plan: &Plan, addr: u32) -> Option<[u8; 2]>
     }
 }
 
-/// Returns whether `count` bytes from the address on are inside one rom range.
+/// Returns true if the `count` bytes from an address on are inside one rom range of the plan.
 #[inline(always)]
 pub fn are_bytes_in_rom(plan: &Plan, addr: u32, count: u32) -> bool
     ensures decides { IsTrue result ↔ IsInOneRange addr count plan.now.rom }
@@ -154,7 +153,7 @@ fn four_code_bytes_anywhere(image: &Image, addr: u32, near: &mut usize) -> Optio
     four_code_bytes_one_by_one(image, addr)
 }
 
-/// Returns four bytes of code from an address on, if segments of the image hold them. Each byte is
+/// Returns four bytes of code from an address on, if segments of the image hold them. Each is
 /// looked for by itself, since segments may meet within the four.
 #[inline(never)]
 fn four_code_bytes_one_by_one(image: &Image, addr: u32) -> Option<[u8; 4]>

@@ -6,8 +6,7 @@ use Rattle.csa_chain.specs.Chain.{link_in, link_address, area_word, chain}
 use Rattle.csa_chain.specs.ContextWordLaws.{ContextsStay}
 use Rattle.std.specs.FinMap as map
 
--- no link is on both chains, the used one and the free one, as the laws of a save and a restore
--- require
+-- no link is on both lists, the used and the free one, as the laws of a save and a restore require
 abbrev pub AreDisjoint : List ℕ → List ℕ → Type 0
 AreDisjoint used free = AllByRecursion (λ l. AllByRecursion (λ k. k ≢ l) used) free
 

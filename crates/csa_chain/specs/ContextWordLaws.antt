@@ -41,8 +41,8 @@ PcxiFieldsRoundTrip =
     × (link_in (pcxi_word_of core pcpn pie ul link) ≡ link)
     × (pcxi_word_of core pcpn pie ul link < 2 ^ 32)
 
--- what the laws of contexts require of registers and context words: the list has n words, all below
--- 2^32
+-- the list has n elements, all of them words below 2^32, such as registers or the words of a
+-- context
 abbrev pub IsListOfWords : ℕ → List ℕ → Type 0
 IsListOfWords n ws = (length ws ≡ n) × All (λ w. w < 2 ^ 32) ws
 

@@ -92,8 +92,8 @@ is_d_in_upper_context r = nat_le 8 r
 abbrev pub is_d_in_lower_context : ℕ → Bool
 is_d_in_lower_context r = nat_lt r 8
 
--- the words of an upper context have the register Ar, for r from 10 on; A11 is in both contexts,
--- A0, A1, A8 and A9 are in neither
+-- an upper context has the register Ar: r is 10 or more; A11 is in both contexts, A0, A1, A8 and A9
+-- are in neither
 abbrev pub is_a_in_upper_context : ℕ → Bool
 is_a_in_upper_context r = nat_le 10 r
 

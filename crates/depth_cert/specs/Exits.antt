@@ -11,8 +11,8 @@ use Rattle.std.specs.List.{All}
 use Rattle.depth_cert.specs.Points.{IsWellFormedCertValue}
 
 -- ---- exits
--- the values of the lower registers D0..D7 and A2..A7, which have the places 0 to 7 and 16 to 21 in
--- a state
+-- the values of the 14 lower registers D0..D7 and A2..A7, which have the slots 0 to 7 and 16 to 21
+-- in a state
 abbrev pub lower_values : List Val → List Val
 lower_values regs = take 8 regs ++ take 6 (drop 16 regs)
 
@@ -20,8 +20,8 @@ lower_values regs = take 8 regs ++ take 6 (drop 16 regs)
 abbrev pub exit_of_state : State → Exit
 exit_of_state s = record { ie = s.ie; ccpn = s.ccpn; lower = lower_values s.regs }
 
--- a state's values, from place i on, after a return by an exit of a certificate's node: those of
--- lower registers are the exit's
+-- a state's values, from slot i on, after a return by an exit: those of lower registers are the
+-- exit's, the others stay
 unfoldable pub values_after_return_from : ℕ → List Val → List Val → List Val
 values_after_return_from i lower [] = []
 values_after_return_from i lower (v ∷ vs) =
@@ -47,11 +47,12 @@ pub record ExitCovers (upper x : Exit) : Type 0 where
 abbrev pub joined_exit : Limits → Exit → Exit → Exit
 joined_exit b x y = record { ie = x.ie || y.ie; ccpn = min x.ccpn y.ccpn; lower = joined_regs b x.lower y.lower }
 
--- the exit to return if none can be read, without values
+-- what stands for an exit where none can be read; lower registers have no values
 abbrev pub no_exit : Exit
 no_exit = record { ie = false; ccpn = 0; lower = [] }
 
--- an exit that a certificate of the format can have: values of the 14 lower registers, and a CCPN
+-- an exit that a certificate of this format can have: 14 values of lower registers that the format
+-- can spell, and a CCPN below 256
 pub record IsExit (version : ℕ) (e : Exit) : Type 0 where
   pub lower : length e.lower ≡ 14
   pub values : All (IsWellFormedCertValue version) e.lower

@@ -62,10 +62,10 @@ pub record IsKey (k : Key) : Type 0 where
   pub entry : k.entry < 2 ^ 32
   pub prio : k.prio < 2 ^ 8
 
--- the comparison of keys in maps
+-- the equality by which maps compare keys
 abbrev pub key_eq : Key → Key → Bool
 key_eq = (block.ghosts).eq
 
--- the order of keys in sorting
+-- the order by which keys are sorted
 abbrev pub key_cmp : Key → Key → Ordering
 key_cmp = (order_block.ghosts).cmp

@@ -38,12 +38,12 @@ abbrev pub IsKnownState : Known → State → Type 0
 IsKnownState (state s) u = u ≡ s
 IsKnownState (leaving x) u = Unit {0}
 
--- no exit is known
+-- what is known at a place of a frame isn't an exit
 abbrev pub IsNotExit : Known → Type 0
 IsNotExit (state s) = Unit {0}
 IsNotExit (leaving x) = ⊥
 
--- the known exit, if any
+-- the exit that is known at a place of a frame; none for a state, or if nothing is known
 abbrev pub exit_if_known : Option Known → Option exits.Exit
 exit_if_known None = None
 exit_if_known (Some (state s)) = None

@@ -24,7 +24,7 @@ pub record IsNode (version : ℕ) (n : NodeData) : Type 0 where
   pub rising : AreAscendingPoints n.points
   pub points : All (IsPoint version) n.points
 
--- the need of a node, if there is one
+-- the need of a node in areas; 0 without a node
 abbrev pub need_or_zero : Option NodeData → ℕ
 need_or_zero None = 0
 need_or_zero (Some n) = n.need

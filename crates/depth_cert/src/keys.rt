@@ -17,7 +17,7 @@ pub const SYS: u8 = 3;
 /// The kind of frames of handlers of misaligned accesses.
 pub const ALN: u8 = 4;
 
-/// Returns the kind of a key of a certificate's nodes in letters, with a blank at its end.
+/// Returns the kind of a key in letters, `start`, `call`, `irq`, `sys` or `aln`, and a blank.
 #[tactic(auto, unfolding(crate::specs::Keys::key_kind_text))]
 #[inline]
 pub fn key_kind_text(kind: u8) -> &'static str

@@ -13,8 +13,8 @@ use tcd_base::{
     read_u32,
 };
 
-/// Reads the key of a certificate's node, or returns the first fault. `last` is the number of the
-/// key before, if there is one.
+/// Reads the key of a certificate's node, or returns the first fault. The key's number must be
+/// above `last`, that of the key before, if there is one.
 #[tactic(auto, unfolding(crate::specs::Grammar::key_after))]
 #[inline]
 pub fn read_key(c: &mut FileCursor<'_>, last: Option<u64>) -> Result<Key, FormErr>
@@ -43,8 +43,8 @@ pub fn read_key(c: &mut FileCursor<'_>, last: Option<u64>) -> Result<Key, FormEr
     })
 }
 
-/// Returns true if a certificate's node may have a key of this number: one above that of the node
-/// before, if there is one.
+/// Returns true if the number of a certificate's key is above `last`, the number of the key before,
+/// or if there is no key before.
 fn is_above_last_key(last: Option<u64>, number: u64) -> bool
     ensures { result ≡ is_above_last_read last number }
 {
@@ -70,7 +70,8 @@ pub fn read_need(c: &mut FileCursor<'_>) -> Result<u16, FormErr>
     Ok(need)
 }
 
-/// Reads whether a node of a kind has an exit. Only calls and system calls can have one.
+/// Reads whether a certificate's node of this kind has an exit. An exit is a `BAD_VALUE` unless the
+/// kind is that of calls or of system calls.
 #[tactic(auto, unfolding(crate::specs::Grammar::has_exit_at))]
 pub fn read_has_exit(c: &mut FileCursor<'_>, kind: u8) -> Result<bool, FormErr>
     ensures { ReadsField result c.old c.new (has_exit_at kind) }
@@ -97,8 +98,8 @@ pub fn read_exit(c: &mut FileCursor<'_>, version: u8, out: &mut Exit) -> Result<
     Ok(())
 }
 
-/// Reads the number of the points of a certificate's node. The nodes before have `used`; all
-/// together may have 65,536.
+/// Reads the number of points of a certificate's node, or returns the fault there. With the `used`
+/// points of the nodes before there may be at most 65,536.
 #[tactic(auto, unfolding(crate::specs::Grammar::point_count_at))]
 pub fn read_point_count(c: &mut FileCursor<'_>, used: usize) -> Result<u32, FormErr>
     requires used { used ≤ 2 ^ 16 }

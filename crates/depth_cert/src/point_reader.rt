@@ -24,8 +24,8 @@ pub fn read_locals(c: &mut FileCursor<'_>, version: u8) -> Result<ArrayVec<bool,
     read_flags(c, count)
 }
 
-/// Reads the address of a certificate's point, which must be above `last`, that of the point
-/// before, if there is one.
+/// Reads the address of a certificate's point, or returns the fault there. The address must be
+/// above `last`, that of the point before, if there is one.
 #[tactic(auto, unfolding(crate::specs::Grammar::address_after))]
 #[inline]
 pub fn read_address(c: &mut FileCursor<'_>, last: Option<u32>) -> Result<u32, FormErr>
@@ -57,8 +57,8 @@ fn read_flags(c: &mut FileCursor<'_>, count: u8) -> Result<ArrayVec<bool, 8>, Fo
     Ok(flags)
 }
 
-/// Returns true if a certificate's point may have this address: one above that of the point before,
-/// if there is one.
+/// Returns true if the address of a certificate's point is above `last`, that of the point before,
+/// or if there is no point before.
 fn is_above_last_address(last: Option<u32>, addr: u32) -> bool
     ensures { result ≡ is_above_last_read last addr }
 {

@@ -31,7 +31,8 @@ pub fn read_flag(c: &mut FileCursor<'_>) -> Result<bool, FormErr>
     Ok(byte == 1)
 }
 
-/// Reads the `n` words of a Set, at most `N`, from a certificate over `out`.
+/// Reads a Set of `n` ascending words from a certificate over `out`, or returns the first fault.
+/// `N` is the room for words while reading.
 #[tactic(auto, unfolding(crate::specs::Grammar::set_at))]
 #[inline(never)]
 fn read_set<const N: usize>(c: &mut FileCursor<'_>, n: usize, out: &mut Val) -> Result<(), FormErr>
@@ -77,7 +78,7 @@ pub fn read_value(c: &mut FileCursor<'_>, version: u8, out: &mut Val) -> Result<
     read_span(c, version, byte - SPAN, start, out)
 }
 
-/// Reads an abstract value of a certificate into each place of `out`, or returns the first fault.
+/// Reads an abstract value of this format into each element of `out`, or returns the first fault.
 #[tactic(auto, unfolding(crate::specs::Grammar::values_at))]
 pub fn read_values(c: &mut FileCursor<'_>, version: u8, out: &mut [Val]) -> Result<(), FormErr>
     ensures ok { OnOk result (values_at version (length out.old) c.old ≡ Ok (out.new, c.new)) }
@@ -90,7 +91,7 @@ pub fn read_values(c: &mut FileCursor<'_>, version: u8, out: &mut [Val]) -> Resu
     Ok(())
 }
 
-/// Reads a word of a Set from a certificate. The word must be above those before.
+/// Reads a word of a certificate's Set. One that isn't above the words before is a `BAD_VALUE`.
 #[tactic(auto, unfolding(crate::specs::Grammar::set_word_after))]
 fn read_set_word(c: &mut FileCursor<'_>, before: &[u32]) -> Result<u32, FormErr>
     ensures read { ReadsField result c.old c.new (set_word_after before.now) }
@@ -104,8 +105,7 @@ fn read_set_word(c: &mut FileCursor<'_>, before: &[u32]) -> Result<u32, FormErr>
     Ok(word)
 }
 
-/// Overwrites an abstract value with the Set of the ascending words that were read from a
-/// certificate.
+/// Overwrites `out` with the Set of these ascending words, which were read from a certificate.
 fn overwrite_with_set(words: &[u32], out: &mut Val)
     requires some { 1 ≤ length words.now }
     requires few { length words.now ≤ 128 }
@@ -115,8 +115,8 @@ fn overwrite_with_set(words: &[u32], out: &mut Val)
     set_words(out, words);
 }
 
-/// Returns true if a word may be the next one of a Set in a certificate: above those before, if
-/// there are any.
+/// Returns true if `x` is above the words of a certificate's Set that were read before, or if there
+/// are none.
 fn is_above_last_word(before: &[u32], x: u32) -> bool
     ensures { result ≡ is_above_last_read (last_number_read before.now) x }
 {

@@ -42,7 +42,7 @@ pub fn write_no_exit(out: &mut Vec<u8>) -> Result<(), NoMemory>
     write_cert_byte(out, 0)
 }
 
-/// Appends the bytes that spell a Set in a certificate: the number of its words, and these.
+/// Appends the bytes of a certificate's Set: one for the number of words, four for each word.
 #[tactic(auto, unfolding(crate::specs::Spelling::bytes_of_value))]
 fn write_set(out: &mut Vec<u8>, words: &[u32]) -> Result<(), NoMemory>
     requires { length words.now ≤ 128 }
@@ -52,7 +52,7 @@ fn write_set(out: &mut Vec<u8>, words: &[u32]) -> Result<(), NoMemory>
     write_set_words(out, words)
 }
 
-/// Appends the bytes that spell a Span: its step plus 240, and its ends; 0 for any word.
+/// Appends the bytes that spell a Span: 240 plus its step, and its ends; a byte 0 for all words.
 #[tactic(auto, unfolding(crate::specs::Spelling::bytes_of_value))]
 fn write_span(out: &mut Vec<u8>, lo: u32, last: u32, step: u8) -> Result<(), NoMemory>
     requires { step ≤ 2 }
@@ -74,7 +74,7 @@ fn write_cert_byte(out: &mut Vec<u8>, x: u8) -> Result<(), NoMemory>
     Ok(())
 }
 
-/// Appends the words of a Set to the bytes of a certificate, one after another.
+/// Appends the words of a Set to the bytes of a certificate, four bytes each, little-endian.
 fn write_set_words(out: &mut Vec<u8>, words: &[u32]) -> Result<(), NoMemory>
     ensures { OnOk result (out.new.items ≡ out.old.items ++ flat_map bytes_of_word words.now) }
 {

@@ -7,7 +7,7 @@ use Rattle.cfg_recover.specs.RulesHoldOrFail.{Accepts, certified_need}
 use Rattle.cfg_recover.specs.EdgeAndFrameLaws.{FramesHeld}
 use Rattle.cfg_recover.specs.EdgesAreOwed.{EdgesOwed}
 
--- a promise of every certificate that the rules accept
+-- a promise holds for every image, plan and certificate that the rules accept
 abbrev pub HoldsForAccepted : (ImageData → PlanData → CertData → Type 0) → Type 0
 HoldsForAccepted Promise =
     (image : ImageData) (plan : PlanData) (cert : CertData) → IsPlan plan → IsCert cert → Accepts image plan cert → Promise image plan cert

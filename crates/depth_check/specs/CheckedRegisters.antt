@@ -48,8 +48,8 @@ RegisterCallsHoldAt at called = IfSome called (RegisterCallsHold at.plan at.cert
 abbrev pub RegisterJumpsHoldAt : PointCheckData → Option ℕ → Type 0
 RegisterJumpsHoldAt at jumped = IfSome jumped (RegisterJumpsHold at.plan at.node at.point.state)
 
--- a call of this key's node holds, which enters it with the changed state and returns to this
--- address
+-- a call of the function with this key holds at the checked point, if the function is entered with
+-- this change and returns to `back`
 pub record CallHolds (at : PointCheckData) (entry : Change) (back : ℕ) (key : Key) : Type 0 where
   pub kind : key.kind ≡ call_kind
   pub holds : (q : ℕ) → DutiesHold at.cert at.node at.point.state (entry_and_return 5 key (state_after at.point.state entry) back) q

@@ -36,7 +36,7 @@ DutiesHold cert node s duties q = All (DutyHolds cert node s q) duties
 abbrev pub HasCoveringPoints : NodeData → State → List ℕ → Type 0
 HasCoveringPoints node s targets = All (λ t. HasCoveringPoint node t s) targets
 
--- where a frame of the entered node returns, at `back`, the node has a point that covers the state
+-- where the entered frame may return to `back`, the node has a point there that covers the state
 -- after the return
 abbrev pub IsReturnMet : NodeData → State → NodeData → ℕ → Option ℕ → Type 0
 IsReturnMet node s entered kind back = IfSome back (λ q. IfSome entered.exit (λ x. HasCoveringPoint node q (state_after_return s x kind)))

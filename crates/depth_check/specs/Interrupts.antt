@@ -30,7 +30,7 @@ pub record FitsContextExceptStack (context : InterruptContext) (node : NodeData)
   pub ccpn : context.ccpn ≡ s.ccpn
   pub spare : context.spare + length s.locals.items ≤ node.need
 
--- a state has this context and, on the interrupt stack, its A10 is below the context's
+-- a state fits the context apart from A10; on the interrupt stack, its A10 is below the context's
 pub record FitsContext (context : InterruptContext) (node : NodeData) (s : State) : Type 0 where
   pub like : FitsContextExceptStack context node s
   pub sp : IsTrue context.is → IsBelow (a10_of s) context.sp
@@ -39,8 +39,8 @@ pub record FitsContext (context : InterruptContext) (node : NodeData) (s : State
 abbrev pub InterruptsHold : PlanData → CertData → NodeData → State → Type 0
 InterruptsHold plan cert node s = (q : ℕ) → DutiesHold cert node s (interrupt_duties_of plan node.key s) q
 
--- the duties to enter handlers of interrupts, for a context that the checker keeps: those of all
--- that may be taken in a state, with this A10 instead of the state's
+-- the duties to enter the handlers of all interrupts that may be taken in a state, with this A10
+-- instead of the state's
 abbrev pub interrupt_entries_with_stack : PlanData → Key → State → Val → List Owed
 interrupt_entries_with_stack plan key s sp = map (λ p. owed 11 (enter (irq_key plan p) (state_with_stack (entry_stack_from_a10 plan key sp) false p true))) (possible_irqs_of plan s)
 

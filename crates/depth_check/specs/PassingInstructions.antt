@@ -8,14 +8,14 @@ use Rattle.tc_machine.specs.Instructions.{wrapping_sum}
 use Rattle.cfg_recover.specs.Code.{IsCode}
 use Rattle.cfg_recover.specs.LocalRules.{direct_target}
 
--- an instruction of this shape and size at p, a nop or a jump, changes nothing and has one
--- successor, this address
+-- an instruction of this shape and n bytes at p is a nop or a direct jump: nothing changes, and
+-- `next` is the only successor
 abbrev pub IsNopOrJump : ℕ → Shape → ℕ → ℕ → Type 0
 IsNopOrJump p Nothing n next = wrapping_sum p n ≡ next
 IsNopOrJump p (Jump to) n next = direct_target p to ≡ Some next
 IsNopOrJump p _ n next = ⊥
 
--- the instruction at p, a nop or a jump to one address, changes nothing, and goes on at `next`
+-- the instruction at p is a nop or a direct jump: nothing changes, and `next` is the only successor
 pub record HasNopOrJump (image : ImageData) (plan : PlanData) (p next : ℕ) : Type 0 where
   pub shape : Shape
   pub size : ℕ

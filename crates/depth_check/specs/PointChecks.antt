@@ -14,8 +14,8 @@ use Rattle.depth_check.specs.Interrupts.{InterruptsHold}
 use Rattle.depth_cert.specs.declared.points.Point.{Point}
 use Rattle.depth_check.specs.declared.points.CurrentPoint.{CurrentPoint}
 
--- the walk is over the node's points and at this state, and the next point, if found to cover a
--- state, does so
+-- the walk is over the node's points, with the state s at hand; where its next point covers a
+-- state, the node does
 pub record IsWalkAtState (node : NodeData) (s : State) (w : WalkData) : Type 0 where
   pub points : w.points ≡ node.points
   pub current : w.current ≡ s

@@ -92,7 +92,7 @@ pub(crate) fn rule_broken_by_interrupts(at: &PointCheck<'_, '_>) -> Option<u8>
 }
 
 /// Returns the least rule that the entries of these interrupts' handlers break. `entry` is the
-/// change at an entry, except for CCPN.
+/// change at an entry; its CCPN is replaced by each priority.
 pub(crate) fn rule_broken_by_irqs(at: &PointCheck<'_, '_>, irqs: &[u8], entry: Change) -> Option<u8>
     requires { AreWellFormed (state_after at.now.point.state entry).regs }
     ensures { FindsLeastBrokenByDuties at.now
@@ -108,8 +108,8 @@ pub(crate) fn rule_broken_by_irqs(at: &PointCheck<'_, '_>, irqs: &[u8], entry: C
     found
 }
 
-/// Returns the least rule that a checked point breaks by what its call or SYSCALL enters. `None`
-/// for other instructions.
+/// Returns the least rule that a checked point breaks by the frames that its call or SYSCALL
+/// enters; `None` for other instructions. `called` is a register whose calls are known to hold.
 fn rule_broken_by_call_or_syscall(
     at: &PointCheck<'_, '_>,
     shape: Shape,
@@ -131,8 +131,8 @@ fn rule_broken_by_call_or_syscall(
     }
 }
 
-/// Returns the least rule that a checked point breaks by the trap of a misaligned access, if the
-/// plan has that trap.
+/// Returns the least rule that a checked point breaks by the trap of a misaligned access. `None` if
+/// the plan has no such trap or the access is aligned.
 fn rule_broken_by_misaligned_access(at: &PointCheck<'_, '_>, found: &Located) -> Option<u8>
     requires { IsFaultlessShape at.now.bounds at.now.image at.now.plan
         at.now.node.key at.now.point.addr at.now.point.state found.now }
@@ -170,8 +170,8 @@ fn rule_broken_by_leaving(node: &Node<'_>, s: &State, shape: Shape) -> Option<u8
     }
 }
 
-/// Returns the least rule that a checked call breaks. Calls by the register `called`, known to hold
-/// in this state, are passed over.
+/// Returns the least rule that a checked call breaks. A call by the register `called`, whose calls
+/// hold in this state, is passed over if the next point has the same state.
 fn rule_broken_by_unchecked_call(
     at: &PointCheck<'_, '_>,
     to: Target,
@@ -204,8 +204,8 @@ fn rule_broken_by_unchecked_call(
     found
 }
 
-/// Returns the least rule that a checked SYSCALL breaks: by the entry of the handler, its need, or
-/// the point at `back`.
+/// Returns the least rule that a checked SYSCALL `tin` breaks: by the handler's entry, the need, or
+/// the point at `back`, where execution resumes.
 #[inline(never)]
 fn rule_broken_by_system_call(at: &PointCheck<'_, '_>, tin: u8, back: u32) -> Option<u8>
     ensures { FindsLeastBrokenByDuties at.now
@@ -218,8 +218,8 @@ fn rule_broken_by_system_call(at: &PointCheck<'_, '_>, tin: u8, back: u32) -> Op
     rule_broken_by_entry(at, NO_SYSTEM_CALL, &key, &entry, Some(back))
 }
 
-/// Returns the least rule that a checked call breaks: by the entries of the functions that may be
-/// called, their needs, or at `back`.
+/// Returns the least rule that a checked call breaks: by the called functions' entries, the need,
+/// or the point at `back`, where execution resumes.
 #[inline(never)]
 fn rule_broken_by_call(at: &PointCheck<'_, '_>, to: Target, back: u32) -> Option<u8>
     requires { IsTarget to }
@@ -236,8 +236,8 @@ fn rule_broken_by_call(at: &PointCheck<'_, '_>, to: Target, back: u32) -> Option
     }
 }
 
-/// Returns the least rule that calls of the functions at these addresses break; each returns to
-/// `back`.
+/// Returns the least rule that calls of the functions at these addresses break, with the change
+/// `entry` at their entries. Each returns to `back`.
 fn rule_broken_by_call_targets(
     at: &PointCheck<'_, '_>,
     entry: &Change,
@@ -260,8 +260,8 @@ fn rule_broken_by_call_targets(
     found
 }
 
-/// Returns the least rule that a call of one function breaks. After `held`, with the same entry and
-/// exit, only needs are compared.
+/// Returns the least rule that a call of the node with this key breaks. If its entry state and exit
+/// are those of `held`, a call that holds, only needs are compared.
 fn rule_broken_by_called_node(
     at: &PointCheck<'_, '_>,
     key: &Key,
@@ -312,8 +312,8 @@ fn rule_broken_by_calli(
     rule_broken_by_call_targets(at, entry, targets.as_slice(), back)
 }
 
-/// Returns the least rule that the entry of a frame breaks: `rule` if no node covers the changed
-/// state, K14, or K4 at `back`.
+/// Returns the least rule that a frame's entry breaks: `rule` if no node covers the changed state,
+/// K14 for needs, K4 for `back`.
 fn rule_broken_by_entry(
     at: &PointCheck<'_, '_>,
     rule: u8,
@@ -350,8 +350,8 @@ fn has_need_for_entry(node: &Node<'_>, s: &State, entered: &Node<'_>) -> bool
     s.locals.len() + 1 + usize::from(entered.need) <= usize::from(node.need)
 }
 
-/// Returns whether the node has a point at `back` that covers the state after the entered frame's
-/// return, as K4 asks. True without `back`.
+/// Returns true if the node's point at `back` covers the state after the entered frame's return, as
+/// K4 asks. Also true without `back` or without an exit.
 fn is_return_met(
     node: &Node<'_>,
     s: &State,
@@ -383,8 +383,8 @@ fn rule_broken_by_aln_entry(at: &PointCheck<'_, '_>) -> Option<u8>
     rule_broken_by_entry(at, NO_MISALIGNED, &key, &entry, None)
 }
 
-/// Returns the least rule that the handlers' entries break for all interrupts that may be taken at
-/// a checked point.
+/// Returns the least rule that entries of handlers break, for `irqs`, all interrupts that may be
+/// taken at a checked point.
 #[inline(never)]
 fn rule_broken_by_possible_irqs(at: &PointCheck<'_, '_>, irqs: &[u8]) -> Option<u8>
     requires { irqs.now ≡ possible_irqs_of at.now.plan at.now.point.state }

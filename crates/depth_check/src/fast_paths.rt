@@ -25,9 +25,8 @@ use tc_isa::Shape;
 use tcd_base::is_in_one_range;
 use tcd_plan::Plan;
 
-/// The address after an instruction that only passes the state on, if the next point has the same
-/// state. Such an instruction breaks no rule by itself and changes nothing. Without decoding nop16
-/// this spares 75 instructions if its word was decoded lately, else 330.
+/// Returns the address after the checked point's nop or direct jump, if the next point has the same
+/// state, else `None`. A nop16 isn't decoded, which spares 75 to 330 instructions.
 pub(crate) fn next_after_nop_or_jump(at: &PointCheck<'_, '_>, codes: &mut KnownCodes) -> Option<u32>
     ensures { IfSome result (HasNopOrJump at.now.image at.now.plan at.now.point.addr) }
 {
@@ -58,8 +57,8 @@ pub(crate) fn next_after_nop_or_jump(at: &PointCheck<'_, '_>, codes: &mut KnownC
     }
 }
 
-/// Returns true only if an instruction of this shape changes no state, so that the checker compares
-/// the state before the instruction.
+/// Returns true only if an instruction of this shape leaves every state unchanged, so that no
+/// change has to be computed.
 pub(crate) fn may_skip_change(shape: Shape) -> bool
     ensures { IsTrue result → (b : Limits) (plan : PlanData) (s : State) (loaded : Val)
         → transfer_of b plan shape s loaded ≡ s }
@@ -71,8 +70,8 @@ pub(crate) fn may_skip_change(shape: Shape) -> bool
     }
 }
 
-/// Returns true only if both sides of this branch allow no more than the state before, so that the
-/// checker needn't refine values first.
+/// Returns true only if each side of this branch allows no more than the state before, so that
+/// covering that state suffices for both sides.
 pub(crate) fn may_skip_refinement(shape: Shape) -> bool
     ensures { IsTrue result → (b : Limits) (plan : PlanData) (s : State) (side : Bool)
         → AreInLattice b s.regs → IfSome (refine_of b plan shape s side) (Covers s) }
@@ -83,9 +82,8 @@ pub(crate) fn may_skip_refinement(shape: Shape) -> bool
     }
 }
 
-/// Whether the instruction is nop16, at an address with byte 00: the bytes are 00 00, the address
-/// is even, and one ROM range holds both. By its word in `KnownCodes` it takes 30 more instructions
-/// of the host.
+/// Returns true only if the instruction at this address, whose byte is 00, is nop16: 00 00 at an
+/// even address, in one ROM range. Decoding takes 30 instructions more.
 fn is_nop16(image: &Image, plan: &Plan, addr: u32, codes: &mut KnownCodes) -> bool
     requires { image_byte image.now addr ≡ Some 0 }
     ensures { IsTrue result → IsCode image.now plan.now addr Nothing 2 }

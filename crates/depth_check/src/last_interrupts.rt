@@ -24,7 +24,7 @@ pub(crate) struct LastInterrupts {
 }
 
 impl LastInterrupts {
-    /// Returns no interrupt contexts: before any point of a certificate is checked.
+    /// Returns a cache without interrupt contexts, as before the first point is checked.
     pub(crate) fn empty() -> LastInterrupts
         ensures { (plan : PlanData) (cert : CertData) → LastInterruptsHold plan cert result }
     {
@@ -51,8 +51,8 @@ impl LastInterrupts {
         context_covers(&self.before, node, s)
     }
 
-    /// Returns the join of the last kept context's A10 with the state's, if the state needs more
-    /// only because of A10, or `None`.
+    /// Returns the join of the last kept context's A10 with the state's, if the state fits that
+    /// context except for A10; else `None`.
     fn joined_stack(&self, b: &Bounds, node: &Node<'_>, s: &State) -> Option<Val>
         requires last { IfSome self.now.last (λ a. IsInLattice b.now a.sp) }
         requires values { AreInLattice b.now s.now.regs }
@@ -114,8 +114,8 @@ impl InterruptContext {
         }
     }
 
-    /// Returns whether a state of the node has this interrupt context, apart from A10, with no
-    /// fewer areas left.
+    /// Returns true only if a state of the node has this context's stack in use, IE and CCPN, and
+    /// leaves at least as many areas. A10 isn't compared.
     fn fits_except_stack(&self, node: &Node<'_>, s: &State) -> bool
         ensures { IsTrue result → FitsContextExceptStack self.now node.now s.now }
     {
@@ -126,8 +126,8 @@ impl InterruptContext {
     }
 }
 
-/// Returns true only if handlers' entries that hold in this interrupt context hold in the state
-/// too.
+/// Returns true only if there is an interrupt context, and entries of handlers that hold in that
+/// context hold in this state of the node.
 fn context_covers(context: &Option<InterruptContext>, node: &Node<'_>, s: &State) -> bool
     requires own { IfSome context.now (λ a. IsWellFormed a.sp) }
     requires stack { IsWellFormed (a10_of s.now) }

@@ -36,8 +36,8 @@ pub(crate) fn has_covering_points(at: &PointCheck<'_, '_>, targets: &[u32]) -> b
     true
 }
 
-/// Returns true if the node has a point at this address that covers the checked point's own state,
-/// of which the walk may know.
+/// Returns true if the node has a point at this address that covers the checked point's own state.
+/// Nothing is compared for a next point with that state.
 pub(crate) fn is_own_state_covered(at: &PointCheck<'_, '_>, addr: u32) -> bool
     ensures { IsTrue result ↔ HasCoveringPoint at.now.node addr at.now.point.state }
 {
@@ -47,8 +47,8 @@ pub(crate) fn is_own_state_covered(at: &PointCheck<'_, '_>, addr: u32) -> bool
     at.point.walk.is_covered_at(addr)
 }
 
-/// Returns true if the node has a point at this address that covers the checked point's state
-/// unchanged. `c` may be overwritten.
+/// Returns true if the node has a point at this address that covers the checked branch's state,
+/// unrefined. The walk's next point is tried first; `c` is room.
 pub(crate) fn is_kept_state_covered(at: &PointCheck<'_, '_>, addr: u32, c: &mut Change) -> bool
     ensures { IsTrue result ↔ HasCoveringPoint at.now.node addr at.now.point.state }
 {
@@ -59,8 +59,8 @@ pub(crate) fn is_kept_state_covered(at: &PointCheck<'_, '_>, addr: u32, c: &mut 
     at.point.walk.is_covered_by_next(addr, c) || is_own_state_covered(at, addr)
 }
 
-/// Returns whether the certificate's node has a point at this address that covers the state after a
-/// change.
+/// Returns true if the certificate's node has a point at this address that covers the state `s`
+/// after the change `c`.
 pub(crate) fn has_changed_point(node: &Node<'_>, addr: u32, s: &State, c: &Change) -> bool
     requires { AreWellFormed (state_after s.now c.now).regs }
     ensures { IsTrue result ↔ HasCoveringPoint node.now addr (state_after s.now c.now) }
@@ -81,8 +81,8 @@ pub(crate) fn is_changed_state_covered(at: &PointCheck<'_, '_>, addr: u32, c: &C
     at.point.walk.is_covered_by_next(addr, c) || has_changed_point(at.node, addr, at.point.state, c)
 }
 
-/// Returns whether the node has a point at `at` that covers the state after the entered frame's
-/// return. True if that frame has no exit.
+/// Returns true if the node has a point at `at` that covers the state after the entered frame's
+/// return. Also true if that frame has no exit.
 pub(crate) fn has_point_after_return(
     node: &Node<'_>,
     at: u32,

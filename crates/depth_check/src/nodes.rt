@@ -93,8 +93,8 @@ pub(crate) fn first_node_fault<'a>(
     }
 }
 
-/// Returns the first of two faults of a node: of a checked point, and, unless `good`, of K2 at the
-/// entry if that isn't later.
+/// Returns the first fault of a node up to the point `addr`: K2 at `entry`, unless `good`, or the
+/// rule `found` at `addr`. `None` if there is none.
 fn earlier_node_fault(good: bool, entry: u32, addr: u32, found: Option<u8>) -> Option<Fault>
     ensures { result ≡ nodes.earlier_node_fault good entry addr found }
 {
@@ -120,13 +120,13 @@ fn node_entry_fault(entry: u32) -> Fault
     }
 }
 
-/// Establishes that the address of a checked point is below 2^32, as its type says.
+/// Establishes for proofs that the address of a checked point is below 2^32, as its type says.
 fn point_address_fits_word(addr: u32)
     ensures { addr < 2 ^ 32 }
 {}
 
-/// Returns true if K2 holds at a node's entry: a point stands there, and the values of the exit, if
-/// any, are the plan's.
+/// Returns true if K2 holds at a node's entry: a point is there, and the exit's values, if any, are
+/// of the plan's lattice.
 pub(crate) fn entry_rule_holds(b: &Bounds, node: &Node<'_>) -> bool
     ensures { IsTrue result ↔ EntryRuleHolds b.now node.now }
 {

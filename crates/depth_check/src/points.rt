@@ -79,7 +79,8 @@ pub(crate) struct PointScratch {
     pub(crate) registers: CheckedRegisters,
 }
 
-/// Returns a change that puts nothing: room that checks of points write their changes into.
+/// Returns a change as room, to be overwritten before use: no register is set, IE is off, CCPN is
+/// 0, and there are no locals.
 #[inline(always)]
 pub(crate) fn blank_change() -> Change {
     Change {
@@ -123,8 +124,8 @@ pub(crate) fn rule_broken_at(at: &PointCheck<'_, '_>, scratch: &mut PointScratch
     lesser_broken_rule(lesser_broken_rule(jump, irqs), need)
 }
 
-/// Writes to `scratch.change` what the checked point's instruction changes in its state. The cache
-/// may have the result.
+/// Writes to `scratch.change` how the checked point's instruction changes its state. The result of
+/// an operation on two sets may come from the cache.
 #[inline(always)]
 pub(crate) fn write_change_at(at: &PointCheck<'_, '_>, found: &Located, scratch: &mut PointScratch)
     requires found { IsFaultlessShape at.now.bounds at.now.image at.now.plan
@@ -156,8 +157,8 @@ pub(crate) fn write_change_at(at: &PointCheck<'_, '_>, found: &Located, scratch:
     );
 }
 
-/// Returns the point to be checked, where the walk over the node stands. If `known`, the point
-/// before had values of the plan.
+/// Returns the point at `addr`, where the walk stands, with facts for the fast paths. `known` is
+/// true only if the point before had values of the plan.
 #[inline(always)]
 pub(crate) fn point_of_walk<'b>(
     b: &Bounds,
@@ -189,8 +190,8 @@ pub(crate) fn point_of_walk<'b>(
     }
 }
 
-/// Returns true if each of these register values, of a checked point or an exit, is a value of the
-/// plan, as K2 asks.
+/// Returns true if each of these register values is in the lattice of the plan and the format, as
+/// K2 asks.
 pub(crate) fn are_in_lattice(b: &Bounds, vs: &[Val]) -> bool
     ensures { IsTrue result ↔ AreInLattice b.now vs.now }
 {
@@ -202,7 +203,7 @@ pub(crate) fn are_in_lattice(b: &Bounds, vs: &[Val]) -> bool
     true
 }
 
-/// Returns whether all values of the checked point's state are values of the plan, as K2 asks.
+/// Returns true if all values of the checked point's state are in the lattice, as K2 asks.
 pub(crate) fn is_point_in_lattice(b: &Bounds, point: CurrentPoint<'_>) -> bool
     requires { IsTrue point.known → AreInLattice b.now point.state.now.regs }
     ensures { IsTrue result ↔ AreInLattice b.now point.entry.state.now.regs }

@@ -1,4 +1,4 @@
-// The rules that are tested here, by what fails. `check_located` of cfg_recover tests the others.
+// The rules that are tested here, by what fails. `check_decoded` of cfg_recover tests the others.
 ghost use Rattle.std.specs.Prelude.{◌≡◌, ◌↔◌, IsTrue};
 ghost use Rattle.depth_check.specs.LeastBroken as finding;
 ghost use Rattle.depth_check.specs.DutiesHold.{HasNeedForPoint};
@@ -47,8 +47,8 @@ pub(crate) fn lesser_broken_rule(a: Option<u8>, b: Option<u8>) -> Option<u8>
     }
 }
 
-/// Returns whether the node's need has room for the checked point's locals and, at the start's
-/// entry, leaves the reserve free: K14.
+/// Returns true if K14's own part holds: the node's need covers the checked point's locals and, at
+/// the start's entry, leaves the reserve free.
 pub(crate) fn has_need_for_point(at: &PointCheck<'_, '_>) -> bool
     ensures { IsTrue result ↔ HasNeedForPoint at.now.image at.now.plan at.now.node at.now.point }
 {

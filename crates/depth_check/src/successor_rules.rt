@@ -52,7 +52,7 @@ pub(crate) fn rule_broken_by_successors(
     }
 }
 
-/// Returns K4 if the node doesn't cover one of the two sides of a checked branch.
+/// Returns K4 if the node doesn't cover a side of a checked branch: `next` if not taken, else `to`.
 #[inline(never)]
 fn rule_broken_by_branch(
     at: &PointCheck<'_, '_>,
@@ -110,8 +110,8 @@ fn rule_broken_by_next(
     rule_broken_by_changed_state(at, found, scratch)
 }
 
-/// Returns K4 if the node doesn't cover a possible side of a checked branch. A point that covers
-/// the unrefined state suffices.
+/// Returns K4 if the node doesn't cover this side of a checked branch, which goes to `to`. A point
+/// that covers the unrefined state suffices, if the branch only refines.
 fn rule_broken_by_branch_side(
     at: &PointCheck<'_, '_>,
     shape: Shape,
@@ -132,8 +132,8 @@ fn rule_broken_by_branch_side(
     rule_broken_by_refined_side(at, shape, taken, to, c)
 }
 
-/// Returns K4 if the node doesn't cover a side of a checked branch, with the refined state. `None`
-/// if the side isn't possible.
+/// Returns K4 if the node has no point at `to` that covers the refined state on a side of a checked
+/// branch. `None` also for an impossible side.
 #[inline(never)]
 fn rule_broken_by_refined_side(
     at: &PointCheck<'_, '_>,
@@ -152,8 +152,8 @@ fn rule_broken_by_refined_side(
     broken_rule_unless(is_changed_state_covered(at, to, c), NO_POINT)
 }
 
-/// Returns K4 if the node doesn't cover a target of a jump by a register, unless jumps by `jumped`
-/// are known to hold.
+/// Returns K4 if the node doesn't cover a target of a jump by the register `r`. Jumps by the
+/// register `jumped` are known to hold and passed over.
 #[inline(never)]
 fn rule_broken_by_ji(at: &PointCheck<'_, '_>, r: u8, jumped: &mut Option<u8>) -> Option<u8>
     requires register { r < 32 }

@@ -11,7 +11,7 @@ use Rattle.depth_maker.specs.declared.covered.CoveredEntries.{CoveredEntries}
 use Rattle.depth_maker.specs.declared.last_call.LastCall.{LastCall}
 use Rattle.depth_cert.specs.Keys.{call_kind}
 
--- the frame of the function at this address, as a covered call enters it
+-- the key of the frame of the function at this address, as a noted call enters it
 abbrev pub called_key : LastCall → ℕ → Key
 called_key h t = record { kind = call_kind; entry = t; prio = h.prio; is = h.is }
 
@@ -20,7 +20,7 @@ pub record AreCallsCovered (b : Limits) (a : Assignment) (h : LastCall) : Type 0
   pub well_formed : IsWellFormedKnown b h.entry
   pub each : (t : ℕ) → Contains h.targets.items t → AssignmentCovers a (point (called_key h t) t) h.entry
 
--- a call of these functions, from a frame of this key, with this state at their entries
+-- a call of these functions, from a frame of this key's priority and stack, with this entry state
 pub record IsCallOf (h : LastCall) (k : Key) (ts : List ℕ) (v : Known) : Type 0 where
   pub targets : h.targets.items ≡ ts
   pub prio : h.prio ≡ k.prio

@@ -47,7 +47,7 @@ pub record IsOwedBelow (d e : Owed) : Type 0 where
   pub rule : d.rule ≡ e.rule
   pub duty : IsDutyBelow d.duty e.duty
 
--- what the maker is given is well-formed: the limits of values, the image and the plan
+-- the maker's inputs are well-formed: the limits of values, the image and the plan
 pub record AreMakerInputs (b : Limits) (image : ImageData) (plan : PlanData) : Type 0 where
   pub limits : AreLimits b
   pub is_plan : IsPlan plan

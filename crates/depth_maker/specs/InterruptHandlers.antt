@@ -19,7 +19,7 @@ use Rattle.frame_places.specs.Numbers.{AreFrameNumbers, frame_number_in}
 use Rattle.depth_maker.specs.declared.interrupt_handlers.Handler.{Handler}
 use Rattle.depth_maker.specs.declared.table.Table as made
 
--- the stack pointer at the entries of the interrupt handlers in a context that the maker notes
+-- the value of A10 at the entries of the interrupt handlers, from a context that the maker notes
 abbrev pub context_stack : PlanData → InterruptContext → Val
 context_stack plan h = if h.is then h.sp else word_val plan.isp
 
@@ -43,7 +43,8 @@ IsContextCovered b plan a interrupts = IfSome interrupts (AreHandlersCovered b p
 abbrev pub AreContextsCovered : Limits → PlanData → Assignment → LastInterrupts → Type 0
 AreContextsCovered b plan a interrupts = IsContextCovered b plan a interrupts.last × IsContextCovered b plan a interrupts.before
 
--- the interrupt context of a frame with this state: the stack in use, A10 and CCPN
+-- the interrupt context of a frame with this state, on the interrupt stack if `inner`: that stack,
+-- A10 and CCPN
 pub record IsContextOf (h : InterruptContext) (inner : Bool) (s : State) : Type 0 where
   pub same : h.is ≡ inner
   pub sp : h.sp ≡ a10_of s
@@ -55,7 +56,7 @@ pub record IsEqualExceptStack (h : InterruptContext) (inner : Bool) (s : State) 
   pub same : h.is ≡ inner
   pub ccpn : h.ccpn ≡ s.ccpn
 
--- the maker's noted context of interrupts, with its A10 joined with another
+-- the noted interrupt context h with its A10 joined with the value v
 abbrev pub joined_context : Limits → InterruptContext → Val → InterruptContext
 joined_context b h v = record h { sp = join_of b h.sp v }
 
@@ -76,8 +77,8 @@ pub record AreHandlersOfIrqs (plan : PlanData) (frames : List Key) (irqs : List 
 abbrev pub handler_nodes_above : ℕ → List Handler → List ℕ
 handler_nodes_above m handlers = map (λ h. h.node) (filter (λ h. nat_lt m h.prio) handlers)
 
--- the numbers of the frames of the interrupt handlers that may be entered: those above a priority,
--- or none if IE is off
+-- the frame numbers of the interrupt handlers that may be entered: those above a priority if IE is
+-- on, else none
 abbrev pub taken_handlers : Bool → ℕ → List Handler → List ℕ
 taken_handlers ie m handlers = if ie then handler_nodes_above m handlers else []
 

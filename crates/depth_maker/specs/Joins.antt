@@ -76,7 +76,7 @@ pub record JoinsNothing (g : Ground) (s t : made.Table) : Type 0 where
 abbrev pub FlowsInto : Ground → made.Table → Spot → Known → Type 0
 FlowsInto g t y v = AsksFor g.bounds.now g.image.now g.plan.now (view_of_table t).cells (place_of_spot y) v
 
--- v was joined at the place y of the maker's table, and no other place changed
+-- v was joined at the place y of the maker's table, for these inputs, and no other place changed
 abbrev pub RaisesOnlyPlaceForInputs : Ground → made.Table → made.Table → Spot → Known → Type 0
 RaisesOnlyPlaceForInputs g s t y v = RaisesOnlyPlace g.bounds.now s t y v
 

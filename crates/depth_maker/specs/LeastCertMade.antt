@@ -21,8 +21,8 @@ use Rattle.cfg_recover.specs.CertRefusals.{IsLeastAssignment, AreSufficientNeeds
 use Rattle.depth_cert.specs.Spelling.{bytes_of_cert}
 use Rattle.value_domain.specs.Limits.{Limits}
 
--- the needs that a certificate states for its frames, which are the least in the least certificate;
--- a frame without a node needs nothing
+-- the need that a certificate states for a frame, the least in the least certificate; 0 for a frame
+-- without a node
 abbrev pub need_in_cert : CertData → Key → ℕ
 need_in_cert cert k = need_or_zero (find (λ n. is_same_key n.key k) cert.nodes)
 
@@ -32,8 +32,7 @@ pub record IsNoWorse (image : ImageData) (plan : PlanData) (cert other : CertDat
   pub below : IsAssignmentBelow (assignment_of_cert cert) (assignment_of_cert other)
   pub needs : (k : Key) → need_in_cert cert k ≤ need_in_cert other k
 
--- what the least certificate states as the needs of its frames: the least numbers of areas that
--- meet the needs of its assignment
+-- these needs of frames meet the needs of an assignment, and are the least numbers of areas that do
 pub record AreLeastNeeds (b : Limits) (image : ImageData) (plan : PlanData) (a : Assignment) (need : Key → ℕ) : Type 0 where
   pub meets : AreSufficientNeeds b image plan a need
   pub least : (other : Key → ℕ) → AreSufficientNeeds b image plan a other → (k : Key) → need k ≤ other k

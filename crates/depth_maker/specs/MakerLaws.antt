@@ -116,6 +116,6 @@ RefusalMeansNoCertAccepted =
     (image : ImageData) (plan : PlanData) (version r : ℕ) (k : Key) (p : ℕ) → AreMakerInputs (limits_for plan version) image plan → image.entry < 2 ^ 32
     → IsRefusal image plan version r k p → IsNoCertAccepted image plan version
 
--- law of the maker: each certificate that is made is a least accepted one
+-- law of the maker: the least certificate of a format is a least accepted one
 abbrev pub LeastCertIsLeastAccepted : Type 0
 LeastCertIsLeastAccepted = (image : ImageData) (plan : PlanData) (version : ℕ) (cert : CertData) → IsLeastCert image plan version cert → IsLeastAcceptedCert image plan version cert

@@ -71,7 +71,7 @@ IsRowOfTablePoint s k p row =
     (u : State) × ((view_of_table s.table.now).cells (point k p) ≡ Some (state u))
     × IsRowOfPoint (s.ground.now).bounds.now (s.ground.now).image.now (s.ground.now).plan.now (s.table.now).frames.items k p u row
 
--- what the maker's table has for this point: its value with its mark, and the number of its frame
+-- the point is as the maker's table has it: its value with its mark, and the number of its frame
 pub record IsTablePoint (s : Source) (at : KnownPoint) : Type 0 where
   pub known : get spot_eq (s.table.now).places (Point at.key at.addr) ≡ Some at.known.now
   pub node : at.node ≡ frame_number_in (s.table.now).frames.items at.key

@@ -36,11 +36,11 @@ abbrev pub addresses_in_frame : List Spot → Key → List ℕ
 addresses_in_frame ps k = map spot_address (filter (is_point_of k) ps)
 
 -- ---- nodes
--- in the certificate that spells the maker's table: a state without values, where none is known
+-- the state without values or locals that stands in where no state is known
 abbrev pub blank_state : State
 blank_state = record { regs = []; ie = false; ccpn = 0; lower = false; locals = record { items = [] } }
 
--- the state that the spelled certificate has for a point: the known one
+-- the known state at a point, or the blank state if none is known
 abbrev pub state_or_blank : Option Known → State
 state_or_blank None = blank_state
 state_or_blank (Some (state s)) = s
@@ -54,11 +54,11 @@ point_of_assignment a k p = record { addr = p; state = state_or_blank (a (point 
 abbrev pub node_of_assignment : Assignment → (Key → ℕ) → (Key → List ℕ) → Key → NodeData
 node_of_assignment a need addresses k = record { key = k; need = need k; exit = exit_if_known (a (exit k)); points = map (point_of_assignment a k) (addresses k) }
 
--- the certificate that spells an assignment and needs, with the nodes of these frames
+-- the certificate of an assignment and needs, with the nodes of these frames
 abbrev pub cert_of_assignment : ℕ → Assignment → (Key → ℕ) → (Key → List ℕ) → List Key → CertData
 cert_of_assignment version a need addresses ks = record { version = version; nodes = map (node_of_assignment a need addresses) ks }
 
--- each CCPN in a node of the spelled certificate is a byte
+-- each CCPN in a certificate's node is a byte
 pub record HasByteCcpns (n : NodeData) : Type 0 where
   pub exit : IfSome n.exit (λ e. e.ccpn < 2 ^ 8)
   pub points : All (λ p. (p.state).ccpn < 2 ^ 8) n.points

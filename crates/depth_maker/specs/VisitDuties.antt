@@ -56,7 +56,7 @@ OwesDuties v ds = (d : Owed) → Contains ds d → VisitedPointOwes (v.ground.no
 abbrev pub JoinedBy : Visit → made.Table → made.Table → List Owed → Type 0
 JoinedBy v s t ds = AreDutiesJoined (v.ground.now).bounds.now (v.ground.now).image.now (v.ground.now).plan.now s t v.key v.addr v.state.now ds
 
--- the located instruction stands at the visited point, and no rule's own part fails there
+-- the located instruction stands at the visited point, and breaks no rule with the point's state
 abbrev pub IsFaultlessInstruction : Visit → Located → Type 0
 IsFaultlessInstruction v found = IsFaultlessShape (v.ground.now).bounds.now (v.ground.now).image.now (v.ground.now).plan.now v.key v.addr v.state.now found
 
@@ -64,7 +64,7 @@ IsFaultlessInstruction v found = IsFaultlessShape (v.ground.now).bounds.now (v.g
 abbrev pub side_state : Visit → Shape → Bool → Option State
 side_state v shape taken = refine_of (v.ground.now).bounds.now (v.ground.now).plan.now shape v.state.now taken
 
--- the state after an instruction of this shape
+-- the visited point's state after an instruction of this shape
 abbrev pub state_after_step : Visit → Shape → State
 state_after_step v shape =
     transfer_of (v.ground.now).bounds.now (v.ground.now).plan.now shape v.state.now (value_loaded_by_shape (v.ground.now).bounds.now (v.ground.now).image.now (v.ground.now).plan.now v.state.now shape)

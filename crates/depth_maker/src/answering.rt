@@ -53,7 +53,8 @@ impl From<tcd_base::NoMemory> for MakeErr {
     }
 }
 
-/// Returns the least certificate of format 1 or 2 that the rules accept, or why none is accepted.
+/// Returns the least certificate of format `version` that the rules accept, or why none is
+/// accepted.
 pub fn make(alloc: Global, image: &Image, plan: &Plan, version: u8) -> Result<Cert, MakeErr>
     requires { (version ≡ 1) ⊎ (version ≡ 2) }
     ensures made { IfOk result (IsLeastCert image.now plan.now version) }
@@ -85,8 +86,8 @@ fn make_bytes(alloc: Global, image: &Image, plan: &Plan, version: u8) -> Result<
     make_bytes_within_limits(alloc, &ground, version)
 }
 
-/// Returns the bytes of the least certificate under an image, a plan and the limits of a format, or
-/// why no certificate is accepted.
+/// Returns the bytes of the least certificate for the image, plan and limits in `ground`, or why no
+/// certificate is accepted.
 fn make_bytes_within_limits(alloc: Global, ground: &Ground, version: u8) -> Result<Vec<u8>, MakeErr>
     requires version { (version ≡ 1) ⊎ (version ≡ 2) }
     requires limits { HasLimitsOfFormat ground.now version }
@@ -99,8 +100,8 @@ fn make_bytes_within_limits(alloc: Global, ground: &Ground, version: u8) -> Resu
     }
 }
 
-/// Returns the bytes of the least certificate from the maker's finished table, or a refusal by K14
-/// if the start needs too many areas.
+/// Numbers a finished table's frames, and returns the bytes of the least certificate, or a refusal
+/// by K14 if the start needs too many areas.
 fn cert_bytes_from_table(
     alloc: Global,
     ground: &Ground,
@@ -143,8 +144,8 @@ fn make_err_from_refusal(_ground: &Ground, refusal: Refusal) -> MakeErr
     }
 }
 
-/// Computes the least needs of the frames of a finished table, and returns the certificate's bytes,
-/// or a refusal by K14.
+/// Returns the certificate's bytes of a finished table with its frames' least needs, or a refusal
+/// by K14 if the start needs too many areas.
 fn cert_bytes_with_needs(alloc: Global, source: &Source, version: u8) -> Result<Vec<u8>, MakeErr>
     requires source { IsRowSource source.now }
     requires version { (version ≡ 1) ⊎ (version ≡ 2) }

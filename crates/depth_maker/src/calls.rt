@@ -22,8 +22,8 @@ use tc_isa::Target;
 use value_domain::State;
 use vd_transfer::Change;
 
-/// Joins, at a visited CALL, CALLA or CALLI, the state at each called function's entry and the
-/// state after each return to `back`.
+/// Joins what a visited CALL, CALLA or CALLI owes: the state at each called function's entry, and
+/// the state after each return to `back`. `c` is overwritten.
 pub(crate) fn join_call_duties(
     alloc: Global,
     table: &mut Table,
@@ -61,8 +61,8 @@ fn write_call_entry_change(c: &mut Change, s: &State)
     c.locals = ArrayVec::new();
 }
 
-/// Joins, at a visited CALLI, the entries of all functions that its register may name, and the
-/// states after they return to `back`.
+/// Joins, at a visited CALLI, the state at the entry of each function that may be called, and the
+/// states after returns to `back`.
 #[inline(never)]
 fn join_indirect_calls(
     alloc: Global,
@@ -86,8 +86,8 @@ fn join_indirect_calls(
     join_call_returns(alloc, table, v, targets.as_slice(), back)
 }
 
-/// Joins the state at the entries of the functions that a visited CALLI may call, unless a noted
-/// call shows that these are covered.
+/// Joins the state at the entries of the functions that a visited CALLI may call. `entry` is the
+/// change by a call. Joins nothing if a noted call shows that the entries are covered.
 fn join_indirect_call_entries(
     alloc: Global,
     table: &mut Table,
@@ -132,8 +132,8 @@ fn join_call_returns(
     Ok(())
 }
 
-/// Returns true only if the visited point's call joins no new entries: the last call of these
-/// functions shows that their entries are covered.
+/// Returns true only if the last noted call of these functions shows that their entries cover the
+/// visited point's state after the change `entry`.
 fn are_calls_covered(table: &Table, v: &Visit, entry: &Change, targets: &ArrayVec<u32, 128>) -> bool
     requires visited { VisitInvariantHolds v.now table.now }
     requires entry { state_after v.now.state.now entry.now ≡ entries.call_entry v.now.state.now }
@@ -149,8 +149,8 @@ fn are_calls_covered(table: &Table, v: &Visit, entry: &Change, targets: &ArrayVe
     }
 }
 
-/// Keeps a call of two or more functions among the last 16 whose entries are covered, unless the
-/// visited point has new work.
+/// Notes a call of two or more functions, whose entries are covered, as the latest of 16, unless
+/// the visited point has new work.
 #[inline(never)]
 fn note_covered_call(
     alloc: Global,
@@ -178,8 +178,8 @@ fn note_covered_call(
     Ok(())
 }
 
-/// Returns a state that is covered at each entry if the point's is. If the entries are covered for
-/// the last call of these functions too, they are for the join of both.
+/// Returns the entry state to note for a call of these functions, joined with that of their last
+/// noted call if there is one.
 fn covered_entry(
     alloc: Global,
     table: &Table,

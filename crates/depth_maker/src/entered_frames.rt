@@ -35,8 +35,8 @@ pub(crate) fn entered_frame_keys(
     Ok(keys)
 }
 
-/// Returns true only if an instruction of this shape enters no frame by itself: no call, SYSCALL,
-/// or access for which the plan has traps.
+/// Returns true only if an instruction of this shape enters no frame, interrupts apart: no call,
+/// SYSCALL, or access for which the plan has traps.
 pub(crate) fn enters_no_frame(plan: &Plan, shape: Shape) -> bool
     ensures { IsTrue result → ShapeEntersNoFrame plan.now shape }
 {

@@ -116,7 +116,7 @@ fn empty_exit_readers(alloc: Global) -> IndexMap<Spot, Vec<Spot>>
 }
 
 /// Takes the next place off the maker's work list, and visits the place unless its work is done.
-/// Returns false if the list is empty.
+/// Returns false if the list was empty.
 fn visit_next_place(
     alloc: Global,
     ground: &Ground,

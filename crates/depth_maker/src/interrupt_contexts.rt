@@ -50,7 +50,7 @@ impl InterruptContext {
     }
 
     /// Returns true only if the handlers' entries from this noted context cover those from a frame
-    /// with this state.
+    /// with this state, on the interrupt stack if `is`.
     pub(crate) fn covers(&self, is: bool, s: &State) -> bool
         requires own { IsWellFormed self.now.sp }
         requires other { IsWellFormed (a10_of s.now) }
@@ -60,7 +60,7 @@ impl InterruptContext {
     }
 
     /// Returns true only if the handlers' entries from this context cover those from frames with
-    /// this CCPN, whatever their A10: neither uses the interrupt stack.
+    /// this CCPN and any A10: none uses the interrupt stack.
     #[inline(always)]
     fn covers_any_stack(&self, is: bool, ccpn: u8) -> bool
         ensures { IsTrue result → (s : State) → s.ccpn ≡ ccpn → IsWithinContext self.now is s }
@@ -68,8 +68,8 @@ impl InterruptContext {
         !is && !self.is && self.ccpn <= ccpn
     }
 
-    /// Returns true only if this interrupt context differs from that of a frame with this state at
-    /// most in the stack pointer A10.
+    /// Returns true only if this context has the state's CCPN, and the interrupt stack in use or
+    /// not, as `is` says. A10 may differ.
     pub(crate) fn is_equal_except_stack(&self, is: bool, s: &State) -> bool
         ensures { IsTrue result → IsEqualExceptStack self.now is s.now }
     {
@@ -86,8 +86,8 @@ impl InterruptContext {
         self.sp = join(b, &self.sp, &s.regs[A10_SLOT]);
     }
 
-    /// Returns whether this interrupt context covers A10 of a state. Off the interrupt stack, A10
-    /// doesn't matter to the handlers' entries.
+    /// Returns true if this interrupt context covers A10 of a state, or is off the interrupt stack,
+    /// where A10 doesn't matter to the handlers' entries.
     fn covers_stack(&self, s: &State) -> bool
         requires own { IsWellFormed self.now.sp }
         requires other { IsWellFormed (a10_of s.now) }
@@ -115,8 +115,8 @@ pub(crate) fn are_interrupts_covered(table: &Table, v: &Visit) -> bool
     }
 }
 
-/// Returns true only if the last noted context shows that the handlers' entries are covered for
-/// each frame with this CCPN off the interrupt stack.
+/// Returns true only if `is` is false and the last noted context, off the interrupt stack too,
+/// covers the handlers' entries for this CCPN.
 #[inline(always)]
 pub(crate) fn are_interrupts_covered_for_ccpn(table: &Table, is: bool, ccpn: u8) -> bool
     ensures { IsTrue result → AreInterruptsCoveredForCcpn table.now is ccpn }
@@ -127,8 +127,9 @@ pub(crate) fn are_interrupts_covered_for_ccpn(table: &Table, is: bool, ccpn: u8)
     }
 }
 
-/// Notes the visited point's interrupt context as the last covered one, unless the point has new
-/// work. One that differs only in A10 is joined. A call of its own, since it has room for a value.
+/// Notes the visited point's interrupt context as the last covered one, or joins A10 into the last
+/// if only A10 differs. Nothing is noted if the point has new work. A function of its own: a value
+/// takes room on its stack.
 #[inline(never)]
 pub(crate) fn note_covered_interrupts(table: &mut Table, v: &Visit)
     requires fine { TableInvariantHoldsForInputs v.now.ground.now table.old }

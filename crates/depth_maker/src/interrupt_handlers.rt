@@ -38,8 +38,8 @@ pub(crate) fn all_handlers(
     Ok(handlers)
 }
 
-/// Appends the frame numbers of the interrupt handlers that a point may enter: those above priority
-/// `ccpn` if IE is on, else none.
+/// Appends to `into` the frame numbers of the interrupt handlers that a point may enter: those
+/// above priority `ccpn` if `ie`, else none.
 pub(crate) fn append_handlers_if_enabled(
     into: &mut Vec<usize>,
     ie: bool,

@@ -30,8 +30,8 @@ use std::alloc::Global;
 use tc_isa::Shape;
 use vd_transfer::Change;
 
-/// Joins the entries of the frames that the visited instruction enters, and the states after their
-/// returns, if the instruction is a call or SYSCALL.
+/// Joins what a visited call or SYSCALL owes: the entries of the frames, and the states after their
+/// returns. Other instructions owe none of these. `c` is overwritten.
 pub(crate) fn join_entry_duties(
     alloc: Global,
     table: &mut Table,
@@ -54,8 +54,8 @@ pub(crate) fn join_entry_duties(
     }
 }
 
-/// Joins the entry of the handler of misaligned accesses, if the visited access may be misaligned
-/// and the plan has that trap.
+/// Joins what a visited access owes: the entry of the handler of misaligned accesses, if that trap
+/// is planned and may happen.
 pub(crate) fn join_access_duties(
     alloc: Global,
     table: &mut Table,
@@ -97,7 +97,7 @@ pub(crate) fn join_irq_duties(alloc: Global, table: &mut Table, v: &Visit) -> Re
     Ok(())
 }
 
-/// Joins the state after a call at the entry of each function at these addresses.
+/// Joins the state after a call, the change `entry`, at the entry of each of these functions.
 pub(crate) fn join_call_entries(
     alloc: Global,
     table: &mut Table,
@@ -165,8 +165,8 @@ pub(crate) fn register_and_join_return(
     join_return(alloc, table, v, key, back)
 }
 
-/// Joins the changed state at the entry of the frame `key`, and the state after its return at
-/// `back`, if its exit is known.
+/// Joins the visited point's changed state at the entry of the frame `key`, and the state after
+/// that frame's return at `back`.
 pub(crate) fn join_entry_and_return(
     alloc: Global,
     table: &mut Table,
@@ -188,8 +188,8 @@ pub(crate) fn join_entry_and_return(
     register_and_join_return(alloc, table, v, key, back)
 }
 
-/// Joins the entry of the handler of SYSCALL `tin`, and the state after its return at `back`. A
-/// call of its own, since it has room for a change.
+/// Joins the entry of the handler of SYSCALL with the number `tin`, and the state after its return
+/// at `back`. A function of its own: a change takes room on its stack.
 #[inline(never)]
 fn join_system_call_duties(
     alloc: Global,
@@ -209,7 +209,7 @@ fn join_system_call_duties(
 }
 
 /// Joins the entry of the handler of misaligned accesses, which the visited load or store may enter
-/// by a trap. A call of its own, since it has room for a change.
+/// by a trap. A function of its own: a change takes room on its stack.
 #[inline(never)]
 fn join_misaligned_entry(alloc: Global, table: &mut Table, v: &Visit) -> Result<(), Refusal>
     requires visited { VisitInvariantHolds v.now table.old }
@@ -223,7 +223,7 @@ fn join_misaligned_entry(alloc: Global, table: &mut Table, v: &Visit) -> Result<
 }
 
 /// Joins the entries of the handlers of these interrupts, which are all that may be taken at the
-/// visited point. A call of its own, since it has room for a change.
+/// visited point. A function of its own: a change takes room on its stack.
 #[inline(never)]
 fn join_interrupt_entries(
     alloc: Global,
@@ -241,8 +241,8 @@ fn join_interrupt_entries(
     join_each_handler_entry(alloc, table, v, irqs, entry)
 }
 
-/// Joins the entries of the handlers of these interrupts at the visited point. `entry` is the
-/// change at an entry, except for CCPN.
+/// Joins the entry of the handler of each of these interrupts at the visited point. `entry` is the
+/// change at an entry, apart from CCPN.
 fn join_each_handler_entry(
     alloc: Global,
     table: &mut Table,

@@ -27,9 +27,9 @@ use indexmap::IndexMap;
 use small_states::{Incoming, SmallKnown, incoming_ccpn};
 use std::alloc::{AllocError, Global};
 
-/// Adds the place `y` with this value, which flows in, and counts it. If `y` is known, returns its
-/// number and adds nothing. It is never inlined: if `join_without_requeuing` and `share_state` each
-/// had its text, LLVM would inline neither `add_or_find_place` nor the pushes of `record_place`.
+/// Adds the place `y` with this incoming value to the table, and records its point and frame.
+/// Returns `None`; or its number, with nothing added, if `y` is known. Never inlined: with its text
+/// in two callers, LLVM would inline neither `add_or_find_place` nor the pushes of `record_place`.
 #[inline(never)]
 pub(crate) fn add_place_if_new(
     table: &mut Table,
@@ -50,8 +50,8 @@ pub(crate) fn add_place_if_new(
     }
 }
 
-/// Joins what flows from the visited point into the place `y` of the maker's table, and queues the
-/// readers of an exit that rose.
+/// Joins what flows from the visited point into the place `y` of the maker's table. If an exit `y`
+/// rose, its readers are queued.
 pub(crate) fn join_at_place(
     alloc: Global,
     table: &mut Table,
@@ -85,7 +85,7 @@ pub(crate) fn join_at_place(
 }
 
 /// Joins what flows from the visited point into the place `y`, without queuing readers of `y`.
-/// Returns false if `y` covered that already.
+/// Returns false if `y` covered the incoming value already.
 fn join_without_requeuing(
     alloc: Global,
     table: &mut Table,
@@ -117,8 +117,8 @@ fn join_without_requeuing(
     }
 }
 
-/// Puts the points that read the raised exit `y` back on the work list, with `waits` for the next
-/// round, and forgets that they read it. A point has no readers.
+/// Puts the points that read the raised exit `y` on the work list, for the next round if `waits`,
+/// and forgets that they read `y`. A point has no readers.
 fn requeue_readers_after_join(
     places: &mut IndexMap<Spot, Marked<SmallKnown>>,
     work: &mut Work,
@@ -140,8 +140,8 @@ fn requeue_readers_after_join(
     requeue_readers_of(places, work, readers, *y, waits)
 }
 
-/// Raises the known place `y` by what flows from the visited point, and queues `y`. Returns false
-/// if `y` covered that already.
+/// Raises the known place `y` with this number by what flows from the visited point, and queues
+/// `y`. Returns false if `y` covered the incoming value already.
 fn join_known_place(
     alloc: Global,
     table: &mut Table,

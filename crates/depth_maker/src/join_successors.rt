@@ -37,8 +37,8 @@ struct Side {
     to: u32,
 }
 
-/// Joins the visited point's successors in the same frame; those after calls and system calls are
-/// left to `join_entries`. `c` is overwritten.
+/// Joins the visited point's successors in the same frame. Those after calls and system calls are
+/// left to `join_entry_duties`. `c` is overwritten.
 pub(crate) fn join_successors(
     alloc: Global,
     table: &mut Table,
@@ -79,7 +79,8 @@ pub(crate) fn join_successors(
     }
 }
 
-/// Joins a changed state at a successor of the visited point, which is in the same frame.
+/// Joins the visited point's state, changed by `c`, at the successor `to` in the same frame, unless
+/// the point has new work.
 pub(crate) fn join_successor(
     alloc: Global,
     table: &mut Table,
@@ -100,8 +101,8 @@ pub(crate) fn join_successor(
     join_first_successor(alloc, table, v, to, c)
 }
 
-/// Joins a changed state at the successor `to` in the same frame, as the first join of a visit: the
-/// point has its visited state.
+/// Joins the visited point's state, changed by `c`, at the successor `to` in the same frame. This
+/// is the first join of a visit, so the table still has that state.
 pub(crate) fn join_first_successor(
     alloc: Global,
     table: &mut Table,
@@ -169,8 +170,8 @@ pub(crate) fn join_return(
     join_at_place(alloc, table, v, &Spot::Point(v.key, back), &incoming)
 }
 
-/// Joins the visited state at the exit of its frame if the instruction leaves: RET, or RFE in the
-/// handler of system calls.
+/// Joins the visited point's state at its frame's exit if the instruction leaves the frame: RET, or
+/// RFE in the handler of system calls.
 pub(crate) fn join_exit_if_leaving(
     alloc: Global,
     table: &mut Table,
@@ -196,7 +197,7 @@ pub(crate) fn join_exit_if_leaving(
 }
 
 /// Joins both sides of a visited branch: its state, refined by the condition, at the next address
-/// and at the target.
+/// and at the target. `c` is overwritten.
 fn join_branch_sides(
     alloc: Global,
     table: &mut Table,
@@ -222,7 +223,7 @@ fn join_branch_sides(
 }
 
 /// Joins the visited point's unchanged state at the targets of its jump, as the first join of a
-/// visit.
+/// visit. `c` is overwritten.
 fn join_jump_targets(
     alloc: Global,
     table: &mut Table,
@@ -276,7 +277,7 @@ fn join_next_instruction(
 }
 
 /// Joins one side of a visited branch, refined by its condition, if the state lets the branch go
-/// that way.
+/// that way. `c` is overwritten.
 fn join_branch_side(
     alloc: Global,
     table: &mut Table,
@@ -299,7 +300,7 @@ fn join_branch_side(
     join_successor(alloc, table, v, side.to, &*c)
 }
 
-/// Joins the visited point's unchanged state at each target of its jump by a register, JI.
+/// Joins the visited point's unchanged state at each target of its JI. `c` is overwritten.
 #[inline(never)]
 fn join_indirect_jump_targets(
     alloc: Global,
@@ -322,7 +323,7 @@ fn join_indirect_jump_targets(
     join_each_jump_target(alloc, table, v, targets.as_slice(), c)
 }
 
-/// Joins the visited point's unchanged state at each of these addresses of its frame.
+/// Joins the visited point's unchanged state at each of these addresses. `c` is overwritten.
 fn join_each_jump_target(
     alloc: Global,
     table: &mut Table,

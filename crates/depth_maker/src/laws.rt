@@ -3,8 +3,8 @@ ghost use Rattle.depth_maker.specs.DutiesMonotone.{AddressesAreMonotone, ReturnS
 ghost use Rattle.depth_maker.specs.WellFormedAssignments.{ReturnStatesAreWellFormed, DutiesAreWellFormed};
 ghost use Rattle.depth_maker.specs.MakerLaws.{MakeErrExcludesCerts, AcceptedIsClosed, DerivedIsBelowClosed, ClosedExcludesFaults, AcceptedExcludesRefusals, SolutionIsAccepted, RefusalMeansNoCertAccepted, LeastClosedIsLeastCert, LeastCertIsLeastAccepted};
 
-/// Laws of the maker: what a point owes is monotone in its state, and well-formed. With a smaller
-/// state a point has no more faults.
+/// Laws of the maker: what a point owes is monotone in its state, and well-formed. A point without
+/// faults has none with a smaller state.
 pub fn duty_monotonicity_laws()
     ensures faults { FaultsAreMonotone }
     ensures duties { DutiesAreMonotone }
@@ -33,15 +33,16 @@ pub fn derived_assignment_laws()
     ensures faults { ClosedExcludesFaults }
 {}
 
-/// Laws of the maker: an accepted certificate is a closed assignment without faults, and no refusal
-/// holds then. One of a maker's solution, whose nodes have their entry points, is accepted.
+/// Laws of the maker: an accepted certificate is a closed assignment without faults, and excludes
+/// all refusals. A certificate of a maker's solution, whose nodes have their entry points, is
+/// accepted.
 pub fn accepted_cert_laws()
     ensures closed { AcceptedIsClosed }
     ensures refusals { AcceptedExcludesRefusals }
     ensures solutions { SolutionIsAccepted }
 {}
 
-/// Laws of the maker: its certificate is accepted, and none of the format is less; if a refusal
+/// Laws of the maker: a made certificate is accepted, and none of its format is less. If a refusal
 /// holds, none is accepted.
 pub fn least_cert_laws()
     ensures made { LeastClosedIsLeastCert }

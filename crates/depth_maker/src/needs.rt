@@ -16,8 +16,8 @@ use frame_places::{
 use std::alloc::{AllocError, Global};
 use tcd_plan::Plan;
 
-/// Returns the cap on the least needs of frames: the plan's areas without the reserve, at most
-/// 4,096.
+/// Returns the greatest need that is allowed, in areas: the plan's areas without the reserve, at
+/// most 4,096.
 pub(crate) fn need_limit(plan: &Plan) -> u32
     ensures areas { result ≡ plan.now.areas - plan.now.reserve }
     ensures few { result ≤ 4096 }
@@ -25,10 +25,10 @@ pub(crate) fn need_limit(plan: &Plan) -> u32
     plan.areas - plan.reserve
 }
 
-/// Returns the least needs of the frames, by their numbers. If the start needs more than the areas
-/// without the reserve, it returns the first recursion, if there is one. Passes begin at the last
-/// row, and interrupts enter frames of higher priority, so the rows of these are last. If a few
-/// passes don't find the needs, rows are in the order of the ranks.
+/// Returns the frames' least needs, by their numbers. If the start needs more than the areas
+/// without the reserve, the error is the first recursion, if any. Passes begin at the last row, and
+/// interrupts enter frames of higher priority, so the rows of these are last. If a few passes don't
+/// find the needs, rows are in the order of the ranks.
 pub(crate) fn least_frame_needs(
     alloc: Global,
     source: &Source,
@@ -79,8 +79,8 @@ pub(crate) fn need_refusal(source: &Source, place: Option<(Key, u32)>) -> MakeEr
     }
 }
 
-/// Returns the least needs that meet these rows of all points, or the first recursion, if any, if
-/// no needs are within the areas.
+/// Returns the least needs that meet these rows of all points. The error is the first recursion
+/// `recurs`; or `None`, if there is none and no needs are within the areas.
 fn least_needs_from_rows(
     alloc: Global,
     source: &Source,

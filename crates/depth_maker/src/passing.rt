@@ -66,8 +66,8 @@ fn unchanged_state_successor(site: &Site) -> Option<u32>
     }
 }
 
-/// Returns true only if the visited point was found last and its interrupts' entries are covered:
-/// then a new successor may share its state.
+/// Returns true only if the visited point was found last, and its interrupts' entries are covered,
+/// so that a new successor may share its state.
 #[inline(always)]
 fn may_share_state(table: &Table, site: &Site) -> bool
     requires fine { TableInvariantHoldsForInputs site.now.ground.now table.now }

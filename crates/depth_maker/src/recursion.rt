@@ -13,8 +13,8 @@ use frame_places::{
 use small_states::ScratchState;
 use std::alloc::{AllocError, Global};
 
-/// Returns the first point, by key and address, that enters a frame from which its own is reached,
-/// or `None` if no frame is recursive.
+/// Returns the first point, by key and address, that enters a frame from which the point's frame is
+/// reached, or `None` without recursive frames.
 pub(crate) fn first_recursion(
     alloc: Global,
     source: &Source,
@@ -86,8 +86,8 @@ fn lesser_recursive_address(
     }
 }
 
-/// Returns whether a point enters a marked frame: one from which the recursive frame that is looked
-/// for is reached.
+/// Returns whether the point at `addr` of the frame `key` enters a frame with a mark; false if the
+/// point isn't known.
 fn enters_marked_frame(
     alloc: Global,
     source: &Source,

@@ -41,7 +41,7 @@ pub(crate) struct KnownPoint<'a> {
 }
 
 /// Returns the row of a known point for the needs: its frame, its number of locals, and the frames
-/// that its instruction enters.
+/// that it enters. `state` is room that is overwritten.
 pub(crate) fn point_row(
     alloc: Global,
     source: &Source,
@@ -67,8 +67,8 @@ pub(crate) fn point_row(
     }
 }
 
-/// Returns the row of the visited point for the needs, by what its located instruction and its
-/// interrupts enter.
+/// Returns the visited point's row for the needs: its frame's number, `node`; its number of locals;
+/// and the frames that its instruction and interrupts enter.
 fn visited_point_row(
     alloc: Global,
     v: &Visit,
@@ -126,7 +126,7 @@ pub(crate) fn need_rows(alloc: Global, source: &Source) -> Result<Vec<NeedRow>, 
     Ok(rows)
 }
 
-/// Appends the row of the place with this number if it is a point without an equal row.
+/// Appends the row of the place with the number `entry`, if a point without an equal row.
 #[inline(always)]
 fn add_row_of_place(
     alloc: Global,
@@ -160,7 +160,8 @@ fn add_row_of_place(
     Ok(())
 }
 
-/// Returns true only if the frame has a row that is equal to that of a point with this value.
+/// Returns true only if a row of the frame `node`, by its noted outline, equals that of a plain
+/// point with this value.
 #[inline(always)]
 fn has_equal_row(outlines: &[Option<Outline>], node: usize, known: &Marked<SmallKnown>) -> bool
     ensures { IsTrue result → HasEqualRow outlines.now node known.now }
@@ -178,8 +179,8 @@ fn has_equal_row(outlines: &[Option<Outline>], node: usize, known: &Marked<Small
     }
 }
 
-/// Appends the row of a known point. If its instruction enters no frame by itself, IE, CCPN and the
-/// number of locals give the row.
+/// Appends the row of a known point. If the point is plain, so that its instruction enters no
+/// frame, IE, CCPN and the number of locals give the row.
 #[inline(never)]
 fn add_point_row(
     alloc: Global,

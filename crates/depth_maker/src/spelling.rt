@@ -19,8 +19,8 @@ use tcd_base::{NoMemory, put_u32};
 /// The magic bytes 54 43 44 43 of a certificate, as a little-endian word.
 const MAGIC: u32 = 0x4344_4354;
 
-/// Establishes that a CCPN of the maker's table is below 256, as its type says, so that a
-/// certificate has a byte for each.
+/// Establishes that a CCPN is below 256, as its type says, so that a certificate has a byte for
+/// each. Does nothing.
 pub(crate) fn ccpn_fits_byte(_byte: u8)
     ensures { _byte < 2 ^ 8 }
 {}
@@ -85,7 +85,7 @@ fn append_table_exit(out: &mut Vec<u8>, source: &Source, key: Key) -> Result<(),
     Ok(())
 }
 
-/// Returns the least need of a frame, in areas, as the certificate's number of two bytes.
+/// Returns the least need of a frame, in areas, as a certificate's number of two bytes.
 fn need_as_u16(source: &Source, needs: &[u32], key: Key) -> u16
     requires source { IsRowSource source.now }
     requires needs { AreLeastTableNeeds source.now needs.now }
@@ -107,8 +107,8 @@ pub(crate) struct Ordered<'a> {
     pub(crate) points: &'a [PointEntry],
 }
 
-/// Returns the bytes of the certificate of the maker's finished table: a node for each frame, with
-/// its least need.
+/// Returns the bytes of the certificate of the maker's finished table: the header, and a node for
+/// each frame with its least need.
 pub(crate) fn serialize_cert(
     alloc: Global,
     source: &Source,

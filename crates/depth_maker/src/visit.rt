@@ -31,8 +31,8 @@ use std::alloc::Global;
 use tc_isa::Shape;
 use vd_transfer::Change;
 
-/// Joins what the place with the number `table.near` owes; an exit owes nothing. Returns true only
-/// if its instruction enters no frame by itself.
+/// Joins what the visited place, with the number `table.near`, owes; an exit owes nothing. Returns
+/// true only if its instruction enters no frame by itself.
 pub(crate) fn visit_place(
     alloc: Global,
     ground: &Ground,
@@ -120,7 +120,7 @@ fn join_visit_duties(
 }
 
 /// Visits a point: joins what its state owes, or refuses by the rule that fails there. Returns true
-/// only if its instruction enters no frame.
+/// only if its instruction enters no frame. `change` is overwritten.
 fn visit_point(
     alloc: Global,
     table: &mut Table,

@@ -31,7 +31,7 @@ is_segment s = nat_lt 0 (length s.bytes) && nat_le (s.at + length s.bytes) (2 ^ 
 abbrev pub are_segments_disjoint : SegmentData → SegmentData → Bool
 are_segments_disjoint s t = nat_le (s.at + length s.bytes) t.at || nat_le (t.at + length t.bytes) s.at
 
--- no two segments share an address
+-- no two of these segments share an address
 abbrev pub are_all_segments_disjoint : List SegmentData → Bool
 are_all_segments_disjoint [] = true
 are_all_segments_disjoint (s ∷ ss) = list_all (are_segments_disjoint s) ss && are_all_segments_disjoint ss
@@ -50,16 +50,16 @@ pub record IsImage (i : ImageData) : Type 0 where
   pub apart : IsTrue (are_all_segments_disjoint i.segments)
   pub small : sum_by (λ s. length s.bytes) i.segments ≤ 2 ^ 24
 
--- the segment holds the address x
+-- the address x is that of a byte of the segment
 abbrev pub segment_contains : SegmentData → ℕ → Bool
 segment_contains s x = nat_le s.at x && nat_lt x (s.at + length s.bytes)
 
--- the byte at address x, of the first of these segments that holds x; None if no segment holds x
+-- the byte at address x of the first of these segments that has one there; None if none has
 abbrev pub byte_in_segments : List SegmentData → ℕ → Option ℕ
 byte_in_segments [] x = None
 byte_in_segments (s ∷ ss) x = if segment_contains s x then slice_get s.bytes (x - s.at) else byte_in_segments ss x
 
--- the byte of the image at x, None if no segment holds x
+-- the byte of the image at the address x; None if no segment has one there
 abbrev pub image_byte : ImageData → ℕ → Option ℕ
 image_byte i x = byte_in_segments i.segments x
 

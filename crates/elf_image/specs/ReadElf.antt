@@ -20,15 +20,15 @@ elf_word_at bytes at =
 
 -- ---- the fields of the ELF header, Elf32_Ehdr
 
--- ELF's magic bytes, then ELFCLASS32 and ELFDATA2LSB
+-- the first six bytes of e_ident: ELF's magic bytes, then ELFCLASS32 and ELFDATA2LSB
 abbrev pub elf_ident_prefix : List ℕ
 elf_ident_prefix = 127 ∷ 69 ∷ 76 ∷ 70 ∷ 1 ∷ 1 ∷ []
 
--- the kind of file
+-- the kind of file: 2 for an executable
 abbrev pub e_type : List ℕ → ℕ
 e_type bytes = elf_half_at bytes 16
 
--- the machine that the file is for
+-- the machine that the file is for: 44 for TriCore
 abbrev pub e_machine : List ℕ → ℕ
 e_machine bytes = elf_half_at bytes 18
 
@@ -77,7 +77,7 @@ is_truncated_header bytes number = nat_lt (length bytes) (program_header_offset 
 abbrev pub is_load : Header → Bool
 is_load h = h.kind == 1
 
--- the header's bytes pass the end of a file of this length or address 2^32, or p_filesz is above
+-- the header's bytes pass the end of a file of length len or address 2^32, or p_filesz is above
 -- p_memsz
 abbrev pub has_bytes_out_of_bounds : ℕ → Header → Bool
 has_bytes_out_of_bounds len h =
@@ -85,11 +85,11 @@ has_bytes_out_of_bounds len h =
     || nat_lt (2 ^ 32) (h.address + h.file_size)
     || nat_lt h.memory_size h.file_size
 
--- the program header isn't wholly in the file, or loads bytes that pass a bound
+-- the program header isn't wholly in the file, or is of type PT_LOAD with bytes that pass a bound
 unfoldable pub is_bad_header : List ℕ → Header → Bool
 is_bad_header bytes h = is_truncated_header bytes h.number || (is_load h && has_bytes_out_of_bounds (length bytes) h)
 
--- the program header loads bytes of the file
+-- the program header is of type PT_LOAD and has bytes in the file
 unfoldable pub loads_file_bytes : Header → Bool
 loads_file_bytes h = is_load h && nat_lt 0 h.file_size
 
@@ -124,13 +124,13 @@ program_header_refusal bytes =
 unfoldable pub exceeds_image_limits : List Header → Bool
 exceeds_image_limits loads = nat_lt 64 (length loads) || nat_lt (2 ^ 24) (sum_by (λ h. h.file_size) loads)
 
--- the first header that shares an address with a later one, and the first such later one
+-- the refusal that names the first header and the first later one that share an address, or None
 unfoldable pub overlap_refusal : List Header → Option ImageErr
 overlap_refusal [] = None
 overlap_refusal (h ∷ hs) =
     option_or (option_map (λ k. Overlap h.number k.number) (find (has_overlap_with h) hs)) (overlap_refusal hs)
 
--- the first refusal, in the order of the checks
+-- the first refusal of a file, in the order of the checks; None if there is none
 unfoldable pub image_refusal : List ℕ → Option ImageErr
 image_refusal bytes =
     option_or (elf_header_refusal bytes)
@@ -144,7 +144,7 @@ image_refusal bytes =
 abbrev pub loaded_segment : List ℕ → Header → SegmentData
 loaded_segment bytes h = record { at = h.address; bytes = take h.file_size (drop h.offset bytes) }
 
--- the entry, and a segment for each program header that loads bytes of the file
+-- the image of a file: the entry, and a segment for each program header that loads its bytes
 unfoldable pub image_of_load_headers : List ℕ → ImageData
 image_of_load_headers bytes = record { entry = e_entry bytes; segments = map (loaded_segment bytes) (load_headers bytes) }
 
@@ -157,7 +157,7 @@ image_unless_refused (Some e) i = Err e
 unfoldable pub image_of_file : List ℕ → Result ImageData ImageErr
 image_of_file bytes = image_unless_refused (image_refusal bytes) (image_of_load_headers bytes)
 
--- a reader's answer is this one, or out of memory
+-- the code's result is this answer; out of memory says nothing of the file
 abbrev pub GivesImage : Result ImageData ImageErr → Result ImageData ImageErr → Type 0
 GivesImage (Ok i) answer = answer ≡ Ok i
 GivesImage (Err Short) answer = answer ≡ Err Short

@@ -40,7 +40,7 @@ program_headers offset (s ∷ ss) =
 abbrev pub elf_contents_offset : List SegmentData → ℕ
 elf_contents_offset ss = 52 + 32 * length ss
 
--- the segments' bytes
+-- the bytes of all segments, one segment after another
 unfoldable pub elf_contents : List SegmentData → List ℕ
 elf_contents ss = flat_map (λ s. s.bytes) ss
 

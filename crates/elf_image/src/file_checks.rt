@@ -59,8 +59,8 @@ pub(crate) fn check_no_overlap(loads: &[Header]) -> Result<(), ImageErr>
     Ok(())
 }
 
-/// Returns true if a check refuses a program header: its bytes pass the end of a file of this
-/// length, address 2^32 or its own memory size.
+/// Returns true if the bytes of a program header pass the end of a file of length `len`, address
+/// 2^32, or the header's memory size.
 pub(crate) fn has_bytes_out_of_bounds(len: usize, header: &Header) -> bool
     ensures { result ≡ has_bytes_out_of_bounds len header.now }
 {
@@ -70,8 +70,8 @@ pub(crate) fn has_bytes_out_of_bounds(len: usize, header: &Header) -> bool
         || header.memory_size < header.file_size
 }
 
-// Returns true if the program header with this number can't be used: it isn't wholly in the file,
-// or its bytes pass a bound.
+// Returns true if the program header with this number isn't wholly in the file, or is of type
+// PT_LOAD with bytes that pass a bound.
 #[tactic(auto, unfolding(crate::specs::ReadElf::is_bad_header, crate::specs::ReadElf::program_header_at))]
 pub(crate) fn is_bad_header(bytes: &[u8], number: u16) -> bool
     requires { 52 ≤ length bytes.now }
@@ -84,8 +84,8 @@ pub(crate) fn is_bad_header(bytes: &[u8], number: u16) -> bool
     header.kind == PT_LOAD && has_bytes_out_of_bounds(bytes.len(), &header)
 }
 
-/// Returns true if the bytes that two program headers load share an address, for the check that
-/// refuses such an ELF file.
+/// Returns true if the bytes that two program headers load share an address, for which an ELF file
+/// is refused.
 #[tactic(auto, unfolding(crate::specs::ReadElf::has_overlap_with))]
 pub(crate) fn has_overlap_with(header: &Header, other: &Header) -> bool
     ensures { result ≡ has_overlap_with header.now other.now }
@@ -94,7 +94,7 @@ pub(crate) fn has_overlap_with(header: &Header, other: &Header) -> bool
     at < other_at + u64::from(other.file_size) && other_at < at + u64::from(header.file_size)
 }
 
-// Returns the number of the first bad program header.
+// Returns the number of the first bad program header, or `None` if all are good.
 fn first_bad_header(bytes: &[u8]) -> Option<u32>
     requires { 52 ≤ length bytes.now }
     ensures { result ≡ option_map (λ h. h.number)
@@ -109,7 +109,7 @@ fn first_bad_header(bytes: &[u8]) -> Option<u32>
     None
 }
 
-// Returns the number of the first of `others` that shares an address with `header`.
+// Returns the number of the first of `others` that shares an address with `header`, or `None`.
 fn first_overlapping_header(header: &Header, others: &[Header]) -> Option<u32>
     ensures { result ≡ option_map (λ k. k.number) (find (has_overlap_with header.now) others.now) }
 {

@@ -6,7 +6,7 @@ ghost use Rattle.elf_image.specs.WrittenElf.{elf_header, program_header, program
 use crate::{ImageErr, Segment};
 use std::alloc::Global;
 
-// Returns the ELF file of these segments, with the address at which the program begins.
+// Returns the ELF file of these segments. The program begins at the address `entry`.
 #[tactic(auto, unfolding(crate::specs::WrittenElf::elf_file))]
 pub(crate) fn elf_file(alloc: Global, entry: u32, segments: &[Segment]) -> Result<Vec<u8>, ImageErr>
     requires few { length segments.now ≤ 64 }
@@ -38,7 +38,7 @@ fn elf_header(entry: u32, count: u16) -> [u8; 52]
     ]
 }
 
-// Appends to an ELF file the program headers of these segments.
+// Appends the program headers of these segments to an ELF file.
 #[tactic(auto, unfolding(crate::specs::WrittenElf::program_headers))]
 fn append_program_headers(out: &mut Vec<u8>, segments: &[Segment]) -> Result<(), ImageErr>
     requires few { length segments.now ≤ 64 }
@@ -57,7 +57,7 @@ fn append_program_headers(out: &mut Vec<u8>, segments: &[Segment]) -> Result<(),
     Ok(())
 }
 
-// Appends to an ELF file the bytes of these segments, without gaps.
+// Appends the bytes of these segments to an ELF file, without gaps.
 #[tactic(auto, unfolding(crate::specs::WrittenElf::elf_contents))]
 fn append_elf_contents(out: &mut Vec<u8>, segments: &[Segment]) -> Result<(), ImageErr>
     ensures ok { OnOk result

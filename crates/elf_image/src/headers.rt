@@ -61,7 +61,7 @@ pub(crate) fn elf_word_at(bytes: &[u8], at: usize) -> u32
     u32::from_le_bytes([bytes[at], bytes[at + 1], bytes[at + 2], bytes[at + 3]])
 }
 
-// Returns the offset of the program header with this number.
+// Returns the byte offset in the file of the program header with this number, from 0.
 pub(crate) fn program_header_offset(bytes: &[u8], number: u16) -> usize
     requires { 52 ≤ length bytes.now }
     ensures place { result ≡ program_header_offset bytes.now number }
@@ -70,7 +70,7 @@ pub(crate) fn program_header_offset(bytes: &[u8], number: u16) -> usize
     elf_word_at(bytes, E_PHOFF) as usize + 32 * number as usize
 }
 
-// Reads the program header with this number, which is wholly in the file.
+// Reads the program header with this number, from 0, which is wholly in the file.
 #[tactic(auto, unfolding(crate::specs::ReadElf::program_header_at))]
 pub(crate) fn program_header_at(bytes: &[u8], number: u16) -> Header
     requires long { 52 ≤ length bytes.now }
@@ -88,7 +88,7 @@ pub(crate) fn program_header_at(bytes: &[u8], number: u16) -> Header
     }
 }
 
-// Returns true if the program header loads bytes of the file (type PT_LOAD).
+// Returns true if the program header is of type PT_LOAD and has bytes in the file.
 #[tactic(auto, unfolding(crate::specs::ReadElf::loads_file_bytes))]
 pub(crate) fn loads_file_bytes(header: &Header) -> bool
     ensures { result ≡ loads_file_bytes header.now }

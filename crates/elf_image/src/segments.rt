@@ -14,14 +14,14 @@ pub struct Segment {
     pub bytes: Vec<u8>,
 }
 
-/// Returns true if this segment of an executable holds an address.
+/// Returns true if an address is that of a byte of the segment.
 pub(crate) fn segment_contains(segment: &Segment, addr: u32) -> bool
     ensures { result ≡ segment_contains (segment_data segment.now) addr }
 {
     segment.at <= addr && ((addr - segment.at) as usize) < segment.bytes.len()
 }
 
-/// Returns the byte of a segment at an address that isn't below its own.
+/// Returns the byte of a segment at an address not below its own, or `None` past the last byte.
 pub(crate) fn segment_byte(segment: &Segment, addr: u32) -> Option<u8>
     requires { segment.now.at ≤ addr }
     ensures { result ≡ slice_get segment.now.bytes.items (addr - segment.now.at) }
@@ -39,7 +39,7 @@ pub fn establish_segment_bytes(segments: &[Segment])
     }
 }
 
-// Returns the segments that these program headers load from an ELF file, in order.
+// Returns the segments that the program headers `loads` load from an ELF file, in order.
 pub(crate) fn loaded_segments(
     alloc: Global,
     bytes: &[u8],

@@ -6,13 +6,13 @@ use Rattle.frame_places.specs.declared.places.Spot.TheVariants.{Point, Exit}
 use Rattle.frame_places.specs.declared.refusals.Refusal.{Refusal}
 use Rattle.frame_places.specs.declared.refusals.Refusal.TheVariants.{Fault, NoMemory}
 
--- the counted frames with that of one more place, if it is an entry point
+-- the maker's frames with that of one more place, if it is an entry point
 abbrev pub frames_with_entry : List Key → Spot → List Key
 frames_with_entry ks (Point k p) = if p == k.entry then ks ++ k ∷ [] else ks
 frames_with_entry ks (Exit k) = ks
 
--- counting one more place passes a limit of certificates: it would be point 65,537, or the entry of
--- frame 2,049
+-- one more place exceeds a limit of certificates: it would be point 65,537, or the entry of frame
+-- 2,049
 abbrev pub ExceedsPlaceLimits : List Spot → List Key → Spot → Type 0
 ExceedsPlaceLimits ps ks (Point k p) = (length ps ≡ 2 ^ 16) ⊎ ((p ≡ k.entry) × (length ks ≡ 2048))
 ExceedsPlaceLimits ps ks (Exit k) = ⊥
@@ -22,16 +22,17 @@ abbrev pub IsRule15Refusal : Bool → List Spot → List Key → Spot → Refusa
 IsRule15Refusal known ps ks y (Fault rule x) = (rule ≡ 15) × (x ≡ y) × (known ≡ false) × ExceedsPlaceLimits ps ks y
 IsRule15Refusal known ps ks y NoMemory = Unit {0}
 
--- the points that the maker counts, with one more place if that place is a point
+-- the maker's points with one more place, if that place is a point
 abbrev pub points_with : List Spot → Spot → List Spot
 points_with ps (Point k p) = ps ++ Point k p ∷ []
 points_with ps (Exit k) = ps
 
--- the counted points after a state flows into the place y: a point y is counted too, unless it is
--- known and so counted already
+-- the maker's points after something flows into the place y: a point y is appended, unless known
+-- already
 abbrev pub points_after_flow : Bool → List Spot → Spot → List Spot
 points_after_flow known ps y = if known then ps else points_with ps y
 
--- the frames that the maker counts after a state flows into the place y
+-- the maker's frames after something flows into the place y: the frame of an entry point y is
+-- appended, unless y is known already
 abbrev pub frames_after_flow : Bool → List Key → Spot → List Key
 frames_after_flow known ks y = if known then ks else frames_with_entry ks y

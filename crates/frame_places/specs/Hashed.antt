@@ -43,7 +43,7 @@ equal_spots_are_same (Point f p) (Exit g) e = cc
 equal_spots_are_same (Exit f) (Point g q) e = cc
 equal_spots_are_same (Exit f) (Exit g) e = ap Exit (equal_keys_are_same f g e)
 
--- the low four bytes of the frame's number, then the address
+-- the word by which a place is hashed: the low four bytes of the frame's number, then the address
 abbrev pub hashed_word : Spot → ℕ
 hashed_word (Point k p) = number_of_key k % 2 ^ 32 * 2 ^ 32 + p
 hashed_word (Exit k) = number_of_key k % 2 ^ 32 * 2 ^ 32

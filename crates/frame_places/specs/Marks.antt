@@ -54,7 +54,7 @@ pub record RequeuesPlaces {V S : Type 0} (old new : IndexMap Spot (Marked V) S) 
   pub marks : (q : Spot) → ((mark_of_place new q ≡ Some Queued) × these q) ⊎ ((mark_of_place new q ≡ mark_of_place old q) × (these q → ⊥))
   pub numbers : KeepsPlaceNumbers old new
 
--- the mark of a place without work
+-- this is the mark of a place without work: idle or plain
 abbrev pub is_idle : Option Mark → Bool
 is_idle None = false
 is_idle (Some Idle) = true
@@ -62,7 +62,7 @@ is_idle (Some Plain) = true
 is_idle (Some Queued) = false
 is_idle (Some Open) = false
 
--- the mark of a queued place
+-- this is the mark of a queued place
 abbrev pub is_queued : Option Mark → Bool
 is_queued None = false
 is_queued (Some Idle) = false
@@ -70,7 +70,7 @@ is_queued (Some Plain) = false
 is_queued (Some Queued) = true
 is_queued (Some Open) = false
 
--- the mark of a place without work, which may be plain
+-- the mark of a place that has no work: plain or idle
 abbrev pub mark_without_work : Bool → Mark
 mark_without_work plain = if plain then Plain else Idle
 

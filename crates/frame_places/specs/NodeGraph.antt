@@ -6,7 +6,7 @@ use Rattle.indexmap.specs.IndexMap.{IndexMap, get}
 use Rattle.frame_places.specs.declared.needs.reach.FrameEdge.{FrameEdge}
 use Rattle.frame_places.specs.declared.needs.row.NeedRow.{NeedRow}
 
--- the edge of the graph of entries from one node to another
+-- the edge of the graph of entries from the node k to the node t
 abbrev pub edge_between : ℕ → ℕ → FrameEdge
 edge_between k t = record { node = k; into = t }
 
@@ -19,7 +19,7 @@ pub record AreEdgesOfRows (rows : List NeedRow) (edges : List FrameEdge) : Type 
   pub sound : (k t : ℕ) → Contains edges (edge_between k t) → SomeRowEnters rows k t
   pub complete : (k t : ℕ) → SomeRowEnters rows k t → Contains edges (edge_between k t)
 
--- the graph of nodes gets the edges of one more row: from its node to each node that it enters
+-- the graph of entries gets the edges of one more row: from its node to each node that it enters
 pub record AddsEdges (old new : List FrameEdge) (node : ℕ) (into : List ℕ) : Type 0 where
   pub keeps : (e : FrameEdge) → Contains old e → Contains new e
   pub sound : (e : FrameEdge) → Contains new e → Contains old e ⊎ ((e.node ≡ node) × Contains into e.into)
@@ -105,7 +105,7 @@ FinishesMarking sources old new work =
     (edges : List FrameEdge) (j : ℕ) → ArePredecessors edges sources → SearchInvariantHolds edges (length old) j old work
     → SearchInvariantHolds edges (length old) j new []
 
--- exactly the nodes of the graph of entries from which the node j is reached are marked
+-- the marks are those of exactly the nodes of the graph of entries from which the node j is reached
 pub record AreReachingMarks (edges : List FrameEdge) (nodes j : ℕ) (marks : List Bool) : Type 0 where
   pub each : length marks ≡ nodes
   pub sound : IsNodeReachedFromMarked edges j marks
@@ -120,15 +120,15 @@ abbrev pub HasMarkedSuccessor : List Bool → List FrameEdge → ℕ → Type 0
 HasMarkedSuccessor marks edges k = (t : ℕ) × Contains edges (edge_between k t) × IsNodeMarked marks t
 
 -- ---- the first
--- the node on a cycle of the graph of entries that is first in these orders; or no node is on a
--- cycle
+-- the node on a cycle of the graph of entries that has the least of these numbers; or no node is on
+-- a cycle
 abbrev pub IsFirstRecursiveNode : List ℕ → List FrameEdge → Option ℕ → Type 0
 IsFirstRecursiveNode orders edges None = (k : ℕ) → IsRecursiveNode edges k → ⊥
 IsFirstRecursiveNode orders edges (Some k) =
     (k < length orders) × IsRecursiveNode edges k × ((j : ℕ) → IsRecursiveNode edges j → slice_index orders k ≤ slice_index orders j)
 
--- among the nodes before n, the node on a cycle that is first in these orders; or none of them is
--- on a cycle
+-- among the nodes before n, the node on a cycle that has the least of these numbers; or none of
+-- them is on a cycle
 abbrev pub IsFirstRecursiveNodeBefore : List ℕ → List FrameEdge → ℕ → Option ℕ → Type 0
 IsFirstRecursiveNodeBefore orders edges n None = (k : ℕ) → k < n → IsRecursiveNode edges k → ⊥
 IsFirstRecursiveNodeBefore orders edges n (Some k) =

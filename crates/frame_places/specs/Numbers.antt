@@ -11,7 +11,8 @@ use Rattle.frame_places.specs.declared.places.Marked.{Marked}
 abbrev pub frame_key_eq : Key → Key → Bool
 frame_key_eq = (block.ghosts).eq
 
--- the place of the first frame with this key; the length of the list if there is none
+-- the number of the frame with this key: the key's first index in the list, or the length of the
+-- list without that key
 abbrev pub frame_number_in : List Key → Key → ℕ
 frame_number_in [] k = 0
 frame_number_in (j ∷ js) k = if is_same_key j k then 0 else frame_number_in js k + 1

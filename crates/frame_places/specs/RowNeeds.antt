@@ -52,7 +52,7 @@ pub record RaisesNeedsByRows (cap : ℕ) (old new : List ℕ) (rows : List NeedR
   pub same : changed ≡ false → new ≡ old
   pub met : changed ≡ false → (row : NeedRow) → Contains rows row → MeetsRowUpToCap cap new row
 
--- the least needs that meet the rows, none above the cap; or any needs that meet the rows pass it
+-- the result is the least needs that meet the rows, within the cap; or none, if no needs do
 abbrev pub IsLeastNeedsResult : ℕ → List NeedRow → ℕ → Result (Option (Vec ℕ Global)) AllocError → Type 0
 IsLeastNeedsResult nodes rows cap (Ok (Some needs)) = (length needs.items ≡ nodes) × MeetsRows (λ k. slice_index needs.items k) rows × AreLowerBounds needs.items rows × ((k : ℕ) → slice_index needs.items k ≤ cap)
 IsLeastNeedsResult nodes rows cap (Ok None) = (other : ℕ → ℕ) → MeetsRows other rows → (k : ℕ) × (k < nodes) × (cap < other k)

@@ -13,8 +13,8 @@ const MOST_POINTS: usize = 65536;
 /// The greatest number of frames in a certificate.
 const MOST_FRAMES: usize = 2048;
 
-/// Counts a place that the maker finds, unless known: a point, and the frame that begins there.
-/// Refuses by K15 past the limits.
+/// Appends the place `y`, if a point, to the maker's points, and its frame at an entry point;
+/// nothing if `known`. Refuses by K15 past 65,536 points or 2,048 frames.
 pub fn record_place(
     known: bool,
     points: &mut Vec<Spot>,
@@ -40,8 +40,8 @@ pub fn record_place(
     }
 }
 
-/// Counts a new point, and its frame if the point is the frame's entry. Refuses by K15 past 65,536
-/// points or 2,048 frames.
+/// Appends a new point to the maker's points, and its frame at the frame's entry. Refuses by K15
+/// past 65,536 points or 2,048 frames.
 fn record_point(
     points: &mut Vec<Spot>,
     frames: &mut Vec<Key>,

@@ -12,8 +12,8 @@ use indexmap::IndexMap;
 use std::alloc::AllocError;
 use std::hash::{Hash, Hasher};
 
-/// Returns whether a place is an entry point that wasn't visited yet: such a queued place moves to
-/// the front when its state rises.
+/// Returns whether a place is an entry point (`entry`) that wasn't visited yet. Such a queued place
+/// moves to the front when its state rises.
 #[inline(always)]
 pub(crate) fn is_unvisited_entry(entry: bool, visits: u8) -> bool {
     entry && visits == 0
@@ -34,8 +34,8 @@ pub(crate) fn mark_place<V>(places: &mut IndexMap<Spot, Marked<V>>, number: usiz
 /// rises.
 const PATIENT: u8 = 2;
 
-/// Returns whether a place that is queued again waits for the next round: if told to, or after two
-/// visits. So a call of many functions waits until their exits have risen.
+/// Returns whether the place with this number, if queued again, waits for the next round: if
+/// `waits`, or after two visits. So a call of many functions waits until their exits have risen.
 #[inline(always)]
 pub(crate) fn must_wait_for_round<V>(
     places: &IndexMap<Spot, Marked<V>>,
@@ -48,8 +48,8 @@ pub(crate) fn must_wait_for_round<V>(
     }
 }
 
-/// Puts each of these known readers back on the work list unless queued: for the next round if
-/// `waits`, else as next.
+/// Puts each of these known places on the work list unless queued: for the next round if `waits` or
+/// after two visits, else as next.
 pub(crate) fn requeue_places<V>(
     places: &mut IndexMap<Spot, Marked<V>>,
     work: &mut Work,
@@ -100,8 +100,8 @@ pub fn is_plain_mark(mark: Mark) -> bool
     matches!(mark, Mark::Plain)
 }
 
-/// Marks the visited place with this number as done, unless queued meanwhile: as plain if `plain`,
-/// else as idle.
+/// Marks the visited place with this number as done, unless queued meanwhile: as `Plain` if `plain`
+/// (its instruction enters no frame), else as `Idle`.
 #[inline(always)]
 pub fn end_visit<V>(places: &mut IndexMap<Spot, Marked<V>>, number: usize, plain: bool)
     ensures { (x : Spot) → PlaceHasNumber places.old number x
@@ -112,8 +112,8 @@ pub fn end_visit<V>(places: &mut IndexMap<Spot, Marked<V>>, number: usize, plain
     }
 }
 
-/// Marks the known place `x` as queued, unless it is, and lists its number as work: it waits for
-/// the next round, or is next.
+/// Puts the known place `x` on the work list unless queued: for the next round if `waits` or after
+/// two visits, else as next.
 pub(crate) fn requeue_place<V>(
     places: &mut IndexMap<Spot, Marked<V>>,
     work: &mut Work,

@@ -9,7 +9,7 @@ use depth_cert::Key;
 use indexmap::IndexMap;
 use std::alloc::{AllocError, AllocFailed, Global};
 
-/// Returns the map from each frame's key to its number, the position in this list.
+/// Returns the map from each frame's key to the frame's number: its index in this list.
 pub fn frame_number_map(
     alloc: Global,
     frames: &[Key],

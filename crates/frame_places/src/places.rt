@@ -30,8 +30,8 @@ pub enum Spot {
 }
 
 impl Spot {
-    /// Returns the number by which places are sorted: the number of the frame's key, then the
-    /// address, 0 for an exit.
+    /// Returns the number by which places are sorted: the number of the frame's key times 2^32,
+    /// plus the address, 0 for an exit.
     #[inline(always)]
     pub(crate) fn order_number(&self) -> u128
         ensures { result ≡ spot_order_number self.now }
@@ -148,7 +148,7 @@ pub fn add_queued_place<V: Drop>(
 }
 
 /// Returns the number of the place `y` if known. Otherwise adds `y` with this value, marked as
-/// queued, to the map and the work list.
+/// queued, to the map and the work list, and returns `None`.
 #[inline(always)]
 pub fn add_or_find_place<V: Drop>(
     places: &mut IndexMap<Spot, Marked<V>>,
@@ -175,9 +175,9 @@ pub fn add_or_find_place<V: Drop>(
     }
 }
 
-/// Sets the value of the place with this number, and queues it unless it is queued. An entry point
-/// waits for the next round, any other place is next. An entry point that is queued and wasn't
-/// visited yet is queued again, before the places found earlier.
+/// Sets the value of the place with this number, and queues the place unless queued. An entry point
+/// (`entry`) waits for the next round, any other place is next. An entry point that is queued and
+/// unvisited is queued again, before the places found earlier.
 #[inline(always)]
 pub fn set_and_queue_place<V: Drop>(
     places: &mut IndexMap<Spot, Marked<V>>,

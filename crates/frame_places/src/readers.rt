@@ -50,8 +50,8 @@ pub fn register_reader(
     Ok(())
 }
 
-/// Puts all points that read the exit `y` back on the work list, with `waits` for the next round,
-/// and forgets that they read it.
+/// Requeues all points that read the exit `y`, for the next round if `waits` or after two visits,
+/// and forgets that they read `y`.
 pub fn requeue_readers_of<V>(
     places: &mut IndexMap<Spot, Marked<V>>,
     work: &mut Work,
@@ -74,7 +74,7 @@ pub fn requeue_readers_of<V>(
     Ok(())
 }
 
-/// Returns a list of readers without points that equal the one before them: in a sorted list,
+/// Returns a copy of a list of readers without those that equal the one before: of a sorted list,
 /// without duplicates.
 pub(crate) fn dedup_readers(alloc: Global, list: &[Spot]) -> Result<Vec<Spot>, AllocError>
     ensures { IfOk result (λ out. (q : spots.Spot)
@@ -101,7 +101,7 @@ fn push_reader(alloc: Global, list: &mut Vec<Spot>, x: Spot) -> Result<(), Alloc
     Ok(())
 }
 
-/// Sorts the list, and drops its duplicates if they are at least half of it.
+/// Sorts an exit's readers, and drops duplicates if they are at least half of the list.
 #[inline(never)]
 fn sort_and_dedup_readers(alloc: Global, list: &mut Vec<Spot>) -> Result<(), AllocError>
     ensures { OnOk result ((q : spots.Spot)

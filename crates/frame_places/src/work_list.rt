@@ -97,10 +97,9 @@ impl Work {
         Ok(())
     }
 
-    /// Puts an entry point that wasn't visited yet before what is left of the round, after the
-    /// places found since a place of it was taken, or after 64 of them. If it is listed, it is
-    /// listed again: once for each rise of its state, so the list never has more places than there
-    /// were rises.
+    /// Puts an unvisited entry point into the work list's round, before the places left of the
+    /// round. Entry points put there since the last pop, up to 64, are taken earlier. A listed
+    /// place is listed again, once for each rise of its state.
     #[inline(always)]
     pub(crate) fn push_entry(&mut self, number: usize) -> Result<(), AllocError>
         ensures { OnOk result (PushesEntry self.old self.new number) }
@@ -111,8 +110,8 @@ impl Work {
         Ok(())
     }
 
-    /// Takes the place to be visited next off the work list, or `None` if the list is empty.
-    /// Without memory, all places stay listed.
+    /// Takes the place to be visited next off the work list, or `None` if the list is empty. On an
+    /// error, for lack of memory, all places stay listed.
     #[inline(always)]
     pub fn pop(&mut self) -> Result<Option<usize>, AllocError>
         ensures some { IfOk result (λ o. IfSome o (PopsPlace self.old self.new)) }
@@ -157,8 +156,8 @@ impl Work {
         number
     }
 
-    /// Begins the work list's next round with up to 64 of the waiting places, those found first,
-    /// the earliest at the end.
+    /// Begins the work list's next round with up to 64 of the waiting places: those found first,
+    /// the earliest at the end, taken first.
     fn begin_round(&mut self) -> Result<(), AllocError>
         ensures round { OnOk result (BeginsRound self.old self.new) }
         ensures err { OnErr result (HasSameWork self.old self.new) }

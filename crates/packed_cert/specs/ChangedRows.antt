@@ -5,7 +5,7 @@ use Rattle.value_domain.specs.Values.{any_val}
 use Rattle.packed_cert.specs.declared.places.ValueRow.{ValueRow}
 use Rattle.packed_cert.specs.ValuesInBytes.{place_after_values}
 
--- a number is before a row or after it
+-- a register's number is before or after a row of changed values
 abbrev pub IsOutsideRow : ValueRow → ℕ → Type 0
 IsOutsideRow row k = (k < row.first) ⊎ (row.behind ≤ k)
 
@@ -26,8 +26,7 @@ RowBeginsAtPlace bytes x row = 0 < row.behind → row.from ≡ place_after_value
 abbrev pub IsWholeRow : ℕ → ValueRow → Type 0
 IsWholeRow n row = (row.first ≡ 0) × (row.behind ≡ n)
 
--- this row of changed values is another one with value number `place` too, which was read and is
--- after the others
+-- the row `more` has value number `place`, which was read last, beside the values of this row
 pub record IsRowWithReadValue (row : ValueRow) (place : ℕ) (more : ValueRow) : Type 0 where
   pub first : more.first ≤ place
   pub behind : more.behind ≡ place + 1

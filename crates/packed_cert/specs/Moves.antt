@@ -15,8 +15,8 @@ pub record DiffersOnlyInRow (version : ℕ) (bytes : List ℕ) (before : State) 
   pub stand : 0 < (p.row).behind → drop (p.row).first (state_in_bytes version bytes p.place).regs ≡ values_in_bytes version bytes (p.row).from (27 - (p.row).first)
   pub same : IsTrue p.same → state_in_bytes version bytes p.place ≡ before
 
--- the state that point k moves on from and shares values with: that of the point before it, or any
--- state if it is the first
+-- a walk may have this state at hand before point k: that of the point before k, or any state if k
+-- is the first
 pub record IsStateBefore (version : ℕ) (bytes : List ℕ) (ps : List PointPlace) (k : ℕ) (s : State) : Type 0 where
   pub count : length s.regs ≡ 27
   pub last : (j : ℕ) (d : PointPlace) → j + 1 ≡ k → s ≡ state_in_bytes version bytes (slice_index_or ps j d).place

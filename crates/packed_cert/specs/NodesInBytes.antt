@@ -27,28 +27,27 @@ exit_in_bytes version bytes place = read_from_bytes_or no_exit (exit_at version 
 abbrev pub HasExitInBytes : ℕ → List ℕ → ℕ → Type 0
 HasExitInBytes version bytes place = (x : Exit × Place) × (exit_at version (place_in_bytes bytes place) ≡ Ok x)
 
--- a node's exit is read from one place in the bytes to another
+-- an exit of a certificate is in the bytes from one place to another
 abbrev pub IsExitBetween : ℕ → Place → Place → Type 0
 IsExitBetween version c d = (x : Exit) × (exit_at version c ≡ Ok (x, d))
 
--- there is an exit in a certificate's bytes, from its start to its end
+-- these are the places of an exit in a certificate's bytes: of its start and its end
 pub record AreExitPlaces (version : ℕ) (bytes : List ℕ) (p : ExitPlaces) : Type 0 where
   pub order : p.start ≤ p.end
   pub within : p.end ≤ length bytes
   pub read : IsExitBetween version (place_in_bytes bytes p.start) (place_in_bytes bytes p.end)
 
--- what always holds of an exit in the bytes: it is there, and its values are inside
+-- what always holds of an `ExitAt`: an exit is at its place, and IE's and CCPN's bytes are inside
 pub record IsExitAt (version : ℕ) (bytes : List ℕ) (place : ℕ) : Type 0 where
   pub short : length bytes ≤ 2 ^ 30
   pub exit : HasExitInBytes version bytes place
   pub room : place + 2 ≤ length bytes
 
--- a node of a certificate on its bytes, as plain data
+-- the node with this key and need, an exit at this place, if any, and points at these places
 abbrev pub node_of_fields : ℕ → List ℕ → Key → ℕ → Option ℕ → List PointPlace → NodeData
 node_of_fields version bytes key need exit points = record { key = key; need = need; exit = option_map (exit_in_bytes version bytes) exit; points = points_in_bytes version bytes points }
 
--- what always holds of a node in the bytes: its points ascend, and states and an exit are at their
--- places
+-- what always holds of a `Node`: its points ascend, and states and an exit are at their places
 pub record IsNodeAt (version : ℕ) (bytes : List ℕ) (exit_place : Option ℕ) (points : List PointPlace) : Type 0 where
   pub short : length bytes ≤ 2 ^ 30
   pub rising : IsStrictlyIncreasing (map (λ p. p.addr) points)
@@ -70,12 +69,12 @@ pub record AreNodePlaces (version : ℕ) (bytes : List ℕ) (n : NodePlaces) : T
   pub number : n.number ≡ number_of_key n.key
   pub node : IsNodeAt version bytes n.exit n.points.items
 
--- a certificate on its bytes, as plain data
+-- the certificate of this format whose nodes have these places in the bytes, as plain data
 abbrev pub cert_in_bytes : ℕ → List ℕ → List NodePlaces → CertData
 cert_in_bytes version bytes ns = record { version = version; nodes = nodes_in_bytes version bytes ns }
 
--- what always holds of a certificate on its bytes: they spell it, it keeps the limits, and its
--- nodes are at their places
+-- what always holds of a `Cert`: the bytes spell a certificate that keeps the limits, and its nodes
+-- are at their places
 pub record IsCertAt (version : ℕ) (bytes : List ℕ) (ns : List NodePlaces) : Type 0 where
   pub short : length bytes ≤ 2 ^ 30
   pub spells : certificate_of bytes ≡ Ok (cert_in_bytes version bytes ns)

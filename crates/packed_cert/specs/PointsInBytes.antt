@@ -17,7 +17,7 @@ state_in_bytes version bytes place = read_from_bytes_or no_state (state_at versi
 abbrev pub HasStateInBytes : ℕ → List ℕ → ℕ → Type 0
 HasStateInBytes version bytes place = (x : State × Place) × (state_at version (place_in_bytes bytes place) ≡ Ok x)
 
--- a point, with the state at its place
+-- the point whose address and place of its state are given, with the state decoded
 abbrev pub point_in_bytes : ℕ → List ℕ → PointPlace → Point
 point_in_bytes version bytes p = record { addr = p.addr; state = state_in_bytes version bytes p.place }
 
@@ -25,14 +25,14 @@ point_in_bytes version bytes p = record { addr = p.addr; state = state_in_bytes 
 abbrev pub points_in_bytes : ℕ → List ℕ → List PointPlace → List Point
 points_in_bytes version bytes ps = map (point_in_bytes version bytes) ps
 
--- this state is in a certificate's bytes, at these places of its start, its values and its end
+-- these are the places of this state in a certificate's bytes: of its start, its values and its end
 pub record AreStatePlaces (version : ℕ) (bytes : List ℕ) (s : State) (p : StatePlaces) : Type 0 where
   pub order : p.start ≤ p.end
   pub within : p.end ≤ length bytes
   pub read : state_at version (place_in_bytes bytes p.start) ≡ Ok (s, place_in_bytes bytes p.end)
   pub values : AreValuesInBytes version bytes s.regs p.values p.end
 
--- what always holds of a state in the bytes: it is there, and its values are inside
+-- what always holds of a `StateAt`: a state is at its place, and the flags of its locals are inside
 pub record IsStateAt (version : ℕ) (bytes : List ℕ) (place : ℕ) : Type 0 where
   pub state : HasStateInBytes version bytes place
   pub room : place + 4 + slice_index bytes (place + 3) ≤ length bytes

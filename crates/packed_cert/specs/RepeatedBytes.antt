@@ -6,11 +6,11 @@ use Rattle.value_domain.specs.declared.values.Val.{Val}
 use Rattle.packed_cert.specs.ValuesInBytes.{AreValuesInBytes}
 use Rattle.tcd_base.specs.Bytes.{word_in_bytes}
 
--- bytes of a packed certificate come again: the same n bytes are at two places
+-- the n bytes of a packed certificate from x on are repeated from y on
 abbrev pub AreBytesRepeated : List ℕ → ℕ → ℕ → ℕ → Type 0
 AreBytesRepeated bytes x y n = take n (drop x bytes) ≡ take n (drop y bytes)
 
--- so many bytes of a certificate's state, from its start on, come again at a place
+-- the first bytes of a certificate's state, as many as p counts, come again at a place
 pub record IsStartRepeatedAt (bytes : List ℕ) (place : ℕ) (p : RepeatedState) : Type 0 where
   pub first : (p.at).start + p.same ≤ length bytes
   pub second : place + p.same ≤ length bytes
@@ -28,6 +28,6 @@ pub record IsRepeatedStateAt (version : ℕ) (bytes : List ℕ) (vs : List Val) 
   pub values : AreValuesInBytes version bytes vs (p.at).values (p.at).end
   pub repeated : IsStartRepeatedAt bytes place p
 
--- the number in the eight bytes from a place on, to test whether bytes come again
+-- the eight bytes from a place on as one number, little-endian
 abbrev pub double_word_in_bytes : List ℕ → ℕ → ℕ
 double_word_in_bytes bytes place = word_in_bytes bytes place + word_in_bytes bytes (place + 4) * 4294967296

@@ -16,6 +16,6 @@ values_to_cover (Whole s) = (s.now).regs
 values_to_cover (Changed s c) = (state_after s.now c.now).regs
 values_to_cover (Lower s) = lower_values (s.now).regs
 
--- at place i, the value of a state after a change is below the unchanged state's own
+-- in slot i, the value of a state after a change is below the unchanged state's value
 abbrev pub IsChangedValueBelow : State → Change → ℕ → Type 0
 IsChangedValueBelow s c i = IsBelow (slice_index_or (state_after s c).regs i any_val) (slice_index_or s.regs i any_val)

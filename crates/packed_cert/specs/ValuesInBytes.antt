@@ -12,7 +12,7 @@ unfoldable pub words_in_bytes : List ℕ → ℕ → ℕ → List ℕ
 words_in_bytes bytes place zero = []
 words_in_bytes bytes place (suc n) = word_in_bytes bytes place ∷ words_in_bytes bytes (place + 4) n
 
--- what was read from a certificate's bytes, or d if nothing was
+-- what a reading of a certificate's bytes gives, or d if the reading fails
 abbrev pub read_from_bytes_or : {A : Type 0} → A → Result (A × Place) FormErr → A
 read_from_bytes_or d (Ok x) = x.0
 read_from_bytes_or d (Err e) = d

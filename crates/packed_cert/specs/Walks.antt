@@ -21,14 +21,14 @@ pub record WalkData : Type 0 where
   pub anew : List Val
   pub left : List Point
 
--- after a step of a walk, each value of the state at hand is as before, or one of those that may be
+-- after a walk advanced, each value of the state at hand is as before, or one of those that may be
 -- new
 abbrev pub KeepsOtherValues : State → WalkData → Type 0
 KeepsOtherValues before after =
     (r : ℕ) → r < length (after.current).regs → ((r < length before.regs) × (slice_index_or (after.current).regs r any_val ≡ slice_index_or before.regs r any_val)) ⊎ Contains after.anew (slice_index_or (after.current).regs r any_val)
 
--- a step of a walk returns the address of the first point that is left, whose state is then at
--- hand; or none is left
+-- a walk advances: the address and the state at hand are those of the first point that was left; no
+-- address if none was left
 abbrev pub AdvancesTo : WalkData → Option ℕ → WalkData → Type 0
 AdvancesTo before None after = (before.left ≡ []) × (after ≡ before)
 AdvancesTo before (Some addr) after =
@@ -38,11 +38,11 @@ AdvancesTo before (Some addr) after =
 abbrev pub IsNextWithSameState : WalkData → ℕ → Type 0
 IsNextWithSameState w addr = w.left ≡ record { addr = addr; state = w.current } ∷ drop 1 w.left
 
--- the next point of a walk has this address, and its state covers this one
+-- the next point of a walk has this address, and its state covers the state s
 abbrev pub IsCoveredByNext : WalkData → ℕ → State → Type 0
 IsCoveredByNext w addr s = (t : State) × (w.left ≡ record { addr = addr; state = t } ∷ drop 1 w.left) × Covers t s
 
--- of a walk over points: one of them has this address, and its state covers the one at hand
+-- the state at hand of a walk is covered by the state of the node's point at this address
 abbrev pub IsCoveredAt : WalkData → ℕ → Type 0
 IsCoveredAt w addr = IsSomeAnd (find_point addr w.points) (λ p. Covers p.state w.current)
 

@@ -35,7 +35,8 @@ pub(crate) fn read_cert_parts(alloc: Global, bytes: &[u8]) -> Result<(u8, Vec<No
     Ok((version, nodes))
 }
 
-/// Reads the places of all nodes of a packed certificate, as many as its head says.
+/// Reads `count` nodes of a certificate from the cursor: for each the key, the need, and the places
+/// of its exit and states in `bytes`.
 fn read_nodes(
     alloc: Global,
     c: &mut FileCursor<'_>,

@@ -59,14 +59,14 @@ impl Cert {
         })
     }
 
-    /// Gives up the certificate for the bytes that spell it.
+    /// Consumes the certificate and returns the bytes that spell it.
     pub fn into_bytes(self) -> Vec<u8>
         ensures { result.items ≡ bytes_of_cert self }
     {
         self.bytes
     }
 
-    /// Returns the format of a certificate, 1 or 2. A certificate keeps the order and the limits.
+    /// Returns the format of a certificate, 1 or 2, whose limits each certificate keeps.
     pub fn version(&self) -> u8
         ensures version { result ≡ self.now.version }
         ensures limits { IsCert self.now }
@@ -111,8 +111,8 @@ impl Cert {
         None
     }
 
-    /// Returns true only if the nodes of two keys have the same state at the keys' entries, and the
-    /// same exit. Their places in the bytes are compared: what is at equal places is equal.
+    /// Returns true only if the nodes of two keys have the same state at their entries and the same
+    /// exit. Places in the bytes are compared, not values.
     pub fn have_same_entry_and_exit(&self, a: &Key, b: &Key) -> bool
         ensures { IsTrue result → HaveSameEntryAndExit self.now.nodes a.now b.now }
     {
@@ -128,8 +128,8 @@ impl Cert {
     }
 }
 
-/// Returns the places of the state at a key's entry and of the exit of the key's node. `None` if
-/// there is no such node or no point at the entry. The bytes and the version are for the contract.
+/// Returns the places of the state at a key's entry and of the node's exit, if any; `None` without
+/// such a node or point. `bytes` and `version` are for the contract.
 fn entry_and_exit_places(
     bytes: &[u8],
     version: u8,

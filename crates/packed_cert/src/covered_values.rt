@@ -27,8 +27,8 @@ pub(crate) enum ToCover<'a> {
     Lower(&'a State),
 }
 
-/// Returns true if each of the `n` abstract values to cover is below the one in its turn in a
-/// certificate's bytes.
+/// Returns true if each of the `n` values to cover is below the value in its turn in a
+/// certificate's bytes, from `place` on.
 #[inline(always)]
 pub(crate) fn are_values_covered_at(
     values: &ToCover,
@@ -56,8 +56,8 @@ pub(crate) fn are_values_covered_at(
     true
 }
 
-/// Returns true if the abstract value at one place of a certificate's bytes is below the value at
-/// another. The first is read.
+/// Returns true if the abstract value at the place `low` of a certificate's bytes is below the
+/// value at the place `high`. The first one is decoded.
 #[inline(never)]
 pub(crate) fn is_below_at_places(low: ValuesAt<'_>, high: ValuesAt<'_>) -> bool
     requires low { HasValueInBytes low.version low.bytes.now low.place }
@@ -88,8 +88,8 @@ pub(crate) fn is_below_span_at(v: &Val, bytes: &[u8], version: u8, place: usize)
     step <= e.step
 }
 
-/// Returns true if each word of a Set is one of the `n` ascending words at a place of a
-/// certificate's bytes. Both are walked once.
+/// Returns true if each of the ascending words `own` is one of the `n` ascending words at a place
+/// of a certificate's bytes. Both lists are walked once.
 pub(crate) fn are_words_in_set_at(own: &[u32], bytes: &[u8], place: usize, n: usize) -> bool
     requires within { place + 4 * n ≤ length bytes.now }
     requires own { IsAscending own.now }
@@ -108,7 +108,7 @@ pub(crate) fn are_words_in_set_at(own: &[u32], bytes: &[u8], place: usize, n: us
 }
 
 /// Returns true if an abstract value is below the one at a place of a certificate's bytes, which is
-/// read. A function of its own, so that the others have no room of a value to fill.
+/// decoded. A function of its own, so that faster paths need no stack for a value.
 #[inline(never)]
 pub(crate) fn is_below_decoded_value(v: &Val, bytes: &[u8], version: u8, place: usize) -> bool
     requires well { IsWellFormed v.now }
@@ -118,8 +118,8 @@ pub(crate) fn is_below_decoded_value(v: &Val, bytes: &[u8], version: u8, place: 
     leq(v, &value_at_place(bytes, version, place))
 }
 
-/// Returns value number `i` of those that a certificate's values are to cover. `any` is returned
-/// for one that has all words.
+/// Returns value number `i` of those that a certificate's values are to cover. `any`, a value of
+/// all words, is returned for a register that a change makes unknown.
 #[inline(always)]
 fn value_to_cover<'a>(values: &'a ToCover, any: &'a Val, i: usize) -> &'a Val
     requires place { i < length (values_to_cover values.now) }
@@ -142,7 +142,7 @@ fn value_to_cover<'a>(values: &'a ToCover, any: &'a Val, i: usize) -> &'a Val
     }
 }
 
-/// Returns register value number `i` of a state that a certificate's state is to cover.
+/// Returns the value in slot `i` of the 27 register values of a state.
 #[inline(always)]
 fn value_in_slot<'a>(s: &'a State, i: usize) -> &'a Val
     requires place { i < 27 }
@@ -152,7 +152,8 @@ fn value_in_slot<'a>(s: &'a State, i: usize) -> &'a Val
     &s.regs[i]
 }
 
-/// Returns the number of the first word from number `k` on that isn't below `x`, or `n` if all are.
+/// Returns the number of the first of the `n` words at a place, from number `k` on, that is at
+/// least `x`. `n` if there is none.
 fn first_word_at_least(bytes: &[u8], place: usize, n: usize, k: usize, x: u32) -> usize
     requires within { place + 4 * n ≤ length bytes.now }
     requires start { k ≤ n }

@@ -67,7 +67,7 @@ impl<'a> ExitAt<'a> {
         self.bytes[self.place + 1]
     }
 
-    /// Returns the place of the values of the lower registers at this exit.
+    /// Returns the place of this exit's 14 values of lower registers in the certificate's bytes.
     pub(crate) fn lower(&self) -> ValuesAt<'a>
         ensures have { HaveValuesInBytes result.version result.bytes.now result.place 14 }
         ensures values { self.now.lower
@@ -112,7 +112,7 @@ impl<'a> ExitAt<'a> {
         )
     }
 
-    /// Returns this exit as a struct, read from the certificate's bytes.
+    /// Returns this exit as an `Exit`, decoded from the certificate's bytes.
     pub fn to_exit(&self) -> Exit
         ensures { result ≡ self.now }
     {
@@ -124,8 +124,8 @@ impl<'a> ExitAt<'a> {
     }
 }
 
-/// Reads the exit of a certificate's node, if there is one, over the last exit in `room`, and
-/// returns its place for an `ExitAt`.
+/// Reads whether a certificate's node of this kind has an exit, and reads that over the last one in
+/// `room`. Returns the exit's place, `None` without an exit.
 #[tactic(auto, unfolding(depth_cert::specs::Grammar::optional_exit_at))]
 pub(crate) fn read_optional_exit(
     c: &mut FileCursor<'_>,
@@ -150,8 +150,8 @@ pub(crate) fn read_optional_exit(
     Ok(Some(read_or_skip_exit(c, bytes, version, room)?))
 }
 
-/// Reads the exit of a certificate's node over the last one in `room`, and returns its place. If
-/// the same bytes come again, they are skipped and the last one's place is returned.
+/// Reads an exit of a certificate over the last one in `room`, and returns the place. If the last
+/// one's bytes come again, they are skipped and the last place is returned.
 pub(crate) fn read_or_skip_exit(
     c: &mut FileCursor<'_>,
     bytes: &[u8],

@@ -19,8 +19,8 @@ use std::marker::Model;
 use value_domain::{State, Val, flags_imply, leq};
 use vd_transfer::{Change, changed_value};
 
-/// Returns true if each value that a change puts outside the next point's row is below the
-/// unchanged state's value there.
+/// Returns true only if each value that the change `c` sets outside the row is below the unchanged
+/// state's value in that register.
 pub(crate) fn are_changed_values_below(s: &State, c: &Change, row: ValueRow) -> bool
     requires base { c.now.base ≡ Same }
     requires hand { AreWellFormed s.now.regs }
@@ -37,8 +37,8 @@ pub(crate) fn are_changed_values_below(s: &State, c: &Change, row: ValueRow) -> 
     is_changed_value_below(s, c, row, c.third.at)
 }
 
-/// Returns true if each changed value in the row of a certificate's point is below the point's own,
-/// in the bytes.
+/// Returns true only if each value of `s` after the change `c`, in the row of a certificate's
+/// point, is below the point's own.
 pub(crate) fn is_changed_row_below(
     s: &State,
     c: &Change,
@@ -66,8 +66,8 @@ pub(crate) fn is_changed_row_below(
     true
 }
 
-/// Returns true if the state of a point covers the one before it, changed by what is put alone.
-/// Only the values that are put and those of the point's row are compared.
+/// Returns true only if the state of the next point covers `s` after the change `c`. Only values
+/// that `c` sets or that are in the point's row are compared.
 pub(crate) fn is_covered_by_next_point(
     s: &State,
     c: &Change,
@@ -94,8 +94,8 @@ pub(crate) fn is_covered_by_next_point(
     are_changed_values_below(s, c, point.row) && is_changed_row_below(s, c, bytes, version, point)
 }
 
-/// Returns true if the changed value at a place is below the unchanged state's. Also if there is no
-/// place, or the row has that place.
+/// Returns true only if the value in slot `place` after the change `c` is below the unchanged
+/// state's. True without a slot, or if the row has the slot.
 fn is_changed_value_below(s: &State, c: &Change, row: ValueRow, place: Option<usize>) -> bool
     requires hand { AreWellFormed s.now.regs }
     requires well { AreWellFormed (state_after s.now c.now).regs }

@@ -54,7 +54,7 @@ impl<'a> Node<'a> {
         }
     }
 
-    /// Returns this node. A look-up of a point tries point number `near` first.
+    /// Returns this node with a hint: a look-up of a point tries the point with index `near` first.
     pub fn with_hint(&self, near: usize) -> Node<'a>
         ensures { result ≡ self.now }
     {
@@ -86,7 +86,8 @@ impl<'a> Node<'a> {
         self.points.len()
     }
 
-    /// Puts a walk before the first of this `Node`'s points, which are by ascending address.
+    /// Starts `walk` again, before the first of this `Node`'s points, which are by ascending
+    /// address.
     pub fn start_walk(&self, walk: &mut PointWalk<'a>)
         ensures all { walk.new.left ≡ self.now.points }
         ensures points { walk.new.points ≡ self.now.points }
@@ -109,9 +110,8 @@ impl<'a> Node<'a> {
     }
 }
 
-/// Returns the number of points whose addresses are below `addr`. The points number `near` and
-/// `near + 1` are tried first, since most instructions go on to the next one, and then a guess for
-/// jumps over instructions of four bytes.
+/// Returns the number of points whose addresses are below `addr`. Points number `near` and `near +
+/// 1` are tried first, then a guess, then a binary search.
 pub(crate) fn count_points_below(points: &[PointPlace], addr: u32, near: usize) -> usize
     requires { IsStrictlyIncreasing (map (λ p. p.addr) points.now) }
     ensures { IsPartitionPoint (λ p. nat_lt p.addr addr ≡ true) (λ p. nat_lt p.addr addr ≡ false)
@@ -131,8 +131,8 @@ pub(crate) fn count_points_below(points: &[PointPlace], addr: u32, near: usize) 
     points.partition_point(|p| is_node_point_below(p, addr))
 }
 
-/// Returns the number of the point at `addr` if all instructions between that and point number
-/// `near` have four bytes. A guess, which can save a search.
+/// Returns the number that the point at `addr` has if each instruction between `addr` and point
+/// number `near` has four bytes and a point. A guess, to save a search.
 fn guessed_point_number(points: &[PointPlace], addr: u32, near: usize) -> usize {
     if near >= points.len() {
         return near;

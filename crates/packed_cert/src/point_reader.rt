@@ -56,8 +56,8 @@ pub(crate) fn blank_state_for_reading() -> State {
     }
 }
 
-/// Reads the points of a certificate's node, as many as the bytes say: their addresses, and the
-/// places of their states.
+/// Reads the points of a certificate's node, as many as the bytes say: addresses and places of
+/// states. `room` has the state read last, and the number of points so far.
 #[tactic(auto, unfolding(depth_cert::specs::Grammar::points_at))]
 pub(crate) fn read_points(
     alloc: Global,
@@ -103,8 +103,8 @@ pub(crate) fn read_points(
     Ok(points)
 }
 
-/// Reads a point's state over that of the point before, which has the places `before`. If all of
-/// the same bytes come again, they are skipped.
+/// Reads a point's state into `out`, which has the state at the places `before`, if any. If all
+/// bytes of that state come again, they are skipped.
 #[inline(always)]
 pub(crate) fn read_or_skip_state(
     c: &mut FileCursor<'_>,
@@ -140,8 +140,8 @@ pub(crate) fn read_or_skip_state(
     read_changed_state(c, bytes, version, Some(repeated), out)
 }
 
-/// Reads the fields of a point's state over those of the point before. Returns the place of the
-/// values, and the row of those that were read.
+/// Reads the fields of a point's state into `out`, which has the state `before`, if any. Returns
+/// the place of the values, and the row of those that were read.
 #[tactic(auto, unfolding(depth_cert::specs::Grammar::state_at))]
 pub(crate) fn read_state_fields(
     c: &mut FileCursor<'_>,
@@ -170,8 +170,8 @@ pub(crate) fn read_state_fields(
     Ok((at, row))
 }
 
-/// Reads a point's state over that of the point before, if there is one, when not all bytes of that
-/// state come again.
+/// Reads a point's state into `out`, over the state `before`, if any, of whose bytes not all come
+/// again.
 #[inline(never)]
 pub(crate) fn read_changed_state(
     c: &mut FileCursor<'_>,
@@ -205,8 +205,8 @@ pub(crate) fn read_changed_state(
     })
 }
 
-/// Returns what a point of a certificate keeps of its state that was read. For a node's first point
-/// the row has all values, as any state may be at hand before.
+/// Returns what a certificate's point keeps of the state read for it. For a node's first point the
+/// row has all values, as a walk may begin with any state.
 fn with_whole_row_if_first(read: ReadState, first: bool) -> ReadState
     requires { read.at.values < 2 ^ 32 }
     ensures first { IsTrue first → IsWholeRow 27 result.row × (result.same ≡ false) }

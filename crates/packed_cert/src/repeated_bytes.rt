@@ -8,7 +8,8 @@ use crate::places::RepeatedState;
 use crate::value_reader::FEW_BYTES;
 use tcd_base::FileCursor;
 
-/// Counts the bytes of a certificate that are equal at two places, up to `end` at the first.
+/// Returns how many bytes from `x` on, before `end`, are repeated from `y` on, up to the first that
+/// differs.
 pub(crate) fn count_repeated_before(bytes: &[u8], x: usize, y: usize, end: usize) -> usize
     requires first { x ≤ length bytes.now }
     requires second { y ≤ length bytes.now }
@@ -20,8 +21,8 @@ pub(crate) fn count_repeated_before(bytes: &[u8], x: usize, y: usize, end: usize
     count_repeated_bytes(bytes, x, y, n)
 }
 
-/// Counts equal bytes at two places: many as slices, else eight at a time, then byte by byte. The
-/// contract says that the counted bytes are equal, not that the next ones differ.
+/// Returns how many of the `n` bytes from `x` on are repeated from `y` on, up to the first that
+/// differs. The contract says only that the counted bytes are equal.
 pub(crate) fn count_repeated_bytes(bytes: &[u8], x: usize, y: usize, n: usize) -> usize
     requires first { x + n ≤ length bytes.now }
     requires second { y + n ≤ length bytes.now }
@@ -43,7 +44,7 @@ pub(crate) fn count_repeated_bytes(bytes: &[u8], x: usize, y: usize, n: usize) -
 /// bytes, but doesn't tell where they differ.
 const MANY_BYTES: usize = 1024;
 
-/// Returns true only if these bytes are equal at two places.
+/// Returns true only if the `n` bytes from `x` on are repeated from `y` on.
 fn are_bytes_repeated(bytes: &[u8], x: usize, y: usize, n: usize) -> bool
     requires first { x + n ≤ length bytes.now }
     requires second { y + n ≤ length bytes.now }
@@ -57,7 +58,7 @@ fn are_bytes_repeated(bytes: &[u8], x: usize, y: usize, n: usize) -> bool
 /// The number of bytes that are compared in a turn.
 const BLOCK: usize = 64;
 
-/// Counts the bytes that are equal at two places, as far as whole blocks are.
+/// Returns how many of the `n` bytes from `x` on are repeated from `y` on, in whole blocks of 64.
 #[inline(always)]
 fn count_repeated_blocks(bytes: &[u8], x: usize, y: usize, n: usize) -> usize
     requires first { x + n ≤ length bytes.now }
@@ -75,8 +76,8 @@ fn count_repeated_blocks(bytes: &[u8], x: usize, y: usize, n: usize) -> usize
     i
 }
 
-/// Counts the bytes that are equal at two places, as far as eight at a time are. The first `from`
-/// are.
+/// Returns how many of the `n` bytes from `x` on are repeated from `y` on, as far as eight at a
+/// time are. The first `from` are known to be.
 #[inline(always)]
 fn count_repeated_eights(bytes: &[u8], x: usize, y: usize, from: usize, n: usize) -> usize
     requires first { x + n ≤ length bytes.now }
@@ -103,7 +104,8 @@ fn count_repeated_eights(bytes: &[u8], x: usize, y: usize, from: usize, n: usize
     i
 }
 
-/// Returns true if the last eight of these bytes are equal, and the first `from` reach up to them.
+/// Returns true only if the first `from` bytes, known to be repeated, reach up to the last eight of
+/// `n`, and these are repeated.
 #[inline(always)]
 fn are_last_eight_repeated(bytes: &[u8], x: usize, y: usize, from: usize, n: usize) -> bool
     requires first { x + n ≤ length bytes.now }
@@ -117,7 +119,7 @@ fn are_last_eight_repeated(bytes: &[u8], x: usize, y: usize, from: usize, n: usi
     are_eight_bytes_repeated(bytes, x + (n - 8), y + (n - 8))
 }
 
-/// Counts the bytes that are equal at two places, if the first `from` are.
+/// Returns how many of the `n` bytes from `x` on are repeated from `y` on. The first `from` are.
 #[inline(always)]
 fn count_repeated_one_by_one(bytes: &[u8], x: usize, y: usize, from: usize, n: usize) -> usize
     requires first { x + n ≤ length bytes.now }
@@ -137,8 +139,8 @@ fn count_repeated_one_by_one(bytes: &[u8], x: usize, y: usize, from: usize, n: u
     i
 }
 
-/// Skips `n` bytes of a certificate if they equal those from `x` on. Returns false, and the cursor
-/// stays, if they aren't seen to be equal.
+/// Skips `n` bytes of a certificate if they equal the `n` bytes from `x` on. Otherwise, or if fewer
+/// are left, returns false, and the cursor stays.
 #[inline(always)]
 pub(crate) fn skip_if_repeated(c: &mut FileCursor<'_>, bytes: &[u8], x: usize, n: usize) -> bool
     requires same { c.old.bytes ≡ bytes.now }
@@ -158,9 +160,8 @@ pub(crate) fn skip_if_repeated(c: &mut FileCursor<'_>, bytes: &[u8], x: usize, n
     before == here && c.take(n).is_some()
 }
 
-/// Returns where the equal bytes of the last state's values end, if that state's bytes come again
-/// at `start`, its values at `at`. Only if the bytes before the values differ, they are compared
-/// again.
+/// Returns the place up to which the values of the last state are repeated at `at`, in the state
+/// that begins at `start`.
 pub(crate) fn end_of_repeated(bytes: &[u8], state: RepeatedState, start: usize, at: usize) -> usize
     requires inside { at ≤ length bytes.now }
     requires values { state.at.values ≤ length bytes.now }
@@ -177,7 +178,7 @@ pub(crate) fn end_of_repeated(bytes: &[u8], state: RepeatedState, start: usize, 
     state.at.values + count_repeated_before(bytes, state.at.values, at, state.at.end)
 }
 
-/// Returns true if the block after the first `i` bytes is equal at two places, where these are.
+/// Returns true only if the 64 bytes after the first `i` from `x` on are repeated from `y` on.
 #[inline(always)]
 fn is_block_repeated(bytes: &[u8], x: usize, y: usize, i: usize) -> bool
     requires first { x + i + 64 ≤ length bytes.now }
@@ -191,8 +192,7 @@ fn is_block_repeated(bytes: &[u8], x: usize, y: usize, i: usize) -> bool
     is_half_block_repeated(bytes, x, y, i + 32)
 }
 
-/// Returns true if the bytes at two places, of which the first `i` are equal, are equal in the next
-/// 32 too.
+/// Returns true only if the 32 bytes after the first `i` from `x` on are repeated from `y` on.
 #[inline(always)]
 fn is_half_block_repeated(bytes: &[u8], x: usize, y: usize, i: usize) -> bool
     requires first { x + i + 32 ≤ length bytes.now }
@@ -212,7 +212,7 @@ fn is_half_block_repeated(bytes: &[u8], x: usize, y: usize, i: usize) -> bool
     are_eight_bytes_repeated(bytes, x + (i + 24), y + (i + 24))
 }
 
-/// Returns true if the eight bytes from one place on are repeated at another.
+/// Returns true if the eight bytes from `x` on are repeated from `y` on.
 fn are_eight_bytes_repeated(bytes: &[u8], x: usize, y: usize) -> bool
     requires first { x + 8 ≤ length bytes.now }
     requires second { y + 8 ≤ length bytes.now }
@@ -221,7 +221,7 @@ fn are_eight_bytes_repeated(bytes: &[u8], x: usize, y: usize) -> bool
     read_double_word(bytes, x) == read_double_word(bytes, y)
 }
 
-/// Returns the eight bytes from a place on as a number, little-endian, to compare them at once.
+/// Returns the eight bytes from a place of a certificate on as one number, little-endian.
 #[inline(always)]
 fn read_double_word(bytes: &[u8], place: usize) -> u64
     requires { place + 8 ≤ length bytes.now }

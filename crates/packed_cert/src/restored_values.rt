@@ -23,8 +23,8 @@ pub(crate) struct ValuesAt<'a> {
     pub(crate) place: usize,
 }
 
-/// Returns true if the values after a return are below those at `high` in a certificate. Lower
-/// registers have the exit's values at `lower`, others the caller's.
+/// Returns true if all values after a return are below those at `high` in a certificate. Lower
+/// registers have the exit's values at `lower`, others the caller's `regs`.
 pub(crate) fn are_restored_below(regs: &[Val; 27], lower: ValuesAt<'_>, high: ValuesAt<'_>) -> bool
     requires well { AreWellFormed regs.now }
     requires low { HaveValuesInBytes lower.version lower.bytes.now lower.place 14 }
@@ -85,8 +85,8 @@ fn is_restored_below(regs: &[Val; 27], i: usize, low: ValuesAt<'_>, high: Values
     is_below_value_at(&regs[i], high.bytes, high.version, high.place)
 }
 
-/// Returns the place of the exit's next lower value: the one after `low` if value number `i` is a
-/// lower register's, else `low`.
+/// Returns the place of the exit's value for the next lower register: the one after `low` if slot
+/// `i` is a lower register's, else `low`.
 fn next_exit_value_place(i: usize, low: ValuesAt<'_>) -> usize
     requires { IsTrue (states.is_lower_slot i)
         → HasValueInBytes low.version low.bytes.now low.place }

@@ -84,7 +84,7 @@ impl<'a> StateAt<'a> {
     ghost use Rattle.depth_cert.specs.Exits.{state_after_return};
     ghost use Rattle.vd_transfer.specs.Changes.{state_after};
 
-    /// Returns true if the context of this state (IE, least CCPN, `lower`) covers another.
+    /// Returns true if this state's context (IE, least CCPN, `lower`) covers the given one.
     pub fn covers_context(&self, ie: bool, ccpn: u8, lower: bool) -> bool
         ensures { IsTrue result
             ↔ ((IsTrue ie → IsTrue self.now.ie) × (self.now.ccpn ≤ ccpn)
@@ -110,8 +110,8 @@ impl<'a> StateAt<'a> {
         are_values_covered_at(&ToCover::Whole(s), VALUES, self.bytes, self.version, place)
     }
 
-    /// Returns true if this state of a certificate covers the state `s` after the change `c`, which
-    /// is never built.
+    /// Returns true if this state of a certificate covers the state `s` after the change `c`. The
+    /// changed state is never built.
     pub fn covers_changed(&self, s: &State, c: &Change) -> bool
         requires { AreWellFormed (state_after s.now c.now).regs }
         ensures { IsTrue result ↔ Covers self.now (state_after s.now c.now) }
@@ -133,8 +133,8 @@ impl<'a> StateAt<'a> {
         )
     }
 
-    /// Returns true if this state of a certificate covers the state after a CALL or SYSCALL that
-    /// returned by the exit. Neither state nor exit is decoded as a whole.
+    /// Returns true if this state covers the caller's state `s` after a return by `exit`. `kind` is
+    /// CALL for a call, SYS for a system call.
     pub fn covers_after_return(&self, s: &State, exit: &ExitAt<'_>, kind: u8) -> bool
         requires { AreWellFormed s.now.regs }
         ensures { IsTrue result ↔ Covers self.now (state_after_return s.now exit.now kind) }
@@ -180,7 +180,7 @@ fn state_locals_at(bytes: &[u8], place: usize, count: u8) -> ArrayVec<bool, 8>
     flags
 }
 
-/// Returns the place of the 27 register values of a state, in a certificate's bytes.
+/// Returns the place of the 27 register values of the state at `place` in a certificate's bytes.
 fn place_of_values(bytes: &[u8], version: u8, place: usize) -> usize
     requires { IsStateAt version bytes.now place }
     ensures have { HaveValuesInBytes version bytes.now result 27 }

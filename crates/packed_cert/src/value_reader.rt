@@ -19,10 +19,8 @@ pub(crate) const MOST_WORDS: u8 = 128;
 /// Fewer bytes than these are compared here, as the comparison of std takes longer to begin.
 pub(crate) const FEW_BYTES: usize = 64;
 
-/// Reads a value into each place of `out`, over the values of the state whose places are `before`,
-/// and returns the row of those that were read. The bytes of these values up to `stop` come again.
-// The cursor stays until a value is read: `place` is where it would be, and the bytes from `from`
-// up to `stop` are the same there.
+/// Reads a state's values into `out`, which has those at the places `before`, and returns the row
+/// of those read. Values whose bytes come again, up to `stop` at least, are skipped.
 pub(crate) fn read_changed_values(
     c: &mut FileCursor<'_>,
     bytes: &[u8],

@@ -54,7 +54,7 @@ pub(crate) fn are_values_at(b: &Bounds, bytes: &[u8], version: u8, place: usize,
     true
 }
 
-/// Returns the abstract value at a place of a certificate's bytes.
+/// Decodes and returns the abstract value at a place of a certificate's bytes.
 #[inline(never)]
 pub(crate) fn value_at_place(bytes: &[u8], version: u8, place: usize) -> Val
     requires { HasValueInBytes version bytes.now place }
@@ -96,8 +96,8 @@ pub(crate) fn read_value_at_place(bytes: &[u8], version: u8, place: usize, out: 
     }
 }
 
-/// Overwrites an abstract value with the Set of the `n` words at a place of a certificate's bytes,
-/// at most `N`.
+/// Overwrites `out` with the Set of the `n` words at a place of a certificate's bytes. There are at
+/// most `N` words, which is the room for them.
 fn read_set_at_place<const N: usize>(out: &mut Val, bytes: &[u8], place: usize, n: usize)
     requires within { place + 4 * n ≤ length bytes.now }
     requires few { n ≤ N }

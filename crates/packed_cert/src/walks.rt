@@ -112,8 +112,8 @@ impl<'a> PointWalk<'a> {
         if point.same { Some(point.addr) } else { None }
     }
 
-    /// Returns true if the walk's next point has this address and is seen to cover the state at
-    /// hand after the change `c`. Only values put or in the point's row are compared.
+    /// Returns true only if the walk's next point is at `addr` and covers the state at hand after
+    /// the change `c`. Only values set or in the point's row are compared.
     pub fn is_covered_by_next(&self, addr: u32, c: &Change) -> bool
         requires hand { AreWellFormed self.now.current.regs }
         requires changed { AreWellFormed (state_after self.now.current c.now).regs }
@@ -157,8 +157,8 @@ impl<'a> PointWalk<'a> {
         &self.state
     }
 
-    /// Returns the values at hand that the walk's last step read, and perhaps others between them.
-    /// The rest were at hand before.
+    /// Returns the values of the state at hand that the walk's last advance may have changed. All
+    /// others were at hand before.
     pub fn new_values(&self) -> &[Val]
         ensures { result.now ≡ self.now.anew }
     {
@@ -167,8 +167,8 @@ impl<'a> PointWalk<'a> {
     }
 }
 
-/// Overwrites the state before a point of a certificate with that of the point. Only the values of
-/// its row are read. Returns the row.
+/// Overwrites `room`, the state before a point of a certificate, with the point's state. Only
+/// values of the point's row are read. Returns that row, empty for the same state.
 fn read_state_of_point(bytes: &[u8], version: u8, point: PointPlace, room: &mut State) -> ValueRow
     requires state { HasStateInBytes version bytes.now point.place }
     requires moved { DiffersOnlyInRow version bytes.now room.old point }
@@ -188,8 +188,8 @@ fn read_state_of_point(bytes: &[u8], version: u8, point: PointPlace, room: &mut 
     point.row
 }
 
-/// Reads the row of the walk's next point, those of its values that may differ, over the values of
-/// the state before.
+/// Reads the values of a point's row, those that may differ, over the register values `out` of the
+/// state before.
 fn read_row_values(bytes: &[u8], version: u8, point: PointPlace, out: &mut [Val; 27])
     requires row { ChangesOnlyRow out.old (state_in_bytes version bytes.now point.place).regs point.row }
     requires few { point.row.behind ≤ 27 }

@@ -26,8 +26,7 @@ values_to_last_known known = flat_map spaced_values known
 abbrev pub all_values : Values → List Val
 all_values v = values_to_last_known v.known.items ++ replicate v.rest any_val
 
--- `count` of the values that a compact list stands for, from an index on; unknown values past the
--- end
+-- `count` of these values from the index `from` on; unknown values past the end of the list
 unfoldable pub values_from : List Val → ℕ → ℕ → List Val
 values_from vs from zero = []
 values_from vs from (suc count) = slice_index_or vs from any_val ∷ values_from vs (from + 1) count

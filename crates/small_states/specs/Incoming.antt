@@ -56,7 +56,7 @@ abbrev pub AppendsKnownState : Known → List ℕ → List ℕ → Type 0
 AppendsKnownState (state s) old new = (new ≡ old ++ bytes_of_state s) × (s.ccpn < 2 ^ 8)
 AppendsKnownState (leaving x) old new = Unit {0}
 
--- the value of an incoming register, which is given whole or in compact form
+-- the whole value of an incoming register, which is given whole or in compact form
 abbrev pub incoming_value_of : Given → Val
 incoming_value_of (Whole v) = v.now
 incoming_value_of (Compact v) = v.now

@@ -30,7 +30,7 @@ impl Model for Gathered {
     ghost invariant = { λ g. AreZerosAfter g.len g.bytes };
 }
 
-/// Returns whether a range holds all words, which a certificate spells as a single byte.
+/// Returns whether this range holds all words, which a certificate spells as one zero byte.
 #[inline(always)]
 fn is_all_words_range(lo: u32, last: u32, step: u8) -> bool
     ensures { result ≡ is_span_of_all_words lo last step }
@@ -59,7 +59,8 @@ impl Gathered {
         Ok(())
     }
 
-    /// Appends its bytes to `out` and empties it. Few states are so long that this is called.
+    /// Appends the buffered bytes of a state to `out`, and empties the buffer. Few states are so
+    /// long that this happens before their end.
     #[inline(never)]
     pub(crate) fn flush(&mut self, out: &mut Vec<u8>) -> Result<(), NoMemory>
         ensures added { OnOk result (out.new.items ≡ out.old.items ++ self.old) }
@@ -94,7 +95,8 @@ impl Gathered {
         self.len += 1;
     }
 
-    /// Adds the bytes that spell a set of these words to the buffer, at most 32 words at a time.
+    /// Appends the certificate's bytes of a set of at most 128 words to the buffer. A buffer
+    /// without room is flushed to `out` first.
     #[tactic(auto, unfolding(depth_cert::specs::Spelling::bytes_of_value))]
     pub(crate) fn push_set(&mut self, out: &mut Vec<u8>, words: &[u32]) -> Result<(), NoMemory>
         requires { length words.now ≤ 128 }
@@ -113,7 +115,8 @@ impl Gathered {
         Ok(())
     }
 
-    /// Adds the bytes that spell a range of words to the buffer.
+    /// Appends the certificate's bytes of the range of multiples of `2 ^ step` from `lo` to `last`
+    /// to the buffer. A buffer without room is flushed to `out` first.
     pub(crate) fn push_range(
         &mut self,
         out: &mut Vec<u8>,
@@ -134,8 +137,8 @@ impl Gathered {
         Ok(())
     }
 
-    /// Adds the bytes of unknown values and then of a single word. Returns false, with nothing
-    /// added, for another value or without room.
+    /// Appends the bytes of `here`, unknown values and then a single word, to the buffer. Returns
+    /// false, with nothing appended, for another value or without room.
     #[inline(always)]
     pub(crate) fn push_spaced_word(&mut self, here: &SpacedValue) -> bool
         ensures put { IsTrue result
@@ -159,7 +162,8 @@ impl Gathered {
         true
     }
 
-    /// Adds the bytes of `count` unknown values to the buffer: a zero for each.
+    /// Appends a zero for each of `count` unknown values to the buffer, or to `out` after a flush
+    /// if too few bytes are free.
     #[inline(always)]
     pub(crate) fn push_unknowns(&mut self, out: &mut Vec<u8>, count: u32) -> Result<(), NoMemory>
         ensures { OnOk result
@@ -174,7 +178,7 @@ impl Gathered {
         Ok(())
     }
 
-    /// Adds the bytes of these words to the buffer of a state's bytes, which has room.
+    /// Appends these words, little-endian, to the buffer of a state's bytes, which has room.
     #[inline(always)]
     fn push_words(&mut self, words: &[u32])
         requires { length self.old + 4 * length words.now ≤ 192 }

@@ -150,7 +150,8 @@ pub(crate) fn is_incoming_state_covered(
     are_incoming_values_covered(upper.regs.as_ref(), incoming)
 }
 
-/// Returns the least state that covers both, or `None` if their numbers of locals differ.
+/// Returns the least compact state that covers `left` and the incoming state with the context `k`,
+/// or `None` if their numbers of locals differ.
 pub(crate) fn join_incoming_state(
     alloc: Global,
     b: &Bounds,
@@ -200,7 +201,8 @@ pub(crate) fn is_incoming_exit_covered(upper: &SmallExit, incoming: &Incoming, k
     are_incoming_values_covered(upper.lower.as_ref(), incoming)
 }
 
-/// Returns the least exit that covers a compact one and the incoming one. There always is one.
+/// Returns the least compact exit that covers `exit` and the incoming exit with the context `k`.
+/// The result is never `None`.
 pub(crate) fn join_incoming_exit(
     alloc: Global,
     b: &Bounds,

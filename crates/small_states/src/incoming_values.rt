@@ -20,8 +20,8 @@ use std::rc::Rc;
 use value_domain::{A10_SLOT, Bounds, State, Val};
 use vd_transfer::{Base, Change, RegisterWrite, is_lower_slot};
 
-/// Returns the values of what flows in as a compact list, each copied from the sender's state, the
-/// change or the exit. A call of its own, since it has room for a whole value.
+/// Returns a new compact list of the values that flow in, each copied from the sender's state, the
+/// change or the exit. A function of its own: a whole value takes room on its stack.
 #[inline(never)]
 pub(crate) fn copy_incoming_values(alloc: Global, incoming: &Incoming) -> Result<Values, AllocError>
     ensures { IfOk result (λ values. all_values values ≡ incoming_values incoming.now) }
@@ -41,8 +41,8 @@ pub(crate) fn copy_incoming_values(alloc: Global, incoming: &Incoming) -> Result
     Ok(values)
 }
 
-/// Returns the values of what flows in as a compact list, from the sender's compact list `own`,
-/// which is shared if no value changes.
+/// Returns the values that flow in as a compact list, from the sender's compact list `own`, which
+/// is shared if no value changes.
 pub(crate) fn incoming_values_from_sender(
     alloc: Global,
     own: &Rc<Values>,
@@ -60,8 +60,8 @@ pub(crate) fn incoming_values_from_sender(
     }
 }
 
-/// Returns whether each incoming value is below the known value at the same index. Unknown values,
-/// which cover all, are skipped.
+/// Returns whether each incoming value is below the value of `upper` at the same index. Unknown
+/// values of `upper`, which cover all, are skipped.
 pub(crate) fn are_incoming_values_covered(upper: &Values, incoming: &Incoming) -> bool
     requires upper { AreWellFormed (all_values upper.now) }
     requires incoming { AreWellFormed (incoming_values incoming.now) }
@@ -88,8 +88,8 @@ pub(crate) fn are_incoming_values_covered(upper: &Values, incoming: &Incoming) -
     true
 }
 
-/// Returns the compact list of the least values that have the members of the known and the incoming
-/// values at each index.
+/// Returns the compact list of the least values, within the limits `b`, that cover the values of
+/// `left` and the incoming ones at each index.
 pub(crate) fn join_incoming_values(
     alloc: Global,
     b: &Bounds,
@@ -127,8 +127,8 @@ pub(crate) fn join_incoming_values(
     Ok(values)
 }
 
-/// Returns the incoming value at an index of the state's or exit's values. `any` is returned for an
-/// unknown value.
+/// Returns the incoming value at an index of the state's or exit's values. `any` is a compact
+/// unknown value, for what isn't known.
 #[inline(always)]
 pub(crate) fn incoming_value<'a>(incoming: &'a Incoming, any: &'a Small, i: usize) -> Given<'a>
     requires place { i < length (incoming_values incoming.now) }
@@ -151,8 +151,8 @@ pub(crate) fn incoming_value<'a>(incoming: &'a Incoming, any: &'a Small, i: usiz
     }
 }
 
-/// Returns the compact list of a changed state's values, from that of the state; shared if no value
-/// changes.
+/// Returns the compact list of values of the state `s` after the change `c`, from the list `own` of
+/// `s`; shared if no value changes.
 #[inline(always)]
 fn values_after_change(
     alloc: Global,
@@ -167,8 +167,8 @@ fn values_after_change(
     apply_change(alloc, own, c)
 }
 
-/// Returns the values of what flows in as a new compact list, from the sender's compact list `own`
-/// and the exit's.
+/// Returns a new compact list of the values that flow in, copied from the sender's compact list
+/// `own` and the exit's.
 #[inline(never)]
 fn copy_from_sender(alloc: Global, own: &Values, incoming: &Incoming) -> Result<Values, AllocError>
     requires { all_values own.now ≡ (sender_state incoming.now).regs }
@@ -198,8 +198,8 @@ fn copy_from_sender(alloc: Global, own: &Values, incoming: &Incoming) -> Result<
     }
 }
 
-/// Returns a compact list of values with a change put over them. If the change keeps all values,
-/// the list is shared.
+/// Returns a compact list of the values `own` after a change. The list is shared if the change
+/// keeps all values.
 #[inline(always)]
 fn apply_change(alloc: Global, own: &Rc<Values>, c: &Change) -> Result<Rc<Values>, AllocError>
     requires { length (all_values own.now.value) ≡ 27 }
@@ -220,7 +220,7 @@ fn apply_change(alloc: Global, own: &Rc<Values>, c: &Change) -> Result<Rc<Values
     Ok(Rc::new(alloc, values)?)
 }
 
-/// Returns the compact list that a change starts from: all values, those without the lower
+/// Returns the compact list that a change of `own` starts from: all values, those without the lower
 /// registers, or only unknown ones.
 #[inline(always)]
 fn base_values(alloc: Global, own: &Values, base: Base) -> Result<Values, AllocError>
@@ -237,7 +237,7 @@ fn base_values(alloc: Global, own: &Values, base: Base) -> Result<Values, AllocE
     }
 }
 
-/// Puts one register's value of a change into a compact list, if the change has that value.
+/// Sets one register's value of a change in a compact list, if the change has that value.
 #[inline(always)]
 fn apply_write(alloc: Global, values: &mut Values, write: &RegisterWrite) -> Result<(), AllocError>
     ensures { OnOk result (all_values values.new ≡ with_write (all_values values.old) write.now) }
@@ -249,7 +249,7 @@ fn apply_write(alloc: Global, values: &mut Values, write: &RegisterWrite) -> Res
     values.set_at_index(at, value)
 }
 
-/// Returns a compact list of a state's values in which those of the lower registers are unknown.
+/// Returns a compact list of a state's values `own`, those of the lower registers unknown.
 #[inline(never)]
 fn without_lower_values(alloc: Global, own: &Values) -> Result<Values, AllocError>
     requires { length (all_values own.now) ≡ 27 }
@@ -266,8 +266,8 @@ fn without_lower_values(alloc: Global, own: &Values) -> Result<Values, AllocErro
     Ok(values)
 }
 
-/// Returns the value at an index of a changed state, from the state and the change. `any` is
-/// returned for an unknown value.
+/// Returns the value at an index of the state `s` after the change `c`. `any` is a compact unknown
+/// value, for what the change forgets.
 #[inline(always)]
 fn changed_state_value<'a>(s: &'a State, c: &'a Change, any: &'a Small, i: usize) -> Given<'a>
     requires place { i < 27 }
@@ -287,8 +287,8 @@ fn changed_state_value<'a>(s: &'a State, c: &'a Change, any: &'a Small, i: usize
     base_value(s, c.base, any, i)
 }
 
-/// Returns the value at an index of the caller's state after a called frame returned with this
-/// exit.
+/// Returns the value at an index of the caller's state `s` after a called frame returned with this
+/// exit. `any` is a compact unknown value.
 #[inline(always)]
 fn value_after_return<'a>(s: &'a State, exit: &'a SmallExit, any: &'a Small, i: usize) -> Given<'a>
     requires place { i < 27 }
@@ -301,8 +301,8 @@ fn value_after_return<'a>(s: &'a State, exit: &'a SmallExit, any: &'a Small, i: 
     lower_or_caller_value(i, exit, any, &s.regs[i])
 }
 
-/// Returns the value at an index of what a change starts from, before the change puts in its
-/// values.
+/// Returns the value at an index of what a change of `s` starts from, before values are set. `any`
+/// is a compact unknown value.
 #[inline(always)]
 fn base_value<'a>(s: &'a State, base: Base, any: &'a Small, i: usize) -> Given<'a>
     requires place { i < 27 }
@@ -324,7 +324,7 @@ fn base_value<'a>(s: &'a State, base: Base, any: &'a Small, i: usize) -> Given<'
 }
 
 /// Returns the value at an index after a return: the exit's for a lower register, else `v`, the
-/// caller's.
+/// caller's. `any` is a compact unknown value.
 #[inline(always)]
 fn lower_or_caller_value<'a>(i: usize, exit: &'a SmallExit, any: &'a Small, v: &'a Val) -> Given<'a>
     requires { any.now ≡ any_val }

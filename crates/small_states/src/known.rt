@@ -69,8 +69,8 @@ fn may_cover_known(known: &KnownForm, incoming: &Incoming) -> bool {
         && may_cover_known_value(known, &c.third)
 }
 
-/// Returns whether a change's value for a register is the known compact one or has more words, only
-/// as a hint. True without a value.
+/// Returns, as a hint, whether a change's value for a register covers the known compact one: equal,
+/// or with more words. True without a value.
 fn may_cover_known_value(known: &SmallState, write: &RegisterWrite) -> bool {
     let Some(at) = write.at else {
         return true;
@@ -95,8 +95,8 @@ impl SmallKnown {
         Ok(SmallKnown { form })
     }
 
-    /// Returns a compact copy of what flows from the point with this known state; unchanged lists
-    /// of values are shared.
+    /// Returns a compact copy of the state or exit that flows from the point with this known state.
+    /// Unchanged lists of values are shared.
     pub fn compact_copy(&self, alloc: Global, incoming: &Incoming) -> Result<SmallKnown, AllocError>
         requires { self.now ≡ state (sender_state incoming.now) }
         ensures { IfOk result (λ c. c ≡ incoming_known incoming.now) }
@@ -149,8 +149,8 @@ impl SmallKnown {
         }
     }
 
-    /// Returns the least state or exit that covers the known and the incoming one, or `None` for
-    /// states with unequal numbers of locals.
+    /// Returns the least state or exit, within the limits `b`, that covers the known and the
+    /// incoming one. `None` for a state and an exit, or for unequal numbers of locals.
     pub fn join(
         &self,
         alloc: Global,
@@ -178,7 +178,7 @@ impl SmallKnown {
         }
     }
 
-    /// Returns the same as `join`, and shares values with `own`, the sender's state, if the
+    /// Returns what `join` returns, and shares values with `own`, the sender's state, if the
     /// incoming state covers the known one.
     pub fn join_sharing(
         &self,
@@ -216,7 +216,8 @@ impl SmallKnown {
         }
     }
 
-    /// Writes the known compact state over a scratch state of whole values. An exit writes nothing.
+    /// Writes the known compact state, as whole values, over the scratch state `into`. For an exit,
+    /// nothing is written.
     pub fn write_state(&self, _b: &Bounds, into: &mut ScratchState)
         requires { IsWellFormedKnown _b.now self.now }
         ensures { IsKnownState self.now into.new }

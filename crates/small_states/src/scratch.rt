@@ -28,8 +28,8 @@ impl Model for ScratchState {
     ghost invariant = { λ s. IfSome s.last (λ last. s.state.regs ≡ all_values last.value) };
 }
 
-/// Writes compact values over a scratch state's 27 whole ones, and remembers them as the last that
-/// were written.
+/// Writes 27 compact values over the whole ones of a scratch state, and notes them in `last` as
+/// those written last.
 #[inline(always)]
 fn write_scratch_values(values: &Rc<Values>, last: &mut Option<Rc<Values>>, regs: &mut [Val; 27])
     requires long { length (all_values values.now.value) ≡ 27 }
@@ -51,8 +51,8 @@ fn write_scratch_values(values: &Rc<Values>, last: &mut Option<Rc<Values>>, regs
     };
 }
 
-/// Writes compact values over those written last. With the same gaps, only values that differ are
-/// written. Returns true only if none was.
+/// Writes compact values over `regs`, which have the values `last`. With the same gaps, only values
+/// that differ are written. Returns true only if none was.
 #[inline(always)]
 fn overwrite_last_values(values: &Values, last: &Values, regs: &mut [Val; 27]) -> bool
     requires long { length (all_values values.now) ≡ 27 }
@@ -86,14 +86,15 @@ fn overwrite_last_values(values: &Values, last: &Values, regs: &mut [Val; 27]) -
 }
 
 impl ScratchState {
-    /// Returns a scratch state, over which others are written, that begins with this state.
+    /// Returns a scratch state that begins with this state, and over which compact states are
+    /// written.
     pub fn new(state: State) -> ScratchState
         ensures { result ≡ state }
     {
         ScratchState { state, last: None }
     }
 
-    /// Returns the state that was written into the scratch room last.
+    /// Returns the state that was written last over this scratch state, or at first that of `new`.
     #[inline(always)]
     pub fn state(&self) -> &State
         ensures { result.now ≡ self.now }

@@ -70,8 +70,8 @@ fn have_same_words(v: &Val, w: &Val) -> bool
     own.len() == words.len() && starts_with_words(own, words)
 }
 
-/// Returns how many words, from the first on, are among those of a compact set, up to the first
-/// that isn't. Both ascend.
+/// Returns how many of `words`, before the first that isn't a word of the set `own`, are words of
+/// that set. Both lists ascend.
 fn count_leading_members(own: &[u32], words: &[u32]) -> usize
     requires own { IsAscending own.now }
     requires words { IsAscending words.now }
@@ -93,8 +93,8 @@ fn count_leading_members(own: &[u32], words: &[u32]) -> usize
     n
 }
 
-/// Returns whether each member of `v` is one of `own`, which a compact value shares. Of two sets
-/// the greatest words are compared first.
+/// Returns whether each member of `v` is one of `own`, the value that a compact form shares. Of two
+/// sets the greatest words are compared first.
 fn is_below_shared_value(v: &Val, own: &Val) -> bool
     requires value { IsWellFormed v.now }
     requires own { IsWellFormed own.now }
@@ -118,7 +118,7 @@ fn is_below_shared_value(v: &Val, own: &Val) -> bool
     count_leading_members(held, words) == words.len()
 }
 
-/// Returns whether each member of a value is a word of a range.
+/// Returns whether each member of a value is a multiple of `2 ^ step` from `lo` to `last`.
 fn is_below_range(v: &Val, lo: u32, last: u32, step: u8) -> bool
     requires value { IsWellFormed v.now }
     requires step { step ≤ 2 }
@@ -128,7 +128,7 @@ fn is_below_range(v: &Val, lo: u32, last: u32, step: u8) -> bool
     is_extent_in_span(&e, lo, last, step)
 }
 
-/// Returns whether a word lies in a range: between its ends, and aligned to its step.
+/// Returns whether a word is a multiple of `2 ^ step` from `lo` to `last`, both included.
 #[inline(always)]
 fn is_word_in_range(x: u32, lo: u32, last: u32, step: u8) -> bool
     ensures { IsTrue result ↔ IsMember x (Span lo last step) }
@@ -136,7 +136,7 @@ fn is_word_in_range(x: u32, lo: u32, last: u32, step: u8) -> bool
     lo <= x && x <= last && step <= alignment_log2(x)
 }
 
-/// Returns the compact form of a range that isn't all words, out of line.
+/// Returns the compact form of a range that isn't all words. Never inlined.
 #[inline(never)]
 fn range_form(lo: u32, last: u32, step: u8) -> SmallForm
     ensures { whole_value result ≡ Span lo last step }
@@ -144,8 +144,8 @@ fn range_form(lo: u32, last: u32, step: u8) -> SmallForm
     SmallForm::Range { lo, last, step }
 }
 
-/// Returns true only if the words of one set begin with those of another. All are compared, since
-/// that takes several at once.
+/// Returns true only if the words `own` start with `words`. All are compared, since that takes
+/// several at once.
 #[inline(always)]
 fn starts_with_words(own: &[u32], words: &[u32]) -> bool
     ensures { IsTrue result → (rest : List ℕ) × (own.now ≡ words.now ++ rest) }
@@ -225,7 +225,7 @@ impl Small {
         }
     }
 
-    /// Returns true only if this compact value stands for the given one.
+    /// Returns true only if this compact value stands for the whole value `v`.
     #[inline(always)]
     pub fn stands_for(&self, v: &Val) -> bool
         ensures { IsTrue result → v.now ≡ self.now }
@@ -293,7 +293,7 @@ impl Small {
         }
     }
 
-    /// Writes the whole value that a compact one stands for over another.
+    /// Writes the whole value that a compact one stands for over `out`.
     #[inline(never)]
     pub fn write_to(&self, out: &mut Val)
         ensures { out.new ≡ self.now }
@@ -430,7 +430,7 @@ impl Small {
         }
     }
 
-    /// Returns a compact form with a copy of the whole value, which copies of the form share.
+    /// Returns a compact value that holds a copy of a whole one, which its copies share.
     #[inline(never)]
     fn from_shared(alloc: Global, v: &Val) -> Result<Small, AllocError>
         ensures { IfOk result (λ s. s ≡ v.now) }
@@ -532,9 +532,8 @@ impl Small {
         self.covers(&v.value())
     }
 
-    /// Returns the least compact value with the members of this one and of `v`, a set of `words`.
-    /// If this one is a set of fewer words than it lacks, they are added to `words`. Else up to 16
-    /// words that it lacks are added to it; if there are more, both sets are merged.
+    /// Returns the least compact value with the members of this one and of `v`, the set of `words`.
+    /// The shorter part is added to a copy of the other set; more than 16 missing words are merged.
     #[inline(never)]
     fn join_word_set(
         &self,
@@ -571,8 +570,8 @@ impl Small {
         self.with_words(alloc, b, &words[n..])
     }
 
-    /// Returns the least compact value with the members of this one and of a range: one of the two,
-    /// if that covers the other.
+    /// Returns the least compact value with the members of this one and of the range `v`: one of
+    /// the two, if that covers the other.
     #[inline(never)]
     fn join_range(&self, alloc: Global, b: &Bounds, v: &Val) -> Result<Small, AllocError>
         requires own { IsInLattice b.now self.now }
@@ -590,7 +589,7 @@ impl Small {
         self.join_whole(alloc, b, v)
     }
 
-    /// Returns the least compact value with the words of a set and others, which are added to a
+    /// Returns the least compact value with the words of a set and `others`, which are added to a
     /// copy of the set.
     #[inline(never)]
     fn from_word_lists(
@@ -629,7 +628,8 @@ impl Small {
         Small::from_value(alloc, &out)
     }
 
-    /// Returns a copy of a compact value, out of line, for rare cases.
+    /// Returns a copy of a compact value. Never inlined, since its callers need a copy in rare
+    /// cases.
     #[inline(never)]
     fn copy_out_of_line(&self) -> Result<Small, AllocError>
         ensures { IfOk result (λ s. s ≡ self.now) }

@@ -38,8 +38,8 @@ fn append_list(out: &mut Vec<u8>, gathered: &mut Gathered, values: &Values) -> R
     gathered.push_unknowns(out, values.rest)
 }
 
-/// Appends the certificate's bytes of unknown values and then of a known one, which is no single
-/// word that had room.
+/// Appends the certificate's bytes of `anys` unknown values and then of `v`, which is no single
+/// word that had room in the buffer.
 #[inline(never)]
 fn append_spaced_value(
     out: &mut Vec<u8>,

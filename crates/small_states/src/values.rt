@@ -41,7 +41,7 @@ fn write_unknowns(out: &mut [Val; 27], from: usize, to: usize)
 }
 
 impl Values {
-    /// Appends `count` unknown values to a compact list.
+    /// Appends `count` unknown values to a compact list, which only counts them.
     #[inline(always)]
     pub(crate) fn push_unknowns(&mut self, count: u32)
         requires { length (all_values self.old) + count < 2 ^ 32 }
@@ -50,7 +50,7 @@ impl Values {
         self.rest += count;
     }
 
-    /// Appends a value to a compact list, which only counts unknown ones.
+    /// Appends a value to a compact list. An unknown one is only counted.
     #[inline(always)]
     pub(crate) fn push_value(&mut self, value: Small) -> Result<(), AllocError>
         requires { length (all_values self.old) + 1 < 2 ^ 32 }
@@ -92,7 +92,7 @@ impl Values {
         Given::Compact(any)
     }
 
-    /// Puts a value at an index of a compact list. Past the end, nothing changes.
+    /// Sets the value at an index of a compact list. Past the end, nothing changes.
     pub(crate) fn set_at_index(&mut self, i: usize, value: Small) -> Result<(), AllocError>
         ensures { OnOk result
             (all_values self.new ≡ slice_set (all_values self.old) i value) }
@@ -104,7 +104,7 @@ impl Values {
         self.set_after_known(anys, value)
     }
 
-    /// Writes a compact list of 27 values over a state's whole ones.
+    /// Writes a compact list of 27 values over the whole ones of a state.
     #[inline(never)]
     pub(crate) fn write_to(&self, out: &mut [Val; 27])
         requires { length (all_values self.now) ≡ 27 }
@@ -154,7 +154,8 @@ impl Values {
         Ok(Values { known, rest })
     }
 
-    /// Appends `count` values of another compact list, from the index `from` on.
+    /// Appends `count` values of another compact list, from the index `from` on; past that list's
+    /// end, unknown values.
     #[inline(always)]
     pub(crate) fn extend_from_range(
         &mut self,
@@ -190,8 +191,8 @@ impl Values {
         Ok(())
     }
 
-    /// Finds an index of a compact list: returns how many known values are before, and how many
-    /// unknown ones lie between.
+    /// Returns how many known values of a compact list are before an index, and how many unknown
+    /// ones lie between them and the index.
     #[inline(always)]
     fn locate_index(&self, i: usize) -> (usize, usize)
         ensures { IsIndexAfter self.now i result.0 result.1 }
@@ -208,8 +209,8 @@ impl Values {
         (known.len(), left)
     }
 
-    /// Puts a value into a compact list, `anys` unknown values after the `n`th known one: over the
-    /// next known value, or between.
+    /// Sets a value of a compact list, `anys` unknown values after the first `n` known ones: the
+    /// next known value, or an unknown one before.
     fn set_before_known(&mut self, n: usize, anys: usize, value: Small) -> Result<(), AllocError>
         requires within { n < length self.old.known.items }
         requires before { (d : spaced.SpacedValue)
@@ -238,7 +239,7 @@ impl Values {
         Ok(())
     }
 
-    /// Puts a value into a compact list, `anys` unknown values after the last known one. Past the
+    /// Sets a value of a compact list, `anys` unknown values after the last known one. Past the
     /// end, nothing changes.
     fn set_after_known(&mut self, anys: usize, value: Small) -> Result<(), AllocError>
         ensures { OnOk result

@@ -11,8 +11,8 @@ use Rattle.std.specs.List.{list_all}
 abbrev pub IsAccessSize : ℕ → Type 0
 IsAccessSize n = (n ≡ 1) ⊎ (n ≡ 2) ⊎ (n ≡ 4)
 
--- each access from a member doesn't pass 2^32 and is wholly in one ram range or one peripheral
--- range
+-- each store of this size from a member doesn't pass 2^32 and is wholly in one ram range or one
+-- peripheral range
 abbrev pub AreStoresInRange : PlanData → Val → ℕ → Type 0
 AreStoresInRange plan v size = (x : ℕ) → IsMember x v → IsStoreInRange plan (x, size)
 
@@ -27,13 +27,12 @@ pub record AreStoresInRangeUntil (plan : PlanData) (size x end : ℕ) : Type 0 w
   pub within : end ≤ 2 ^ 32
   pub each : (y : ℕ) → x ≤ y → y + size ≤ end → IsStoreInRange plan (y, size)
 
--- next is the least multiple of 2 ^ step above x: the next address that a Span of accesses may have
+-- next is the least multiple of 2 ^ step above x: the next address that a Span of stores may have
 pub record IsNextStoreAddress (step x next : ℕ) : Type 0 where
   pub above : x < next
   pub fits : step ≤ alignment_log2 next
   pub least : (y : ℕ) → x < y → step ≤ alignment_log2 y → next ≤ y
 
--- all accesses of this size from the members of a value are aligned: each address is a multiple of
--- the size
+-- this holds if all accesses of this size from the members of a value are at multiples of the size
 abbrev pub are_aligned : Val → ℕ → Bool
 are_aligned v size = list_all (λ x. x % size == 0) (members v)

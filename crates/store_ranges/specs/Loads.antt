@@ -25,15 +25,15 @@ unfoldable pub number_in_image : ImageData → ℕ → ℕ → Option ℕ
 number_in_image image x zero = Some 0
 number_in_image image x (suc n) = option_and_then (λ b. option_map (λ w. b + 2 ^ 8 * w) (number_in_image image (x + 1) n)) (image_byte image x)
 
--- the number in the n bytes from x on, if they are in one rom range and held by segments
+-- the number that a load gets from n bytes at x, if one rom range and segments hold them; else none
 abbrev pub rom_number : ImageData → PlanData → ℕ → ℕ → Option ℕ
 rom_number image plan x n = if list_any (is_within_range x n) plan.rom then number_in_image image x n else None
 
--- the peripheral whose range has each access; only words are loaded from peripherals
+-- the first peripheral whose range holds a word at each address; None for accesses of other sizes
 abbrev pub device_of_loads : PlanData → ℕ → List ℕ → Option Device
 device_of_loads plan size xs = if size == 4 then find (λ d. list_all (λ x. is_within_range x 4 d.range) xs) plan.devices else None
 
--- all words that a load of that size and sign gives
+-- all words that a load of this size and sign can write to its register
 abbrev pub all_loaded_words : ℕ → Bool → List ℕ
 all_loaded_words size signed = map (load_result signed size) (multiples_in_range 0 (2 ^ (8 * size) - 1) 0)
 

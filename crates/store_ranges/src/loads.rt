@@ -25,9 +25,9 @@ pub struct LoadKind {
     pub signed: bool,
 }
 
-/// Returns the least abstract value that holds the results of loads of `size` bytes from all
-/// addresses in `at`. Rom gives the image's word, a peripheral the plan's answers, any other
-/// address any word.
+/// Returns the least abstract value, within the limits `b`, that holds what loads of `size` bytes
+/// from all addresses in `at` give. Rom gives the image's word, a peripheral the plan's answers,
+/// any other address any word.
 pub fn load_of(b: &Bounds, image: &Image, plan: &Plan, at: &Val, size: u8, signed: bool) -> Val
     requires at { IsInLattice b.now at.now }
     requires size { IsAccessSize size }
@@ -57,7 +57,7 @@ pub fn write_load(b: &Bounds, image: &Image, plan: &Plan, at: &Val, load: LoadKi
     }
 }
 
-/// Overwrites an abstract value with what loads from all of these addresses give.
+/// Overwrites an abstract value with what loads from all of these addresses, one at least, give.
 fn write_loads(b: &Bounds, image: &Image, plan: &Plan, words: &[u32], load: LoadKind, out: &mut Val)
     requires some { 1 ≤ length words.now }
     requires size { IsAccessSize load.size }
@@ -118,8 +118,8 @@ fn join_load_at(b: &Bounds, image: &Image, plan: &Plan, x: u32, load: LoadKind, 
     }
 }
 
-/// Returns the peripheral from which a load gets its word: its range has a word both at `low` and
-/// at `high`. Smaller loads have none.
+/// Returns the first peripheral whose range holds words at `low` and at `high`, from which a load
+/// gets its word. `None` if there is none, or for fewer than 4 bytes.
 fn device_of_load(plan: &Plan, low: u32, high: u32, size: u8) -> Option<Device>
     ensures device { result
         ≡ (if size == 4
@@ -163,8 +163,8 @@ fn write_peripheral_answers(b: &Bounds, device: Option<Device>, load: LoadKind, 
     }
 }
 
-/// Overwrites an abstract value with the cover of all words that a load of this size and sign can
-/// give.
+/// Overwrites an abstract value with the cover, within the limits `b`, of all words that a load of
+/// this size and sign can give.
 fn write_all_loaded_words(b: &Bounds, load: LoadKind, out: &mut Val)
     requires { IsAccessSize load.size }
     ensures cover { out.new ≡ cover b.now (all_loaded_words load.size load.signed) }
@@ -178,8 +178,8 @@ fn write_all_loaded_words(b: &Bounds, load: LoadKind, out: &mut Val)
     }
 }
 
-/// Overwrites an abstract value with the cover of all numbers of `size` bytes, which an unsigned
-/// load can give.
+/// Overwrites an abstract value with the cover, within the limits `b`, of all numbers of `size`
+/// bytes, which an unsigned load can give.
 fn write_unsigned_loaded_words(b: &Bounds, size: u8, out: &mut Val)
     requires { IsAccessSize size }
     ensures cover { out.new ≡ cover b.now (all_loaded_words size false) }
@@ -206,8 +206,8 @@ fn greatest_loaded_number(size: u8) -> u32
     }
 }
 
-/// Joins the words that a peripheral may answer to a load into an abstract value. This is a
-/// function of its own, so that its callers need no stack for a value.
+/// Joins the words that a peripheral may answer to a load, or all loaded words without one, into an
+/// abstract value. A function of its own, so that callers need no stack for a value.
 #[inline(never)]
 fn join_peripheral_answers(b: &Bounds, device: Option<Device>, load: LoadKind, out: &mut Val)
     requires size { IsAccessSize load.size }

@@ -10,14 +10,15 @@ use tcd_base::Range;
 use tcd_plan::{Device, Plan};
 use value_domain::alignment_log2;
 
-/// Returns the first memory range that holds all `n` bytes of a store at `x`, or `None`.
+/// Returns the first of these memory ranges that holds all `n` bytes of a store at `x`, or `None`.
 pub(crate) fn range_of_store(ranges: &[Range], x: u32, n: u8) -> Option<Range>
     ensures { result ≡ find (is_within_range x n) ranges.now }
 {
     ranges.iter().find(|r| r.holds(x, u32::from(n))).copied()
 }
 
-/// Returns the first peripheral whose range has an access of `n` bytes both at `low` and at `high`.
+/// Returns the first peripheral whose range holds an access of `n` bytes both at `low` and at
+/// `high`, or `None`.
 pub(crate) fn device_of_accesses(devices: &[Device], low: u32, high: u32, n: u8) -> Option<Device>
     ensures { result ≡ find (λ d. is_within_range low n d.range && is_within_range high n d.range)
         devices.now }
@@ -29,7 +30,7 @@ pub(crate) fn device_of_accesses(devices: &[Device], low: u32, high: u32, n: u8)
         .copied()
 }
 
-/// Returns true if a store of `size` bytes at each address is wholly in one ram range or one
+/// Returns true if a store of `size` bytes at each of these addresses is in one ram range or one
 /// peripheral range, as K9 asks.
 pub(crate) fn are_stores_in_range(plan: &Plan, words: &[u32], size: u8) -> bool
     ensures { IsTrue result ↔ All (λ x. IsStoreInRange plan.now (x, size)) words.now }
@@ -42,16 +43,16 @@ pub(crate) fn are_stores_in_range(plan: &Plan, words: &[u32], size: u8) -> bool
     true
 }
 
-/// Returns true if a store of `size` bytes at an address is wholly in one ram range or one
-/// peripheral range, as K9 asks.
+/// Returns true if a store of `size` bytes at `x` is wholly in one ram range or one peripheral
+/// range, as K9 asks.
 pub fn is_store_in_range(plan: &Plan, x: u32, size: u8) -> bool
     ensures { IsTrue result ↔ IsStoreInRange plan.now (x, size) }
 {
     store_range_end(plan, x, size).is_some()
 }
 
-/// Returns true if the store at each member of a Span is in range, as K9 asks. Walks from range to
-/// range, not from member to member.
+/// Returns true if a store at each multiple of `2 ^ step` from `least` to `last` is in range, as K9
+/// asks. Walks from range to range, not from member to member.
 pub(crate) fn is_span_store_in_range(plan: &Plan, least: u32, last: u32, step: u8, size: u8) -> bool
     requires step { step ≤ 2 }
     requires least { step ≤ sets.alignment_log2 least }
@@ -78,8 +79,8 @@ pub(crate) fn next_store_address(x: u64, step: u8) -> u64
     (x / unit + 1) * unit
 }
 
-/// Returns the end of the ram range or peripheral range that holds all bytes of a store at `x`, or
-/// `None`.
+/// Returns an address up to which stores of `size` bytes from `x` on are in range: the end of the
+/// range that holds the first. `None` if the store at `x` isn't in range.
 fn store_range_end(plan: &Plan, x: u32, size: u8) -> Option<u64>
     ensures { MatchOption result (¬ IsStoreInRange plan.now (x, size))
         (λ end. AreStoresInRangeUntil plan.now size x end) }

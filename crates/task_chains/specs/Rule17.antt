@@ -69,7 +69,7 @@ pub data BreaksRule17 (view : ImageData) (plan : PlanData) (tasks : TasksData) (
       (node : NodeData) (point : Point) → Contains cert.nodes node → Contains node.points point → (KeepsRule17AtCertPoint view plan tasks cert node point → ⊥)
       → BreaksRule17 view plan tasks cert node.key point.addr
 
--- K17 fails there, and at no lesser key or address
+-- k and p are the least key and address at which K17 fails
 pub record IsRule17Fault (view : ImageData) (plan : PlanData) (tasks : TasksData) (cert : CertData) (k : Key) (p : ℕ) : Type 0 where
   pub fails : BreaksRule17 view plan tasks cert k p
   pub least : (j : Key) (x : ℕ) → BreaksRule17 view plan tasks cert j x → number_of_key k * 2 ^ 32 + p ≤ number_of_key j * 2 ^ 32 + x
@@ -88,7 +88,7 @@ pub record MayHavePointAt (tasks : TasksData) (key : Key) (p : ℕ) : Type 0 whe
 abbrev pub KeepsRule17AtPoint : Limits → ImageData → PlanData → TasksData → Key → Point → Type 0
 KeepsRule17AtPoint b view plan tasks key point = (shape : Shape) (n : ℕ) → IsCode view plan point.addr shape n → KeepsRule17ByShape b plan tasks key point.addr point.state shape
 
--- K17 fails at an address of a node's points, and at no lesser one
+-- p is the least address of a node's points at which K17 fails
 pub record IsRule17NodeFault (b : Limits) (view : ImageData) (plan : PlanData) (tasks : TasksData) (node : NodeData) (p : ℕ) : Type 0 where
   pub point : Point
   pub stands : Contains node.points point

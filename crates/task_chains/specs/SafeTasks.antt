@@ -33,7 +33,7 @@ owner tasks m =
     if m.pc == tasks.switch + 48 || m.pc == tasks.switch + 52 || m.pc == tasks.switch + 56 then previous_task (count tasks) (current_task tasks m.mem)
     else current_task tasks m.mem
 
--- the word that begins the chain of task u
+-- the word that begins the chain of task u: PCXI for the owner, else the task's word in the block
 abbrev pub chain_word : TasksData → Machine → ℕ → ℕ
 chain_word tasks m u = if u == owner tasks m then m.pcxi else block_word tasks m.mem u
 
@@ -87,8 +87,8 @@ pub record IsSoundTaskCert (image : ImageData) (plan : PlanData) (tasks : TasksD
   pub frames : FramesHeld (view_image_of image tasks u) (view_plan_of plan tasks u) cert
   pub apart : KeepsRule17 (view_image_of image tasks u) (view_plan_of plan tasks u) tasks cert
 
--- the theorem of safe tasks: if the image has the routine, each task is judged well, and the sum of
--- the needs is at most the areas without the reserve, all runs are safe
+-- with the routine, certificates that are accepted and keep K17, and needs within the areas without
+-- the reserve, all runs of the tasks are safe
 abbrev pub TasksAreSafe : Type 0
 TasksAreSafe =
     (image : ImageData) (plan : PlanData) (tasks : TasksData) (certs : ℕ → CertData) → IsPlan plan → AreTasks tasks → FitPlan plan tasks → HasRoutine image plan tasks

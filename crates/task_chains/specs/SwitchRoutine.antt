@@ -61,7 +61,7 @@ view_routine_of n b =
 
 -- ---- bytes
 
--- the bytes of instructions, one after another
+-- the bytes of instructions, one after another, such as those of the routine
 abbrev pub bytes_of_instructions : List InstData → List ℕ
 bytes_of_instructions is = flat_map instruction_bytes is
 
@@ -89,7 +89,7 @@ routine_size = 72
 abbrev pub HasRoutine : ImageData → PlanData → TasksData → Type 0
 HasRoutine image plan tasks = (i : ℕ) → i < routine_size → HasRoutineByte image plan tasks i
 
--- the first byte that isn't the routine's is at this address
+-- x is the address of the first byte that isn't the routine's, or isn't in rom
 pub record IsRoutineFault (image : ImageData) (plan : PlanData) (tasks : TasksData) (x : ℕ) : Type 0 where
   pub place : ℕ
   pub within : place < routine_size

@@ -17,7 +17,7 @@ use Rattle.task_chains.specs.Views.{FitPlan}
 use Rattle.task_chains.specs.Devices.{view_devices}
 
 -- ---- lines; the grammar is the project's own
--- the two numbers of the words `NAME X Y`, each of eight upper-case hex digits
+-- the two numbers of the words `NAME X Y`, each of eight upper-case hex digits; else None
 unfoldable pub number_pair_of_words : List ℕ → List (List ℕ) → Option (ℕ × ℕ)
 number_pair_of_words name (word ∷ x ∷ y ∷ []) =
     if bytes_eq word name then option_and_then (λ a. option_map (λ b. (a, b)) (hex_number_of y)) (hex_number_of x) else None
@@ -27,7 +27,7 @@ number_pair_of_words name words = None
 abbrev pub switch_addresses_of_pair : ℕ × ℕ → Option Places
 switch_addresses_of_pair p = then_some (p.0 % 2 == 0 && p.1 % 4 == 0) (record { switch = p.0; block = p.1 })
 
--- the addresses of a line `switch Y B`
+-- the addresses of a line `switch Y B`, if the line has this form
 abbrev pub switch_addresses_of : List ℕ → Option Places
 switch_addresses_of line = option_and_then switch_addresses_of_pair (number_pair_of_words (codes "switch") (line_words line))
 
@@ -69,7 +69,7 @@ pub record IsFirstBadTaskLine (lines : List (List ℕ)) (n : ℕ) : Type 0 where
   pub at : n ≡ length before + 1
   pub breaks : BreaksTaskForm before line
 
--- if all lines are empty, line 1 is of another form
+-- line n is the first of another form; if all lines are empty, n is 1
 abbrev pub IsBadTaskLine : List (List ℕ) → ℕ → Type 0
 IsBadTaskLine lines n = ((nonempty_task_lines lines ≡ []) × (n ≡ 1)) ⊎ IsFirstBadTaskLine lines n
 
@@ -145,7 +145,7 @@ pub record HasFirstSevenTasks (lines : List (List ℕ)) (places : Places) (list 
   pub seven : list ≡ take 7 all
   pub more : IsEighthTaskLineIfAny lines (tasks_with places all) eighth
 
--- the draft of the lines so far, which can all be empty
+-- a draft with these parts is that of the lines so far; without addresses all lines are empty
 abbrev pub IsTasksDraftOfParts : List (List ℕ) → Option Places → List Task → Option ℕ → Type 0
 IsTasksDraftOfParts lines None list eighth = (nonempty_task_lines lines ≡ []) × (list ≡ []) × (eighth ≡ None)
 IsTasksDraftOfParts lines (Some places) list eighth = HasFirstSevenTasks lines places list eighth
@@ -158,8 +158,7 @@ IsTasksDraftOf lines d = IsTasksDraftOfParts lines d.places d.list.items d.eight
 abbrev pub IsTasksDraftAfterLine : TasksDraft → ℕ → List ℕ → TasksDraft → Type 0
 IsTasksDraftAfterLine old n line new = (before : List (List ℕ)) → IsTasksDraftOf before old → n ≡ length before + 1 → IsTasksDraftOf (before ++ line ∷ []) new
 
--- the error is that of a line of another form, which has this number and comes after the draft's
--- lines
+-- the error is BadLine n for line n of another form, which comes after the draft's lines
 abbrev pub IsErrOfTaskLine : TasksDraft → ℕ → List ℕ → TasksErr → Type 0
 IsErrOfTaskLine old n line e = (e ≡ BadLine n) × ((before : List (List ℕ)) → IsTasksDraftOf before old → BreaksTaskForm before line)
 

@@ -14,16 +14,16 @@ pub fn task_view_laws()
     ensures bytes { ViewsKeepBytes }
 {}
 
-/// If each task's certificate is judged well, and the sum of the needs is at most the areas without
-/// the reserve, all runs are safe: no area is on two chains, each task has at most its need, FCX is
-/// at the limit exactly if all areas except the reserve are in use, and stores are in range and
-/// miss the switch routine's block.
+/// If each task's certificate is accepted for its view and keeps K17, and the needs together are at
+/// most the areas without the reserve, all runs are safe. Then no area is on two chains, and each
+/// task has at most its need. FCX is at the limit exactly if all areas except the reserve are in
+/// use. Stores are in range and miss the switch routine's block.
 pub fn safe_tasks_law()
     ensures safe { TasksAreSafe }
 {}
 
-/// From plain equations: the machines that start tasks, the tasks that are ready for their first
-/// turn, and the tasks that fit a plan. A text has one list of tasks, or one error.
+/// Guard laws: plain equations give machines that start tasks, tasks that are ready for their first
+/// turn, and tasks that fit a plan. A text has one list of tasks, or one error.
 pub fn task_guard_laws()
     ensures ready { EveryTaskIsReady }
     ensures fits { EveryPlanFits }
@@ -31,8 +31,8 @@ pub fn task_guard_laws()
     ensures one { TaskTextHasOneResult }
 {}
 
-/// What safe runs of tasks means, in plain equations: each state of a run has these parts, and they
-/// are all that is promised.
+/// Guard laws: each state of a safe run of tasks has these parts, in plain equations, and they are
+/// all that is promised.
 pub fn safe_task_guard_laws()
     ensures says { SafeTasksSay }
     ensures parts { TaskPartsAreSafe }

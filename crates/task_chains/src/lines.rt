@@ -12,7 +12,7 @@ pub struct Places {
     pub block: u32,
 }
 
-/// Returns the addresses of a line `switch Y B`, if Y is even and B a multiple of 4.
+/// Returns the addresses of a line `switch Y B`, or None unless Y is even and B a multiple of 4.
 pub(crate) fn switch_addresses_in(line: &[u8]) -> Option<Places>
     ensures { result ≡ switch_addresses_of line.now }
 {

@@ -13,8 +13,8 @@ use std::alloc::Global;
 use tcd_base::NoMemory;
 use tcd_plan::Plan;
 
-/// Returns the image of a task's view. It begins at the task's entry, and has another switch
-/// routine: what the routine reads of the block and of PCXI is an input, and it writes neither.
+/// Returns the image of the view of task `u`. It begins at the task's entry. In its switch routine,
+/// what the routine reads of the block and of PCXI is an input, and nothing is written there.
 pub fn view_image(alloc: Global, image: &Image, tasks: &Tasks, u: usize) -> Result<Image, NoMemory>
     requires { u < count tasks.now }
     ensures { IfOk result (λ i. i ≡ view_image_of image.now tasks.now u) }
@@ -30,9 +30,9 @@ pub fn view_image(alloc: Global, image: &Image, tasks: &Tasks, u: usize) -> Resu
     })
 }
 
-/// Returns the plan of a task's view. It has the task's stack pointer, and no ram: what is left of
-/// ram without the block are peripherals that answer with any word. Interrupts are off at the start
-/// of all tasks except the first.
+/// Returns the plan of the view of task `u`. It has the task's stack pointer, and no ram: what is
+/// left of ram without the block are peripherals that answer with any word. Interrupts are off at
+/// the start of all tasks except the first.
 pub fn view_plan(plan: &Plan, tasks: &Tasks, u: usize) -> Plan
     requires task { u < count tasks.now }
     requires fit { FitPlan plan.now tasks.now }
@@ -84,8 +84,8 @@ fn write_view_routine(bytes: &mut [u8], at: u32, tasks: &Tasks)
     }
 }
 
-/// Writes a byte of the view's switch routine, that of address `x`, into a segment's bytes from
-/// address `at`, if they reach `x`.
+/// Writes `byte`, that of address `x` in the view's switch routine, into the bytes of a segment
+/// from address `at`, if they reach `x`.
 fn write_view_byte(bytes: &mut [u8], at: u32, x: u64, byte: u8)
     ensures { bytes.new ≡ (if nat_le at x && nat_lt (x - at) (length bytes.old)
         then set bytes.old (x - at) byte else bytes.old) }
@@ -96,8 +96,8 @@ fn write_view_byte(bytes: &mut [u8], at: u32, x: u64, byte: u8)
     }
 }
 
-/// Returns whether interrupts are on at the start of a task: as the plan says for the first, off
-/// for each other.
+/// Returns whether interrupts are enabled at the start of task `u`: as the plan says for task 0,
+/// disabled for each other.
 fn are_interrupts_on_at_start(plan: &Plan, u: usize) -> bool
     ensures { result ≡ (if u == 0 then plan.now.start_ie else false) }
 {

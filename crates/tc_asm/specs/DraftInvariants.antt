@@ -31,7 +31,7 @@ pub record IsLabelPlace (parts : List DraftSectionData) (p : Place) : Type 0 whe
   pub section : p.section < length parts
   pub offset : p.offset ≤ draft_section_size_at parts p.section
 
--- a symbol has no label, or one in a section of the draft
+-- the place of a symbol's label, if there is one, is in a section of the draft
 abbrev pub IsLabelPlaceIfAny : List DraftSectionData → Option Place → Type 0
 IsLabelPlaceIfAny parts None = Unit {0}
 IsLabelPlaceIfAny parts (Some p) = IsLabelPlace parts p
@@ -41,17 +41,18 @@ IsLabelPlaceIfAny parts (Some p) = IsLabelPlace parts p
 abbrev pub IsSmallLabelPlace : Option Place → Type 0
 IsSmallLabelPlace o = IfSome o (λ p. (p.section < 2 ^ 16) × (p.offset < 2 ^ 32))
 
--- each use begins after the four bytes of the last one, and its own four bytes end by `size`
+-- uses of four bytes each, in order, of which none overlaps another: the first begins at `low` or
+-- later, and the last ends by `size`
 abbrev pub AreUsesDisjoint : ℕ → List UseData → ℕ → Type 0
 AreUsesDisjoint low [] size = low ≤ size
 AreUsesDisjoint low (u ∷ us) size = (low ≤ u.offset) × AreUsesDisjoint (u.offset + 4) us size
 
--- a use of a known symbol, by a relocation
+-- a use by a relocation of a symbol that has one of these names
 pub record IsUseOfKnownSymbol (names : List (List ℕ)) (u : UseData) : Type 0 where
   pub kind : is_relocation_kind u.reference.kind ≡ true
   pub known : is_drafted_name names u.reference.name ≡ true
 
--- a section no longer than the total, with uses of known symbols that don't overlap
+-- a section of a draft, no longer than the total, with uses of known symbols that don't overlap
 pub record IsDraftSection (names : List (List ℕ)) (total : ℕ) (p : DraftSectionData) : Type 0 where
   pub small : length p.bytes ≤ total
   pub spaced : AreUsesDisjoint 0 p.uses (length p.bytes)

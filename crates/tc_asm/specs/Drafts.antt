@@ -130,7 +130,7 @@ label_distance labels d r =
     else None)
     (place_in labels r.name) None
 
--- these fields, with which a draft spells an instruction, with no broken rule and no symbol noted
+-- these fields of an instruction, with no broken rule and no symbol noted
 abbrev pub unbroken_fields : Fields → RowFieldsData
 unbroken_fields f = record { fields = f; rule = no_rule; reference = None }
 
@@ -185,13 +185,13 @@ draft_section_names parts = map (λ (p : DraftSectionData). p.name) parts
 abbrev pub count_of_uses : List DraftSectionData → ℕ
 count_of_uses parts = sum_by (λ (p : DraftSectionData). length p.uses) parts
 
--- the length of a draft's section of this number
+-- the size in bytes of a draft's section of this number; 0 if there is no such section
 abbrev pub draft_section_size_at : List DraftSectionData → ℕ → ℕ
 draft_section_size_at [] n = 0
 draft_section_size_at (p ∷ ps) zero = length p.bytes
 draft_section_size_at (p ∷ ps) (suc n) = draft_section_size_at ps n
 
--- the bytes of a draft's section of this number
+-- the bytes of a draft's section of this number; none if there is no such section
 abbrev pub draft_section_bytes_at : List DraftSectionData → ℕ → List ℕ
 draft_section_bytes_at [] s = []
 draft_section_bytes_at (p ∷ ps) zero = p.bytes

@@ -10,17 +10,16 @@ use Rattle.tc_asm.specs.Rules.{has_symbol_room, item_rule}
 abbrev pub without_symbols : DraftData → DraftData
 without_symbols d = record d { symbols = [] }
 
--- what the second pass keeps of a draft: all of it, or all but symbols that are known
+-- the draft as the second pass keeps it: whole, or without its symbols if they are known
 abbrev pub kept : Bool → DraftData → DraftData
 kept known d = if known then without_symbols d else d
 
--- the item's label is new: it is none of the labels that these symbols have; items of other kinds
--- have no label
+-- the item defines no label that these symbols have; true of items of other kinds
 abbrev pub is_new : List SymbolData → ItemData → Bool
 is_new ss (label name) = not (is_some (place_in ss name))
 is_new ss i = true
 
--- each item has room for its symbol and a new label, if any, after the items before it: so the
+-- before each item there is room for one more symbol, and no item defines a label again: so the
 -- second pass knows all symbols
 abbrev pub are_new : List SymbolData → DraftData → List ItemData → Bool
 are_new labels d [] = true

@@ -14,8 +14,8 @@ use Rattle.tc_asm.specs.Statements.{sections_in}
 abbrev pub section_of : DraftSectionData → SectionData
 section_of p = record { name = p.name; bytes = p.bytes }
 
--- the symbol of an object made from a draft: undefined (0) without a label, else local (1) or
--- global (2)
+-- the symbol of an object with this name: undefined (0) if its label has no place, else local (1)
+-- or global (2)
 abbrev pub object_symbol : List ℕ → Bool → Option Place → object.SymbolData
 object_symbol name is_global None = record { name = name; kind = undefined_symbol; section = 0; offset = 0 }
 object_symbol name is_global (Some p) = record { name = name; kind = if is_global then 2 else 1; section = p.section; offset = p.offset }

@@ -82,7 +82,7 @@ line_rule labels d l = min l.rule (items_rule labels d l.items)
 abbrev pub rule_of_source_line : List LineData → ℕ → LineData → ℕ
 rule_of_source_line lines k l = line_rule (symbols_of_lines lines) (draft_from_lines (symbols_of_lines lines) (take k lines)) l
 
--- no line of a source before this place breaks a rule, each after the draft of the lines before it
+-- none of the first n lines of a source breaks a rule, each after the draft of the lines before it
 abbrev pub LinesKeepRules : List LineData → ℕ → Type 0
 LinesKeepRules lines n = (k : ℕ) (d : LineData) → k < n → rule_of_source_line lines k (slice_index_or lines k d) ≡ no_rule
 

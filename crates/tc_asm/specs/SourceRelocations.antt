@@ -11,8 +11,8 @@ use Rattle.tc_asm.specs.Rules.{LinesKeepRules}
 use Rattle.tc_asm.specs.Objects.{object_of_draft, assembled_addend}
 use Rattle.tc_asm.specs.Statements.{StatementData, statements_in, has_unresolved_symbol}
 
--- the relocation of a source for a statement in this section at this offset, whose symbol is given;
--- none if the statement doesn't wait for an address
+-- the relocation of a statement at this place, as a list: empty if the statement doesn't wait for
+-- the address of a symbol
 abbrev pub statement_relocs : List SymbolData → ℕ → ℕ → Option ReferenceData → List Reloc
 statement_relocs symbols section offset None = []
 statement_relocs symbols section offset (Some r) =

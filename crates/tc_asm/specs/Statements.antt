@@ -44,8 +44,7 @@ statements_from labels d (i ∷ is) = statement_with_room d (statement_of_item l
 abbrev pub statements_of_lines : List SymbolData → List LineData → List StatementData
 statements_of_lines labels lines = statements_from labels empty_draft (items_in lines)
 
--- the bytes that a source's statements give the section of this number: those of each statement in
--- it, in order
+-- the bytes of a section: those of each statement in the section of this number, in order
 abbrev pub section_bytes : ℕ → List StatementData → List ℕ
 section_bytes s ts = flat_map (λ (t : StatementData). if t.section == s then t.bytes else []) ts
 

@@ -98,8 +98,8 @@ fn draft_with_known_symbols<'a>(draft: Draft<'a>, known: bool, symbols: Symbols<
     }
 }
 
-/// Adds items in the first of the two passes over a source, as far as symbols depend on them.
-/// Returns whether there was room for one more symbol before each, and no label is there twice.
+/// Adds items to the first pass's draft, as far as symbols depend on them. Returns true if each had
+/// room for one more symbol and defines no label again.
 fn scan_items<'a>(
     alloc: Global,
     draft: &mut Draft<'a>,
@@ -121,8 +121,8 @@ fn scan_items<'a>(
     Ok(all_new)
 }
 
-/// Whether items of the first pass over a source are new, if those before the last one are: there
-/// is room for its symbol, and it defines no label twice.
+/// Whether items of the first pass have room for their symbols and new labels: those `before` the
+/// last one, and the last one itself.
 #[inline(always)]
 fn are_items_new(before: bool, room: bool, new: bool) -> bool
     ensures { result ≡ (before && (room && new)) }

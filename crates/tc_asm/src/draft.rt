@@ -107,8 +107,8 @@ impl<'a> Draft<'a> {
         Ok(())
     }
 
-    /// Notes in the draft that its next bytes, of which there are `size`, use a symbol, if that
-    /// needs a relocation, the bytes are four, and there is room for them and for it.
+    /// Notes a symbol's use by the draft's next `size` bytes, if a relocation is needed, `size` is
+    /// 4, and there is room for both.
     #[inline(always)]
     #[tactic(auto, unfolding(crate::specs::Drafts::with_use))]
     pub(crate) fn add_use(&mut self, size: usize, r: Reference<'a>) -> Result<(), AllocError>
@@ -140,7 +140,7 @@ impl<'a> Draft<'a> {
         self.add_bytes(bytes)
     }
 
-    /// Adds an item. `labels` are the symbols of the whole source.
+    /// Extends the draft by an item of the source. `labels` are the symbols of the whole source.
     #[tactic(auto, unfolding(crate::specs::Drafts::draft_after_item))]
     pub fn add_item(
         &mut self,
@@ -204,8 +204,7 @@ impl<'a> Draft<'a> {
         Ok(true)
     }
 
-    /// Notes in the draft the symbol of the next bytes, of which there are `size`, if they have
-    /// one.
+    /// Notes in the draft the symbol of its next `size` bytes, if they have one.
     #[inline(always)]
     #[tactic(auto, unfolding(crate::specs::Drafts::with_reference))]
     fn add_reference(&mut self, size: usize, r: &Option<Reference<'a>>) -> Result<(), AllocError>
@@ -218,8 +217,8 @@ impl<'a> Draft<'a> {
         }
     }
 
-    /// Notes in the draft of an object the symbol of its next bytes, of which there are `size`, and
-    /// a relocation if they need one.
+    /// Notes in the draft the symbol of its next `size` bytes, and a relocation if they need one. A
+    /// bad name changes nothing.
     #[inline(never)]
     #[tactic(auto, unfolding(crate::specs::Drafts::with_reference))]
     fn add_named_reference(&mut self, size: usize, r: &Reference<'a>) -> Result<(), AllocError>

@@ -73,8 +73,8 @@ impl<'a> Draft<'a> {
     ghost use Rattle.tc_stmt.specs.Items.{reference_of};
     ghost use Rattle.tc_asm.specs.Drafts.{label_distance, fields_with_label_distance, fields_with_target, row_fields_with_target, code_bytes};
 
-    /// Returns the fields of the draft's next instruction, of the row with this number, with its
-    /// target resolved unless a relocation will fill it in.
+    /// Returns the fields of the draft's next instruction, of row number `row`. Its target `r` is
+    /// resolved by `labels` unless a relocation will fill it in.
     #[inline(always)]
     pub(crate) fn resolve_instruction(
         &self,
@@ -96,8 +96,8 @@ impl<'a> Draft<'a> {
         }
     }
 
-    /// Returns the bytes of an instruction at the draft's next byte, with its target resolved
-    /// unless a relocation will fill it in.
+    /// Returns the bytes of the draft's next instruction, of row number `row`. Its target `r` is
+    /// resolved by `labels` unless a relocation will fill it in.
     #[tactic(auto, unfolding(crate::specs::Drafts::code_bytes))]
     pub(crate) fn code_bytes(
         &self,

@@ -72,8 +72,8 @@ impl<'a> Draft<'a> {
         }
     }
 
-    /// Returns the least rule that a label breaks as it is put into a draft whose symbols are
-    /// known, so that nothing is added, there is room, and it isn't defined twice.
+    /// Returns the least rule that a label breaks in a draft whose symbols are known, with room for
+    /// all and none defined twice. Nothing is added.
     fn known_label_rule(&self, labels: &Symbols<'a>, name: &[u8]) -> u8
         ensures { result ≡ item_rule labels.now (without_symbols self.now) (label name.now) }
     {
@@ -81,8 +81,8 @@ impl<'a> Draft<'a> {
         section.min(Self::name_rule(name).min(NO_RULE))
     }
 
-    /// Returns the least rule that a global name breaks as it is put into a draft whose symbols are
-    /// known, so that nothing is added and there is room.
+    /// Returns the least rule that a global name breaks in a draft whose symbols are known, with
+    /// room for all. Nothing is added.
     fn known_global_rule(&self, labels: &Symbols<'a>, name: &[u8]) -> u8
         ensures { result ≡ item_rule labels.now (without_symbols self.now) (global name.now) }
     {
@@ -109,7 +109,8 @@ impl<'a> Draft<'a> {
         Ok(NO_RULE.min(rule))
     }
 
-    // Adds an instruction with a symbol that is known, and returns the least rule that it breaks.
+    // Adds an instruction with a known symbol, and returns the least rule that the instruction
+    // breaks.
     #[tactic(auto, unfolding(crate::specs::Rules::item_rule, crate::specs::Drafts::draft_after_item, crate::specs::Drafts::code_bytes))]
     fn add_checked_code_with_symbol(
         &mut self,
@@ -130,7 +131,8 @@ impl<'a> Draft<'a> {
         Ok(found.rule.min(rule))
     }
 
-    // Adds bytes with a symbol that is known, and returns the least rule that they break.
+    // Adds bytes and the use of their known symbol, and returns the least rule that the bytes
+    // break.
     #[inline(never)]
     fn add_checked_symbol_bytes(&mut self, bytes: &[u8], r: Reference<'a>) -> Result<u8, AllocError>
         ensures draft { OnOk result (without_symbols self.new
@@ -181,7 +183,8 @@ impl<'a> Draft<'a> {
         Ok(self.content_rule(bytes.len(), &None))
     }
 
-    /// Notes the use of a symbol that is known, as an item is put into the draft.
+    /// Notes in the draft that its next `size` bytes use a symbol that is known. A bad name changes
+    /// nothing.
     #[inline(always)]
     fn add_use_of_known_symbol(&mut self, size: usize, r: Reference<'a>) -> Result<(), AllocError>
         ensures { OnOk result (without_symbols self.new
@@ -194,8 +197,8 @@ impl<'a> Draft<'a> {
     }
 }
 
-/// Puts items into a draft one after another, each checked, and returns the least rule that they
-/// break.
+/// Adds items to a draft one after another, and returns the least rule that they break, or no rule.
+/// If symbols are `known`, none is added.
 pub(crate) fn add_checked_items<'a>(
     alloc: Global,
     draft: &mut Draft<'a>,

@@ -15,7 +15,7 @@ use tc_stmt::{
 // The most symbols of a source.
 const MOST_SYMBOLS: usize = 65535;
 
-/// Whether this is the kind of a relocation. Rule 13 limits the number of relocations.
+/// Whether a reference of this kind needs a relocation. Rule 13 limits the number of relocations.
 pub(crate) fn is_relocation_kind(kind: u8) -> bool
     ensures { result ≡ needs_reloc kind }
 {

@@ -106,7 +106,7 @@ pub(crate) fn write_counted_zeros(part: &mut Part) -> Result<(), AllocError>
     Ok(())
 }
 
-/// The number of the section with this name, if one has it.
+/// Returns the number of the draft's section with this name, or `None` if none has this name.
 fn find_section(parts: &[Part], name: &[u8]) -> Option<usize>
     ensures { result ≡ position (λ p. bytes_eq name.now p.name.now) parts.now }
 {

@@ -124,8 +124,8 @@ impl<'a> Symbols<'a> {
         Ok(())
     }
 
-    /// Defines a name at this place, unless it has a label already, and returns the place of that
-    /// label. A new name is looked up once.
+    /// Defines a name at this place, unless the name has a label already. Returns the place of that
+    /// label, or `None`.
     #[tactic(auto, using(crate::proofs::SymbolLaws::labelled_new, crate::proofs::SymbolLaws::labelled_known))]
     pub(crate) fn define(
         &mut self,

@@ -55,7 +55,7 @@ BootReachesStart =
     (image : ImageData) (plan : PlanData) (at : ℕ) (m : Machine) (es : List Event) → IsPlan plan → IsImage image → HasBoot image plan at → Reset image plan at m
     → AllFit plan m es → length es ≡ boot_events plan → BootsToStart image plan at m es
 
--- an image that is safe from its start states is safe from reset on, if it holds a boot sequence
--- that may run
+-- an image that is safe from its start states is safe from reset on, if the boot sequence is there
+-- and may run
 abbrev pub SafeImagesBootSafely : Type 0
 SafeImagesBootSafely = (image : ImageData) (plan : PlanData) (at most : ℕ) → IsPlan plan → IsImage image → HasBoot image plan at → Safe image plan most → BootsSafely image plan at most

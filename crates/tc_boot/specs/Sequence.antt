@@ -9,11 +9,11 @@ use Rattle.tc_isa.specs.Spelling.{instruction_bytes}
 use Rattle.tc_machine.specs.PlanAreas.{first_link}
 
 -- ---- words into registers
--- sets a core register to x, by D0; the register holds x from the next instruction on
+-- the instructions that write x to this core register, by D0; in force from the next one on
 abbrev pub core_register_write : ℕ → ℕ → List InstData
 core_register_write number x = movh 0 (adjusted_upper_half x) ∷ addi 0 0 (lower_half x) ∷ mtcr number 0 ∷ isync ∷ []
 
--- sets an address register to x
+-- the instructions that set the address register of number r to the word x
 abbrev pub address_register_write : ℕ → ℕ → List InstData
 address_register_write r x = movh_a r (adjusted_upper_half x) ∷ lea_l r r (lower_half x) ∷ []
 
@@ -28,33 +28,33 @@ boot_limit_link plan = first_link plan + (plan.areas - plan.reserve)
 abbrev pub boot_psw : PlanData → ℕ
 boot_psw plan = if plan.start_is then 0xb7f else 0x97f
 
--- sets CCPN (in ICR, with interrupts off), PCXI, FCX, LCX, BIV, BTV, ISP and PSW
+-- instructions that write CCPN (in ICR, interrupts off), PCXI, FCX, LCX, BIV, BTV, ISP and PSW
 abbrev pub boot_core_setup : PlanData → List InstData
 boot_core_setup plan =
     core_register_write 0xfe2c plan.start_ccpn ++ core_register_write 0xfe00 0 ++ core_register_write 0xfe38 (first_link plan) ++ core_register_write 0xfe3c (boot_limit_link plan)
     ++ core_register_write 0xfe20 plan.biv ++ core_register_write 0xfe24 plan.btv ++ core_register_write 0xfe28 plan.isp ++ core_register_write 0xfe04 (boot_psw plan)
 
--- sets D0 to the first link word, A2 to the first CSA, A3 to the number of CSAs less one
+-- instructions that set D0 to the first link word, A2 to the first CSA, A3 to the CSAs less one
 abbrev pub boot_loop_setup : PlanData → List InstData
 boot_loop_setup plan =
     movh 0 (adjusted_upper_half (first_link plan)) ∷ addi 0 0 (lower_half (first_link plan)) ∷ address_register_write 2 plan.csa_at
     ++ mov 1 (plan.areas - 1) ∷ mov_a 3 1 ∷ []
 
--- writes into each CSA the link word of the next one; loop goes back by two instructions
+-- the instructions of the loop that writes into each CSA the link word of the next one
 abbrev pub boot_link_loop : List InstData
 boot_link_loop = addi 0 0 1 ∷ st_w_after 2 64 0 ∷ loop_at 3 (2 ^ 15 - 4) ∷ []
 
--- writes 0 into the last CSA, as the end of the list
+-- the instructions that write 0 into the last CSA, as the end of the list
 abbrev pub boot_list_end : List InstData
 boot_list_end = mov 1 0 ∷ st_w_l 2 (2 ^ 16 - 64) 1 ∷ []
 
--- sets the global registers and the stack pointer
+-- the instructions that set the global registers and the stack pointer
 abbrev pub boot_address_setup : PlanData → List InstData
 boot_address_setup plan =
     address_register_write 0 (slice_index plan.globals 0) ++ address_register_write 1 (slice_index plan.globals 1) ++ address_register_write 8 (slice_index plan.globals 2)
     ++ address_register_write 9 (slice_index plan.globals 3) ++ address_register_write 10 plan.sp
 
--- the jump to the entry
+-- the instructions that jump to the entry, by A15
 abbrev pub boot_jump : ℕ → List InstData
 boot_jump entry = address_register_write 15 entry ++ ji 15 ∷ []
 

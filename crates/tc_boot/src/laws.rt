@@ -8,9 +8,9 @@ pub fn boot_reaches_the_start()
     ensures safe { SafeImagesBootSafely }
 {}
 
-/// Consequences of this crate's definitions in plain equations: the machines at reset, the
-/// addresses of a machine that boots, and what a safe boot promises. The test of a boot sequence
-/// has a single answer.
+/// What this crate's definitions say in plain equations: the machines at reset, the addresses of a
+/// machine that boots, and what a safe boot promises. The test of a boot sequence has a single
+/// answer.
 pub fn boot_guard_laws()
     ensures reset { AllAreAtReset }
     ensures inside { BootsStayInSequence }

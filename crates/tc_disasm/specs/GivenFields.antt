@@ -9,8 +9,7 @@ use Rattle.tc_stmt.specs.declared.want.Want.TheVariants.{Reg, Number, Target, Ab
 use Rattle.std.specs.List.{list_any}
 use Rattle.tc_stmt.specs.RowFields.{set_field, field_of}
 
--- the fields g with those of the fields f that are given by this operand of a row, as a listing
--- prints it
+-- the fields g, but with those of f that a printed operand for this want shows
 unfoldable pub with_fields_set_by_want : Fields → Fields → Want → Fields
 with_fields_set_by_want f g (Reg p x) = set_field x (field_of x f) g
 with_fields_set_by_want f g A10 = g

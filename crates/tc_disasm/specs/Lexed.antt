@@ -1,4 +1,4 @@
--- The tokens of a text with their texts, without places: `lexed_listing text room skip`.
+-- The tokens of a text with their texts, without places: `listing_tokens text room skip`.
 use Rattle.std.specs.Prelude.{◌≡◌, ℕ, zero, suc, ◌-◌, ◌==◌, false, if◌then◌else◌, List, ◌∷◌, take, Option, Some, None, option_map, []}
 use Rattle.tc_lex.specs.declared.kinds.Front.{Front}
 use Rattle.tc_lex.specs.declared.kinds.Front.TheVariants as front
@@ -15,15 +15,15 @@ listing_tokens_after front.Blank text room next = next room 0
 listing_tokens_after front.Bad text room next = None
 listing_tokens_after (front.Token kind len) text room next = if room == 0 then None else option_map (λ ps. printed_token kind (take len text) ∷ ps) (next (room - 1) (len - 1))
 
--- the tokens of a listing's text with their texts, at most `room` after the first `skip` bytes;
--- None if the text can't be cut
+-- the tokens of a listing's text after its first `skip` bytes, at most `room`; None if there are
+-- more, or the text is malformed
 unfoldable pub listing_tokens : List ℕ → ℕ → ℕ → Option (List PieceData)
 listing_tokens [] room skip = Some []
 listing_tokens (c ∷ cs) room zero = listing_tokens_after (token_front_of (c ∷ cs)) (c ∷ cs) room (listing_tokens cs)
 listing_tokens (c ∷ cs) room (suc skip) = listing_tokens cs room skip
 
--- where a word or a number can end as a listing is lexed: the text is over, or goes on with a byte
--- that no name has
+-- a word or number of a listing can end before this rest: no byte is left, or the next is one that
+-- no name has
 abbrev pub IsTokenEnd : List ℕ → Type 0
 IsTokenEnd [] = Unit {0}
 IsTokenEnd (c ∷ cs) = is_name_byte c ≡ false

@@ -56,7 +56,7 @@ unfoldable pub listing_sections_from : ℕ → List SegmentData → List ℕ
 listing_sections_from number [] = []
 listing_sections_from number (s ∷ ss) = section_text number s ++ listing_sections_from (number + 1) ss
 
--- a segment inserted into the segments of a listing, in ascending order of addresses
+-- the segments of a listing, in ascending order of addresses, with a further one in its place
 unfoldable pub with_inserted_segment : SegmentData → List SegmentData → List SegmentData
 with_inserted_segment s [] = s ∷ []
 with_inserted_segment s (t ∷ ts) = if nat_lt s.at t.at then s ∷ t ∷ ts else t ∷ with_inserted_segment s ts

@@ -33,8 +33,8 @@ is_want_refused_by (Memory p o) Target = true
 is_want_refused_by (Memory p o) Absolute = true
 is_want_refused_by a b = false
 
--- the operands printed for the first wants don't fit the second: their number differs, or one of
--- them is excluded
+-- the operands printed for the first wants are refused by the second: their number differs, or one
+-- is refused
 unfoldable pub are_wants_refused_by : List Want → List Want → Bool
 are_wants_refused_by [] [] = false
 are_wants_refused_by [] (v ∷ vs) = true
@@ -54,7 +54,7 @@ row_name_and_wants r = record { name = r.name; wants = wants_of r }
 abbrev pub are_rows_distinguishable : RowNameAndWants → RowNameAndWants → Bool
 are_rows_distinguishable a b = not (bytes_eq a.name b.name) || (are_wants_refused_by a.wants b.wants && are_wants_refused_by b.wants a.wants)
 
--- each row is apart from each other one
+-- any two rows of the list can be told apart by names or printed operands
 abbrev pub are_all_rows_distinguishable : List RowNameAndWants → Bool
 are_all_rows_distinguishable [] = true
 are_all_rows_distinguishable (a ∷ es) = list_all (are_rows_distinguishable a) es && are_all_rows_distinguishable es

@@ -25,16 +25,17 @@ register_text bank n = (if bank then 97 else 100) ∷ decimal n
 abbrev pub is_printed_negative : Bool → ℕ → ℕ → Bool
 is_printed_negative signed bound v = signed && nat_le (bound / 2) v
 
--- the absolute value of the number in a field
+-- the absolute value of the number in a field with values below this bound
 abbrev pub printed_magnitude : Bool → ℕ → ℕ → ℕ
 printed_magnitude signed bound v = if is_printed_negative signed bound v then bound - v else v
 
--- the text of a constant operand in a listing: decimal, with a minus if it is negative
+-- the text of a constant operand in a listing: v in decimal, or `-` and bound - v if v stands for a
+-- negative number
 unfoldable pub number_text : Bool → ℕ → ℕ → List ℕ
 number_text signed bound v = if is_printed_negative signed bound v then 45 ∷ decimal (bound - v) else decimal v
 
 -- the text of a jump's target in a listing: `.+` or `.-` and a number of bytes, twice the
--- displacement
+-- displacement k, signed if `both`
 unfoldable pub target_text : Bool → ℕ → ℕ → List ℕ
 target_text both bound k = 46 ∷ (if is_printed_negative both bound k then 45 ∷ decimal (2 * (bound - k)) else 43 ∷ decimal (2 * k))
 
@@ -50,7 +51,7 @@ absolute_text form f = 48 ∷ 120 ∷ hex_word (absolute_operand_address form f)
 unfoldable pub base_register_text : Bool → ℕ → List ℕ
 base_register_text plus n = 91 ∷ (register_text true n ++ (if plus then codes "+]" else codes "]"))
 
--- the text of the operand that a row wants, with these fields, in a listing
+-- the text in a listing of the operand that a row of this form wants, with these fields
 unfoldable pub operand_text : Form → Fields → Want → List ℕ
 operand_text form f (Reg bank field) = register_text bank (field_of field f)
 operand_text form f A10 = codes "a10"

@@ -20,7 +20,7 @@ use Rattle.tc_stmt.specs.Displacements.{can_jump_back}
 abbrev pub printed_token : TokenKind → List ℕ → PieceData
 printed_token k text = record { kind = k; text = text }
 
--- the tokens of a printed number: a minus if there is one, and the decimal digits
+-- the tokens of a printed number: a minus if there is one, and the decimal digits of its magnitude
 abbrev pub number_tokens : Bool → ℕ → List PieceData
 number_tokens minus size = if minus then printed_token kind.Minus (45 ∷ []) ∷ printed_token kind.Number (decimal size) ∷ [] else printed_token kind.Number (decimal size) ∷ []
 

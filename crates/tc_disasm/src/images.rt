@@ -45,7 +45,7 @@ fn append_sections(text: &mut String, segments: &[&Segment]) -> Result<(), NoMem
     Ok(())
 }
 
-/// Appends a section of the listing: its first line, and the lines of the segment's bytes.
+/// Appends section `number` of a listing: its first line, and those of the segment's bytes.
 #[tactic(auto, unfolding(crate::specs::Listing::section_text, crate::specs::Listing::listing_section_line))]
 fn append_section(text: &mut String, number: u32, segment: &Segment) -> Result<(), NoMemory>
     requires { segment.now.at + length segment.now.bytes.items ≤ 2 ^ 32 }

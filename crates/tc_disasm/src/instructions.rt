@@ -28,7 +28,7 @@ pub(crate) fn append_instruction(text: &mut String, inst: &Inst) -> Result<(), N
     append_row_text(text, &rows()[place], wants()[place], &fields)
 }
 
-/// Appends the text of an instruction of this row: its name, and its operands.
+/// Appends an instruction of this row, with the fields `f`: its name, and its operands `wants`.
 #[tactic(auto, unfolding(crate::specs::Texts::row_text))]
 fn append_row_text(text: &mut String, row: &Row, wants: &[Want], f: &Fields) -> Result<(), NoMemory>
     requires wants { wants.now ≡ wants_of (row_of row.now) }

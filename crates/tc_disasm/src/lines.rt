@@ -59,8 +59,8 @@ fn append_line(text: &mut String, address: u32, bytes: &[u8]) -> Result<usize, N
     Ok(size)
 }
 
-// Appends the first instruction of these bytes, or data if there is none, to a listing as text, and
-// returns its size in bytes.
+// Appends the text of the first instruction of these bytes, or of data if none begins there, to a
+// listing. Returns the size in bytes.
 #[tactic(auto, unfolding(crate::specs::Listing::instruction_or_data_text, crate::specs::Listing::instruction_or_data_size))]
 fn append_instruction_or_data(text: &mut String, bytes: &[u8]) -> Result<usize, NoMemory>
     requires { 0 < length bytes.now }
@@ -82,7 +82,7 @@ fn append_instruction_or_data(text: &mut String, bytes: &[u8]) -> Result<usize, 
     }
 }
 
-/// Appends the comment of a line: an address, its bytes and a line feed.
+/// Appends the comment that ends a listing's line: an address, bytes in hex, and a line feed.
 #[tactic(auto, unfolding(crate::specs::Listing::listing_comment))]
 fn append_comment(text: &mut String, address: u32, bytes: &[u8]) -> Result<(), NoMemory>
     ensures { OnOk result
@@ -113,7 +113,7 @@ fn append_data(text: &mut String, bytes: &[u8]) -> Result<(), NoMemory>
     }
 }
 
-/// Appends the comment of a line: an address, two bytes and a line feed.
+/// Appends the comment of a line with two bytes: an address, the bytes a and b, a line feed.
 fn append_two_byte_comment(text: &mut String, address: u32, a: u8, b: u8) -> Result<(), NoMemory>
     ensures { OnOk result (string_bytes text.new ≡ string_bytes text.old ++ (codes " # "
         ++ (hex_word address ++ (32 ∷ (hex_byte a ++ (hex_byte b ++ (10 ∷ []))))))) }
@@ -128,7 +128,7 @@ fn append_two_byte_comment(text: &mut String, address: u32, a: u8, b: u8) -> Res
     append_ascii(text, &line)
 }
 
-/// Appends the comment of a line: an address, four bytes and a line feed.
+/// Appends the comment of a line with four bytes: an address, the bytes a to d, a line feed.
 fn append_four_byte_comment(
     text: &mut String,
     address: u32,
@@ -153,7 +153,7 @@ fn append_four_byte_comment(
     append_ascii(text, &line)
 }
 
-/// Appends the comment of a line: an address, any number of bytes and a line feed.
+/// Appends the comment of a line with any number of bytes: an address, the bytes, a line feed.
 #[tactic(auto, unfolding(crate::specs::Listing::listing_comment))]
 fn append_long_comment(text: &mut String, address: u32, bytes: &[u8]) -> Result<(), NoMemory>
     ensures { OnOk result

@@ -68,7 +68,7 @@ fn append_register(text: &mut String, is_address: bool, n: u32) -> Result<(), No
     append_listing_decimal(text, n)
 }
 
-/// Appends the field of an operand as a constant in decimal.
+/// Appends a constant operand in decimal: the value of this field of an instruction of this form.
 fn append_constant_operand(
     text: &mut String,
     signed: bool,
@@ -90,7 +90,7 @@ fn append_constant_operand(
     )
 }
 
-/// Appends the target of a jump: `.+` or `.-`, and a number of bytes.
+/// Appends a jump's target: `.+` or `.-`, and 2k or 2(bound - k) bytes. `both`: k is signed.
 #[tactic(auto, unfolding(crate::specs::Texts::target_text))]
 fn append_target_operand(text: &mut String, both: bool, bound: u32, k: u32) -> Result<(), NoMemory>
     requires within { k ≤ bound }
@@ -122,7 +122,7 @@ fn can_jump_back(form: Form) -> bool
     }
 }
 
-/// Appends an absolute address as an operand: `0x` and eight hex digits.
+/// Appends the absolute address of an operand: `0x` and eight hex digits.
 #[tactic(auto, unfolding(crate::specs::Texts::absolute_text))]
 fn append_absolute_operand(text: &mut String, form: Form, f: &Fields) -> Result<(), NoMemory>
     ensures { OnOk result
@@ -132,8 +132,8 @@ fn append_absolute_operand(text: &mut String, form: Form, f: &Fields) -> Result<
     append_hex_word(text, absolute_operand_address(form, f))
 }
 
-/// Appends a memory operand: its base register, `[aN]` or `[aN+]`, and its offset if the row has
-/// one.
+/// Appends a memory operand: `[aN]`, or `[aN+]` if `plus`, and a signed decimal offset if the row
+/// has an `offset`.
 #[tactic(auto, unfolding(crate::specs::Texts::operand_text, crate::specs::Texts::base_register_text))]
 fn append_memory_operand(
     text: &mut String,
@@ -156,7 +156,7 @@ fn append_memory_operand(
     Ok(())
 }
 
-/// Appends the constant of an operand in decimal, with its sign.
+/// Appends a field's value in decimal: value - bound if `signed` and at least half of bound.
 #[tactic(auto, unfolding(crate::specs::Texts::number_text))]
 fn append_number(text: &mut String, signed: bool, bound: u32, value: u32) -> Result<(), NoMemory>
     requires { value ≤ bound }
@@ -187,7 +187,7 @@ fn absolute_operand_address(form: Form, f: &Fields) -> u32
     }
 }
 
-/// The address of code that the 24 bits of k encode, for an operand of a B row.
+/// The address of code that the 24 bits of an absolute operand encode, for a row of form B.
 fn code_operand_address(f: &Fields) -> u32
     ensures { result ≡ code_address_in_constant f.now }
 {
@@ -213,7 +213,7 @@ fn append_other_operands(
     Ok(())
 }
 
-// Appends a comma and the text of a further operand to a listing.
+// Appends a comma, a blank and the text of a further operand to a listing.
 fn append_next(text: &mut String, form: Form, f: &Fields, want: Want) -> Result<(), NoMemory>
     requires { AreFieldsBelow f.now (field_bounds form) }
     ensures { OnOk result

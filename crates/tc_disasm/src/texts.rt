@@ -6,7 +6,7 @@ ghost use Rattle.std.specs.Fmt.{decimal};
 use tcd_base::NoMemory;
 use tcd_text::{append_ascii, hex_word};
 
-/// Appends a decimal digit.
+/// Appends a number below 10 as a decimal digit.
 pub(crate) fn append_listing_digit(text: &mut String, n: u32) -> Result<(), NoMemory>
     requires { n < 10 }
     ensures { OnOk result (string_bytes text.new ≡ string_bytes text.old ++ ((48 + n) ∷ [])) }
@@ -27,7 +27,7 @@ pub(crate) fn append_listing_address(text: &mut String, address: u32) -> Result<
     append_ascii(text, &line)
 }
 
-/// Appends a number in decimal.
+/// Appends a number to a listing in decimal.
 pub(crate) fn append_listing_decimal(text: &mut String, n: u32) -> Result<(), NoMemory>
     ensures { OnOk result (string_bytes text.new ≡ string_bytes text.old ++ decimal n) }
 {

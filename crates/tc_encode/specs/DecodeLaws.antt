@@ -22,15 +22,15 @@ pub record SpellingLaws : Type 0 where
 abbrev pub MoreBytesChangeNothing : Type 0
 MoreBytesChangeNothing = (xs ys : List ℕ) (i : InstData) → decoded_of xs ≡ Ok (i, length xs) → decoded_of (xs ++ ys) ≡ Ok (i, length xs)
 
--- an instruction has two or four bytes, and the bytes are at least as many
+-- a decoded instruction has two or four bytes, and the bytes to decode are at least as many
 abbrev pub LengthIsTwoOrFour : Type 0
 LengthIsTwoOrFour = (xs : List ℕ) (i : InstData) (n : ℕ) → decoded_of xs ≡ Ok (i, n) → (n ≤ length xs) × (n ≤ 4) × ((n ≡ 2) ⊎ (n ≡ 4))
 
--- what is decoded is the instruction that the bytes spell
+-- the bytes that were decoded are the spelling of the instruction
 abbrev pub DecodedIsSpelled : Type 0
 DecodedIsSpelled = (xs : List ℕ) (i : InstData) (n : ℕ) → decoded_of xs ≡ Ok (i, n) → Spells (take n xs) i
 
--- what is decoded is what the bytes begin with
+-- an instruction is decoded exactly if the bytes begin with its spelling
 abbrev pub DecodedIffBytesBegin : Type 0
 DecodedIffBytesBegin = (xs : List ℕ) (i : InstData) (n : ℕ) → (decoded_of xs ≡ Ok (i, n)) ↔ BeginsWith xs i n
 

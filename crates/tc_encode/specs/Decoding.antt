@@ -21,12 +21,12 @@ decoded_length first = if first % 2 == 1 then 4 else 2
 abbrev pub decoded_row_length : RowData → ℕ
 decoded_row_length r = decoded_length r.op1
 
--- decoded fields fit the row: they are below the bounds of its form, those that the row doesn't
--- have are 0, and its registers are apart
+-- decoded fields fit the row: below the bounds of its form, 0 if the row doesn't have them, and
+-- with registers that the row allows
 abbrev pub decoded_fields_fit : RowData → Fields → Bool
 decoded_fields_fit r f = are_fields_below f (field_bounds r.form) && are_unused_fields_zero (uses_of r) f && are_registers_allowed r f
 
--- the fields at the front of the bytes, in the row's form
+-- the fields in the word that the bytes begin with, if that has the row's form
 abbrev pub leading_fields : List ℕ → RowData → Fields
 leading_fields bytes r = word_fields r.form (number_from_bytes (take (decoded_row_length r) bytes))
 
@@ -39,7 +39,7 @@ begins_with_row bytes r = decoded_fields_fit r (leading_fields bytes r) && bytes
 abbrev pub is_prefix_of_row : List ℕ → RowData → Bool
 is_prefix_of_row bytes r = nat_lt (length bytes) (decoded_row_length r) && begins_with_row (bytes ++ drop (length bytes) (spelling r (least_fields r))) r
 
--- the decoded instruction: that of the row at this place, with these fields
+-- the decoded instruction: that of the row with this number, with these fields
 abbrev pub instruction_at_row : ℕ → Fields → InstData
 instruction_at_row place f = record { row = place; c = f.c; s1 = f.s1; s2 = f.s2; n = f.n; k = f.k }
 
@@ -49,7 +49,7 @@ abbrev pub first_row_match : List ℕ → ℕ → List RowData → Option (InstD
 first_row_match bytes place [] = None
 first_row_match bytes place (r ∷ rs) = if begins_with_row bytes r then Some (instruction_at_row place (leading_fields bytes r), decoded_row_length r) else first_row_match bytes (suc place) rs
 
--- the instruction that was found; else Short if the bytes are the beginning of one, else NotListed
+-- the instruction found, with its length; else Short if the bytes begin one, else NotListed
 abbrev pub decode_result : List ℕ → Option (InstData × ℕ) → Result (InstData × ℕ) DecodeErr
 decode_result bytes (Some found) = Ok found
 decode_result bytes None = if list_any (is_prefix_of_row bytes) table_rows then Err Short else Err NotListed

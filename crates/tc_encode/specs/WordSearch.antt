@@ -16,23 +16,22 @@ pub record IsWordOf (w : ℕ) (i : InstData) : Type 0 where
   pub inst : IsInst i
   pub is : row_word inst.row (inst_fields i) ≡ w
 
--- the word for a search by its low byte: the low byte of a, and the rest of b
+-- the word b with the low byte of a, for a search by a word's low byte
 abbrev pub with_low_byte : ℕ → ℕ → ℕ
 with_low_byte a b = a % 2 ^ 8 + b / 2 ^ 8 * 2 ^ 8
 
--- the word for a search by its low three bytes: those of a, and the rest of b
+-- the word b with the low three bytes of a, for a search by a word's low three bytes
 abbrev pub with_low_three_bytes : ℕ → ℕ → ℕ
 with_low_three_bytes a b = a % 2 ^ 24 + b / 2 ^ 24 * 2 ^ 24
 
--- the number of values that the low n bytes of a searched word can have, for n up to 3: 256 to the
--- power of n
+-- 256 to the power of n, for n up to 3: the number of values of the low n bytes of a word
 abbrev pub power_of_256 : ℕ → ℕ
 power_of_256 zero = 1
 power_of_256 (suc zero) = 2 ^ 8
 power_of_256 (suc (suc zero)) = 2 ^ 16
 power_of_256 (suc (suc (suc n))) = 2 ^ 24
 
--- the word for a search by its low n bytes, for n up to 3: those of a, and the rest of b
+-- the word b with the low n bytes of a, for n up to 3, for a search by a word's low n bytes
 abbrev pub with_low_bytes : ℕ → ℕ → ℕ → ℕ
 with_low_bytes n a b = a % power_of_256 n + b / power_of_256 n * power_of_256 n
 
@@ -61,13 +60,13 @@ abbrev pub are_in_index_ranges : List ℕ → List ℕ → ℕ → List RowData 
 are_in_index_ranges starts ends place [] = true
 are_in_index_ranges starts ends place (r ∷ rs) = is_in_index_range place r (slice_get starts r.op1) (slice_get ends r.op1) && are_in_index_ranges starts ends (suc place) rs
 
--- the place that the search by a word finds in the index of codes is this row's
+-- the entry that the index of codes has for a search by a word is this row's number
 abbrev pub is_index_entry : ℕ → Option ℕ → Bool
 is_index_entry place None = false
 is_index_entry place (Some p) = p == place
 
--- in the search by a word: the index of codes has this place, as far behind the base as the row's
--- second code says
+-- in the search by a word: the index of codes has this row's number, as far after the base as the
+-- row's second code says
 abbrev pub is_at_index_place : List ℕ → ℕ → RowData → Option ℕ → Bool
 is_at_index_place places place r None = false
 is_at_index_place places place r (Some base) = is_index_entry place (slice_get places (base + r.op2))
@@ -108,6 +107,6 @@ are_unused_bits_zero Srr w = true
 are_unused_bits_zero Slr w = true
 are_unused_bits_zero Ssr w = true
 
--- the word with the low two bytes of a, and the rest of b
+-- the word b with the low two bytes of a, for a search by a word's low two bytes
 abbrev pub with_low_two_bytes : ℕ → ℕ → ℕ
 with_low_two_bytes a b = a % 2 ^ 16 + b / 2 ^ 16 * 2 ^ 16

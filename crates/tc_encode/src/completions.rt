@@ -11,7 +11,8 @@ use crate::forms::word_of_fields;
 use crate::index::index_by_first_byte;
 use tc_isa::{Fields, Inst, ROW_COUNT, Row, rows};
 
-/// Returns an instruction that has more than these `n` bytes and begins with them, if there is one.
+/// Returns an instruction longer than `n` bytes that begins with the `n` bytes of `part`, lowest
+/// first, or `None` if there is none. The lowest is `first`.
 pub fn completion(first: u8, n: u8, part: u32) -> Option<Inst>
     requires low { 1 ≤ n }
     requires high { n < decoded_length first }
@@ -25,8 +26,8 @@ pub fn completion(first: u8, n: u8, part: u32) -> Option<Inst>
     completion_in_rows(starts[place], ends[place], first, n, part)
 }
 
-/// Returns an instruction of more than `n` bytes that begins with these, of the table's rows `from`
-/// up to before `to`.
+/// Returns an instruction as `completion` does, from the table's rows with numbers `from` up to
+/// before `to`, or `None`.
 fn completion_in_rows(from: u8, to: u8, first: u8, n: u8, part: u32) -> Option<Inst>
     requires places { to ≤ ROW_COUNT }
     requires low { 1 ≤ n }
@@ -45,8 +46,8 @@ fn completion_in_rows(from: u8, to: u8, first: u8, n: u8, part: u32) -> Option<I
     None
 }
 
-/// Returns an instruction of more than `n` bytes that begins with these, of the table's row at this
-/// place.
+/// Returns an instruction as `completion` does, from the table's row with number `place`, or
+/// `None`, as for a row with another first byte.
 fn completion_at_row(place: u8, first: u8, n: u8, part: u32) -> Option<Inst>
     requires place { place < ROW_COUNT }
     requires low { 1 ≤ n }
@@ -63,8 +64,8 @@ fn completion_at_row(place: u8, first: u8, n: u8, part: u32) -> Option<Inst>
     completion_in_row(place, row, n, part)
 }
 
-/// Returns an instruction of this row of the table that begins with these `n` low bytes of a word,
-/// if there is one.
+/// Returns an instruction of this row whose word has the low `n` bytes `part`, or `None` if there
+/// is none. The row's number is `place`.
 fn completion_in_row(place: u8, row: &Row, n: u8, part: u32) -> Option<Inst>
     requires place { slice_get table_rows place ≡ Some (row_of row.now) }
     requires low { 1 ≤ n }
@@ -79,7 +80,8 @@ fn completion_in_row(place: u8, row: &Row, n: u8, part: u32) -> Option<Inst>
     decode_row_word(place, row, part + rest / span * span)
 }
 
-/// Returns the least fields that fit the row, which complete the low bytes of a word.
+/// Returns the least fields that fit the row: 0, except `s1` if the row's two address registers
+/// must differ. They complete the low bytes of a word.
 fn least_completion_fields(row: &Row) -> Fields
     ensures { result ≡ least_fields (row_of row.now) }
 {
@@ -97,8 +99,8 @@ fn least_completion_fields(row: &Row) -> Fields
     }
 }
 
-/// Returns the number of values of the low `n` bytes of an instruction's word, which a completion
-/// keeps: 256 to the power of `n`.
+/// Returns 256 to the power of `n`, for `n` from 1 to 3: the number of values of the low `n` bytes
+/// of a word.
 fn power_of_256(n: u8) -> u32
     requires low { 1 ≤ n }
     requires high { n ≤ 3 }

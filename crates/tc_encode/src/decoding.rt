@@ -29,7 +29,7 @@ pub fn decode(bytes: &[u8]) -> Result<(Inst, usize), DecodeErr>
     decode_by_first_byte(bytes)
 }
 
-/// Returns the instruction of this row of the table whose word this is, if there is one.
+/// Returns the instruction of row number `place` whose word is `w`, or `None` if there is none.
 pub(crate) fn decode_row_word(place: u8, row: &Row, w: u32) -> Option<Inst>
     requires { slice_get table_rows place ≡ Some (row_of row.now) }
     ensures some { IfSome result (IsWordOf w) }
@@ -53,7 +53,7 @@ pub(crate) fn decoded_length(first: u8) -> u8
     if first % 2 == 1 { 4 } else { 2 }
 }
 
-/// Decodes by the first byte: bit 0 of it gives the length.
+/// Decodes by the first byte, whose bit 0 gives the length, as `decode` does. No bytes are `Short`.
 fn decode_by_first_byte(bytes: &[u8]) -> Result<(Inst, usize), DecodeErr>
     ensures { result ≡ decoded_of bytes.now }
 {
@@ -67,7 +67,7 @@ fn decode_by_first_byte(bytes: &[u8]) -> Result<(Inst, usize), DecodeErr>
     }
 }
 
-/// Decodes bytes of which the first is odd, as in all instructions of 32 bits.
+/// Decodes bytes of which the first is odd as an instruction of 32 bits, as `decode` does.
 fn decode_32_bit(bytes: &[u8]) -> Result<(Inst, usize), DecodeErr>
     requires { slice_index bytes.now 0 % 2 ≡ 1 }
     ensures { result ≡ decoded_of bytes.now }
@@ -85,7 +85,7 @@ fn decode_32_bit(bytes: &[u8]) -> Result<(Inst, usize), DecodeErr>
     }
 }
 
-/// Decodes bytes of which the first is even, as in all instructions of 16 bits.
+/// Decodes bytes of which the first is even as an instruction of 16 bits, as `decode` does.
 fn decode_16_bit(bytes: &[u8]) -> Result<(Inst, usize), DecodeErr>
     requires { slice_index bytes.now 0 % 2 ≡ 0 }
     ensures { result ≡ decoded_of bytes.now }
@@ -97,7 +97,8 @@ fn decode_16_bit(bytes: &[u8]) -> Result<(Inst, usize), DecodeErr>
     }
 }
 
-/// Returns why these `n` bytes, as the number `part`, are no instruction: too few, or not listed.
+/// Returns why `n` bytes, fewer than an instruction with this first byte has, decode to none:
+/// `Short` if they begin one, else `NotListed`. `part` has them, lowest first.
 fn decode_error(first: u8, n: u8, part: u32) -> DecodeErr
     requires low { 1 ≤ n }
     requires high { n < decoded_length first }
@@ -113,7 +114,7 @@ fn decode_error(first: u8, n: u8, part: u32) -> DecodeErr
     }
 }
 
-/// Decodes four bytes, of which the first is odd, as an instruction of 32 bits.
+/// Decodes four bytes, the first odd, as an instruction of 32 bits, or returns `NotListed`.
 fn decode_four_bytes(a: u8, b: u8, c: u8, d: u8) -> Result<(Inst, usize), DecodeErr>
     requires { a % 2 ≡ 1 }
     ensures { (rest : List ℕ) → decoded_of (a ∷ b ∷ c ∷ d ∷ rest) ≡ result }
@@ -124,7 +125,7 @@ fn decode_four_bytes(a: u8, b: u8, c: u8, d: u8) -> Result<(Inst, usize), Decode
     }
 }
 
-/// Decodes two bytes, of which the first is even, as an instruction of 16 bits.
+/// Decodes two bytes, the first even, as an instruction of 16 bits, or returns `NotListed`.
 fn decode_two_bytes(a: u8, b: u8) -> Result<(Inst, usize), DecodeErr>
     requires { a % 2 ≡ 0 }
     ensures { (rest : List ℕ) → decoded_of (a ∷ b ∷ rest) ≡ result }

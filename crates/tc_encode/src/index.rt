@@ -35,8 +35,8 @@ static ENDS: [u8; 256] = [
     0, 101, 0, 107,
 ];
 
-/// Returns two lists by the first byte of an instruction: the places in the table where its rows
-/// begin, and where they end.
+/// Returns two lists by first byte of an instruction: the number of the first table row with that
+/// byte, and the number after the last.
 pub fn index_by_first_byte() -> (&'static [u8; 256], &'static [u8; 256])
     ensures starts { length result.0.now ≡ 256 }
     ensures start_within { list_all (λ n. nat_lt n ROW_COUNT) result.0.now ≡ true }
@@ -83,8 +83,8 @@ static PLACES: [u8; PLACE_COUNT] = [
     8, 139, 84, 116, 114, 101, 102, 115, 108, 121, 141, 123, 100, 104, 106,
 ];
 
-/// Returns for each first byte where its rows begin in the list of places, and that list, which has
-/// the rows' places by second code.
+/// Returns the index of rows by codes: a base for each first byte, and a list with the row's number
+/// at base plus second code.
 pub fn index_by_codes() -> (&'static [u16; 256], &'static [u8; PLACE_COUNT])
     ensures bases { length result.0.now ≡ 256 }
     ensures places { length result.1.now ≡ PLACE_COUNT }
@@ -240,7 +240,7 @@ static PLAIN: [bool; ROW_COUNT] = [
     true, // st16.a [As2], As1
 ];
 
-/// Returns for each row of the index, by its place, whether it has all fields of its form.
+/// Returns for each row of the table, by number, whether it has all fields of its form.
 #[tactic(auto, unfolding(tc_isa::specs::Forms::field_bounds))]
 pub fn full_rows() -> &'static [bool; ROW_COUNT]
     ensures { result.now ≡ map is_full_row table_rows }
@@ -248,8 +248,8 @@ pub fn full_rows() -> &'static [bool; ROW_COUNT]
     &PLAIN
 }
 
-/// Returns the place in the table of the row with these two codes. If no row has them, the answer
-/// means nothing.
+/// Returns the number of the table row with these two operation codes. If no row has them, the
+/// answer is any number or `None`.
 pub(crate) fn row_number_by_codes(first: u8, second: u8) -> Option<u8>
     ensures within { IfSome result (λ p. p < ROW_COUNT) }
     ensures only { (place : ℕ) (r : RowData) → slice_get table_rows place ≡ Some r → r.op1 ≡ first
@@ -264,7 +264,7 @@ pub(crate) fn row_number_by_codes(first: u8, second: u8) -> Option<u8>
     }
 }
 
-/// Returns the form of the rows that begin with this byte. If there are none, any form will do.
+/// Returns the form of the rows that begin with this byte, or any form if there are none.
 pub(crate) fn form_of_first_byte(first: u8) -> Form
     ensures { (place : ℕ) (r : RowData) → slice_get table_rows place ≡ Some r → r.op1 ≡ first
         → form_index r.form ≡ form_index result }

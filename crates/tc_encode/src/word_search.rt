@@ -14,7 +14,7 @@ use tc_isa::{
     uses_by_row,
 };
 
-/// Returns the instruction of a word, which has 16 bits if its lowest byte is even.
+/// Returns the instruction of a word, which has 16 bits if its lowest byte is even, or `None`.
 pub fn find_by_word(w: u32) -> Option<Inst>
     requires { w % 2 ≡ 0 → w < 2 ^ 16 }
     ensures some { IfSome result (IsWordOf w) }
@@ -28,8 +28,8 @@ pub fn find_by_word(w: u32) -> Option<Inst>
     find_word_by_codes(place, first, second, w)
 }
 
-/// Returns the instruction of this row, which has the word's codes, if the rest of the word is its
-/// spelling.
+/// Returns the instruction of the word `w`, which has this row's codes, or `None` if the other bits
+/// of `w` don't fit the row.
 pub(crate) fn find_word_in_row(place: u8, row: &Row, w: u32) -> Option<Inst>
     requires place { slice_get table_rows place ≡ Some (row_of row.now) }
     requires within { place < ROW_COUNT }
@@ -59,7 +59,8 @@ pub(crate) fn find_word_in_row(place: u8, row: &Row, w: u32) -> Option<Inst>
     })
 }
 
-/// Returns the instruction of the row at this place if it has these codes and the word.
+/// Returns the instruction of the word `w` if the row with number `place` has these codes, those of
+/// `w`, and fits; else `None`.
 pub(crate) fn find_word_by_codes(place: u8, first: u8, second: u8, w: u32) -> Option<Inst>
     requires place { place < ROW_COUNT }
     requires first { first ≡ w % 256 }
@@ -80,7 +81,7 @@ pub(crate) fn find_word_by_codes(place: u8, first: u8, second: u8, w: u32) -> Op
     find_word_in_row(place, row, w)
 }
 
-/// Returns the second operation code in a word, by the form of the table's rows that begin with
+/// Returns the second operation code in the word `w`, by the form of the table rows that begin with
 /// this byte.
 fn second_code_by_first_byte(first: u8, w: u32) -> u8
     ensures { (place : ℕ) (r : RowData) → slice_get table_rows place ≡ Some r → r.op1 ≡ first
@@ -102,7 +103,7 @@ fn are_unused_bits_zero(form: Form, w: u32) -> bool
     }
 }
 
-/// Returns true if the fields of a word that the row at this place doesn't have are 0.
+/// Returns true if the fields of a word that the row with number `place` doesn't have are 0.
 fn are_missing_fields_zero(place: u8, row: &Row, f: &Fields) -> bool
     requires place { slice_get table_rows place ≡ Some (row_of row.now) }
     requires within { place < ROW_COUNT }

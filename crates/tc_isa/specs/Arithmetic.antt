@@ -11,8 +11,8 @@ use Rattle.tc_isa.specs.declared.shapes.Cond.TheVariants as cond
 abbrev pub sign_extended : ℕ → ℕ → ℕ
 sign_extended n x = sext_of x n
 
--- a word plus 2^31, modulo 2^32, for signed comparisons in the arithmetic of instructions: these
--- numbers compare as the signed words do
+-- a word's rank in the signed order: 80000000 has rank 0, 0 has rank 2 ^ 31, and 7FFFFFFF has the
+-- greatest rank
 abbrev pub signed_rank : ℕ → ℕ
 signed_rank x = (x + 2 ^ 31) % 2 ^ 32
 
@@ -38,7 +38,7 @@ word_of_bool b = if b then 1 else 0
 abbrev pub logical_shift : ℕ → ℕ → ℕ
 logical_shift x n = if nat_lt n 32 then x * 2 ^ n % 2 ^ 32 else x / 2 ^ (64 - n)
 
--- the shift by a count of six bits, to the right filled with the sign bit
+-- the shift by six bits n: left if below 32, else right by 64 - n, filled with the sign bit
 abbrev pub arithmetic_shift : ℕ → ℕ → ℕ
 arithmetic_shift x n = if nat_lt n 32 then x * 2 ^ n % 2 ^ 32 else if nat_lt x (2 ^ 31) then x / 2 ^ (64 - n) else complement (complement x / 2 ^ (64 - n))
 

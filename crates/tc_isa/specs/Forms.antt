@@ -9,7 +9,7 @@ use Rattle.tc_isa.specs.declared.table.Form.TheVariants.{Rlc, Rr, Rc, Bol, Bo, B
 abbrev pub fields : ℕ → ℕ → ℕ → ℕ → ℕ → Fields
 fields c s1 s2 n k = record { c = c; s1 = s1; s2 = s2; n = n; k = k }
 
--- the bounds of the fields of a form; 1 for a field that it doesn't have
+-- the bounds, exclusive, of the fields of a form; 1 for a field that the form doesn't have
 unfoldable pub field_bounds : Form → Fields
 field_bounds Rlc = fields 16 16 1 1 65536
 field_bounds Rr = fields 16 16 16 4 1
@@ -52,8 +52,7 @@ second_code_bound Srr = 1
 second_code_bound Slr = 1
 second_code_bound Ssr = 1
 
--- the fields in the word of an instruction, from the bits where its form has them; 0 for a field
--- that it doesn't have
+-- the fields in the word of an instruction of this form; 0 for a field that the form doesn't have
 unfoldable pub word_fields : Form → ℕ → Fields
 word_fields Rlc w = fields (w / 2 ^ 28) (w / 2 ^ 8 % 16) (0) (0) (w / 2 ^ 12 % 2 ^ 16)
 word_fields Rr w = fields (w / 2 ^ 28) (w / 2 ^ 8 % 16) (w / 2 ^ 12 % 16) (w / 2 ^ 16 % 4) (0)

@@ -21,16 +21,16 @@ use Rattle.tc_isa.specs.declared.shapes.Shape.{Shape}
 use Rattle.tc_isa.specs.declared.shapes.Shape.TheVariants.{Compute, Scaled, Load, Store, Branch, Jump, Call, Bisr, Syscall, Mfcr, Mtcr}
 use Rattle.tc_isa.specs.Arithmetic.{sign_extended}
 
--- the number of the data register Dn, for n from a field of an instruction or fixed: n itself
+-- the register number of the data register Dn: n itself, from an instruction's field or fixed
 abbrev pub d : ℕ → ℕ
 d n = n
 
--- the number of the address register An, for n from a field of an instruction or fixed: 16 more
--- than n
+-- the register number of the address register An, which is 16 + n; n is from a field of an
+-- instruction, or fixed
 abbrev pub a : ℕ → ℕ
 a n = 16 + n
 
--- the low n bits of the constant k, sign-extended
+-- the signed constant of an instruction: the low n bits of its field k, sign-extended to a word
 abbrev pub sk : ℕ → Fields → ℕ
 sk n f = sign_extended n (f.k % 2 ^ n)
 

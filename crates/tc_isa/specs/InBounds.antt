@@ -66,6 +66,6 @@ pub record AreFieldsBelow (f bounds : Fields) : Type 0 where
   pub n : f.n < bounds.n
   pub k : f.k < bounds.k
 
--- each field is below its bound
+-- the test that each field of an instruction is below the bound for that field
 abbrev pub are_fields_below : Fields → Fields → Bool
 are_fields_below f b = nat_lt f.c b.c && nat_lt f.s1 b.s1 && nat_lt f.s2 b.s2 && nat_lt f.n b.n && nat_lt f.k b.k

@@ -14,7 +14,7 @@ pub record InstData : Type 0 where
   pub n : ℕ
   pub k : ℕ
 
--- the fields of an instruction
+-- the fields c, s1, s2, n and k of an instruction, without the number of its row
 abbrev pub inst_fields : InstData → Fields
 inst_fields i = fields i.c i.s1 i.s2 i.n i.k
 

@@ -17,7 +17,7 @@ use Rattle.tc_isa.specs.FromFields.{a, address_in_constant, forward_distance, co
 abbrev pub Meaning : Type 0
 Meaning = Fields → Shape
 
--- the meaning of a row: Dc = the operation on Ds1 and Ds2
+-- the meaning of a row with three register operands: Dc = the operation on Ds1 and Ds2
 abbrev pub registers : Op → Meaning
 registers op f = Compute op (d f.c) (Reg (d f.s1)) (Reg (d f.s2))
 
@@ -29,24 +29,24 @@ signed op f = Compute op (d f.c) (Reg (d f.s1)) (Word (sk 9 f))
 abbrev pub unsigned : Op → Meaning
 unsigned op f = Compute op (d f.c) (Reg (d f.s1)) (Word (uk f))
 
--- the meaning of a row: Ds1 = the operation on Ds1 itself and Ds2
+-- the meaning of a row with two register operands: Ds1 = the operation on Ds1 and Ds2
 abbrev pub own : Op → Meaning
 own op f = Compute op (d f.s1) (Reg (d f.s1)) (Reg (d f.s2))
 
--- a load of `size` bytes, signed or not, from the base As2 to a data register; with `after` the
--- base is increased afterwards
+-- a load of `size` bytes, signed or not, from the base As2 plus k to a data register; with `after`
+-- by post-increment
 abbrev pub load : ℕ → Bool → Bool → Meaning
 load size sign after f = Load (d f.s1) (Reg (a f.s2)) (sk 10 f) size sign after
 
--- a load of an address register from the base As2
+-- a load of an address register from the base As2 plus k; with `after` by post-increment
 abbrev pub load_address : Bool → Meaning
 load_address after f = Load (a f.s1) (Reg (a f.s2)) (sk 10 f) 4 false after
 
--- a store of the low `size` bytes of a data register to the base As2
+-- a store of a data register's low `size` bytes to As2 plus k; with `after` by post-increment
 abbrev pub store : ℕ → Bool → Meaning
 store size after f = Store (d f.s1) (Reg (a f.s2)) (sk 10 f) size after
 
--- a store of an address register to the base As2
+-- a store of an address register to the base As2 plus k; with `after` by post-increment
 abbrev pub store_address : Bool → Meaning
 store_address after f = Store (a f.s1) (Reg (a f.s2)) (sk 10 f) 4 after
 

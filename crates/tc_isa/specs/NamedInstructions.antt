@@ -108,7 +108,7 @@ ret = bare_instruction 52
 abbrev pub lower_half : ℕ → ℕ
 lower_half x = x % 2 ^ 16
 
--- the constant of a named instruction movh or movh.a: the upper half of a word, plus one if the
--- lower half is negative, so that adding the signed lower half gives the word
+-- the constant of the named instructions movh and movh.a: a word's upper half, plus 1 if the lower
+-- half is negative as a signed number
 abbrev pub adjusted_upper_half : ℕ → ℕ
 adjusted_upper_half x = (x + 0x8000) / 2 ^ 16 % 2 ^ 16

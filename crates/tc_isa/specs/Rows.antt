@@ -169,6 +169,6 @@ table_rows =
     row (codes "st16.a") (codes "[As2], As1") Ssr 0xf4 0x00 ∷
     []
 
--- the instructions of a row have 32 bits: their first byte, op1, is odd
+-- the instructions of a row have 32 bits, not 16: their first byte, op1, is odd
 abbrev pub is_32_bit_row : RowData → Bool
 is_32_bit_row r = r.op1 % 2 == 1

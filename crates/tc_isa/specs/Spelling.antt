@@ -28,11 +28,11 @@ word_by_form Srr op1 op2 f = f.s2 * 2 ^ 12 + f.s1 * 2 ^ 8 + op1
 word_by_form Slr op1 op2 f = f.s2 * 2 ^ 12 + f.s1 * 2 ^ 8 + op1
 word_by_form Ssr op1 op2 f = f.s2 * 2 ^ 12 + f.s1 * 2 ^ 8 + op1
 
--- the instruction of a row with these fields, as one number
+-- the word of a row's instruction with these fields: its bytes as one number, the first lowest
 abbrev pub row_word : RowData → Fields → ℕ
 row_word r f = word_by_form r.form r.op1 r.op2 f
 
--- the bytes of an instruction of 32 bits or of 16
+-- the bytes of an instruction's word, lowest first: four if the Bool is true (32 bits), else two
 abbrev pub four_or_two_bytes : Bool → ℕ → List ℕ
 four_or_two_bytes true w = four_bytes w
 four_or_two_bytes false w = two_bytes w
@@ -48,11 +48,11 @@ pub record Spells (bytes : List ℕ) (i : InstData) : Type 0 where
   pub inst : IsInst i
   pub is : bytes ≡ spelling inst.row (inst_fields i)
 
--- the bytes of an instruction by its row of the table, if it has one
+-- the bytes of an instruction in this row of the table; no bytes if there is no row
 abbrev pub spelling_if_row : Option RowData → InstData → List ℕ
 spelling_if_row None i = []
 spelling_if_row (Some r) i = spelling r (inst_fields i)
 
--- the bytes of an instruction
+-- the bytes of an instruction, by its row of the table; no bytes if the table has no such row
 abbrev pub instruction_bytes : InstData → List ℕ
 instruction_bytes i = spelling_if_row (slice_get table_rows i.row) i

@@ -33,13 +33,13 @@ uses_of r = record {
 abbrev pub are_unused_fields_zero : Uses → Fields → Bool
 are_unused_fields_zero u f = (u.c || f.c == 0) && (u.s1 || f.s1 == 0) && (u.s2 || f.s2 == 0) && (u.n || f.n == 0) && (u.k || f.k == 0)
 
--- the registers are valid for the row: in ld.a and st.a with post-increment, the address register
--- that is loaded or stored isn't the base
+-- the registers are valid for the row: ld.a and st.a with post-increment can't load or store the
+-- register that is their base
 abbrev pub are_registers_allowed : RowData → Fields → Bool
 are_registers_allowed r f = not ((r.op1 == 9 || r.op1 == 137) && r.op2 == 6) || not (f.s1 == f.s2)
 
--- the fields are valid for the row: below the bounds of its form, 0 if the row doesn't have them,
--- and with its registers apart
+-- the fields are valid for the row: below its form's bounds, 0 if the row doesn't have them, and
+-- with registers that the row allows
 pub record FieldsFitRow (r : RowData) (f : Fields) : Type 0 where
   pub below : AreFieldsBelow f (field_bounds r.form)
   pub zero : are_unused_fields_zero (uses_of r) f ≡ true
@@ -61,7 +61,8 @@ pub record IsRow (r : RowData) : Type 0 where
   pub has_least : FieldsFitRow r (least_fields r)
   pub size : is_32_bit_row r ≡ is_32_bit_form r.form
 
--- the test of IsRow
+-- the test that a row of the instruction table is valid: its codes fit the form, and its least
+-- fields the row
 unfoldable pub is_row : RowData → Bool
 is_row r = nat_lt r.op1 256 && nat_lt r.op2 (second_code_bound r.form) && are_fields_below (least_fields r) (field_bounds r.form) && are_unused_fields_zero (uses_of r) (least_fields r) && are_registers_allowed r (least_fields r) && are_bools_equal (is_32_bit_row r) (is_32_bit_form r.form)
 

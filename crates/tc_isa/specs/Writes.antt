@@ -38,6 +38,6 @@ written_by (Mfcr dst number) = register_bit dst
 written_by (Mtcr src number) = 0
 written_by Nothing = 0
 
--- bit r is set for each register r that the instruction writes by itself
+-- the mask of the registers that an instruction writes by itself: bit n for Dn, 16 + n for An
 abbrev pub written_registers : InstData → ℕ
 written_registers i = written_by (shape_of i)

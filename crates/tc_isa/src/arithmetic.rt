@@ -34,7 +34,8 @@ pub fn alu(op: Op, x: u32, y: u32) -> u32
     }
 }
 
-/// Returns true if the condition holds for the two words.
+/// Returns true if a condition holds for two words, so that a branch with the condition is taken.
+/// Lt and Ge are signed, LtU and GeU unsigned.
 #[tactic(auto, unfolding(crate::specs::Arithmetic::taken_of))]
 pub fn taken(cond: Cond, x: u32, y: u32) -> bool
     ensures { result ≡ taken_of cond x y }
@@ -56,22 +57,22 @@ fn complement(x: u32) -> u32
     u32::MAX - x
 }
 
-/// Returns 1 for true and 0 for false.
+/// Returns the word that a comparison instruction gives: 1 for true, 0 for false.
 fn word_of_bool(b: bool) -> u32
     ensures { result ≡ word_of_bool b }
 {
     if b { 1 } else { 0 }
 }
 
-/// Returns a word plus 2^31, modulo 2^32, for signed comparisons. As unsigned numbers, these
-/// compare as the signed words do.
+/// Returns a word's rank in the signed order: 80000000 has rank 0, 0 has rank 2^31, and 7FFFFFFF
+/// has the greatest rank.
 fn signed_rank(x: u32) -> u32
     ensures { result ≡ signed_rank x }
 {
     x.wrapping_add(0x8000_0000)
 }
 
-/// Shifts to the left by `n` if it is below 32, else to the right by 64 - `n`, filled with zeros.
+/// Returns `x` shifted left by `n` if below 32, else right by 64 - `n`, filled with zeros.
 fn logical_shift(x: u32, n: u8) -> u32
     requires { n < 64 }
     ensures { result ≡ logical_shift x n }
@@ -85,8 +86,8 @@ fn logical_shift(x: u32, n: u8) -> u32
     }
 }
 
-/// Shifts to the left by `n` if it is below 32, else to the right by 64 - `n`, filled with the sign
-/// bit.
+/// Returns `x` shifted left by `n`, if that is below 32, else right by 64 - `n`, filled with the
+/// sign bit.
 fn arithmetic_shift(x: u32, n: u8) -> u32
     requires { n < 64 }
     ensures { result ≡ arithmetic_shift x n }

@@ -5,8 +5,8 @@ ghost use Rattle.tc_isa.specs.InBounds.{AreFieldsBelow};
 
 use crate::{Fields, Form};
 
-/// Returns the bounds of a form's fields, all exclusive. A field that the form doesn't have has the
-/// bound 1.
+/// Returns exclusive bounds of the fields of instructions of a form. A field that the form doesn't
+/// have is 0 and has the bound 1.
 #[tactic(auto, unfolding(crate::specs::Forms::field_bounds))]
 pub fn field_bounds(form: Form) -> Fields
     ensures { result ≡ field_bounds form }
@@ -113,7 +113,7 @@ pub fn field_bounds(form: Form) -> Fields
     }
 }
 
-/// Returns true if each field of an instruction is below its bound.
+/// Returns true if each field of an instruction is below the bound for that field.
 pub fn are_fields_below(f: &Fields, bounds: &Fields) -> bool
     ensures { IsTrue result ↔ AreFieldsBelow f.now bounds.now }
 {

@@ -17,8 +17,8 @@ const STORE_AFTER: u8 = 0x89;
 /// The second code of both with post-increment for an address register (`ld.a`, `st.a`).
 const OF_ADDRESS: u8 = 0x06;
 
-/// Returns the instruction with these raw fields, or `None` if there is no row with this number or
-/// they don't fit it. A field that the row doesn't have has to be 0.
+/// Returns the instruction of row number `row` with these raw fields, or `None` if there is no such
+/// row or they don't fit. Missing fields have to be 0.
 pub fn inst(row: u8, c: u8, s1: u8, s2: u8, n: u8, k: u32) -> Option<Inst>
     ensures listed { IsSome result
         ↔ IsInst (record { row = row; c = c; s1 = s1; s2 = s2; n = n; k = k }) }
@@ -44,8 +44,8 @@ pub fn inst(row: u8, c: u8, s1: u8, s2: u8, n: u8, k: u32) -> Option<Inst>
     })
 }
 
-/// Returns true if the row allows these registers: an address register that is loaded or stored
-/// with post-increment can't be the base too.
+/// Returns true if the row allows the registers: `ld.a` and `st.a` with post-increment can't load
+/// or store the register that is their base.
 #[inline(always)]
 pub fn are_registers_allowed(row: &Row, f: &Fields) -> bool
     ensures { result ≡ are_registers_allowed (row_of row.now) f.now }

@@ -2,7 +2,7 @@
 ghost use Rattle.std.specs.Prelude.{◌≡◌, ◌<◌, ◌^◌};
 ghost use Rattle.tc_isa.specs.NamedInstructions as named;
 
-/// Returns the constant of `movh` for a word: its upper half, plus one if the lower half, which
+/// Returns the constant of `movh` for a word: its upper half, plus 1 if the lower half, which
 /// `addi` or `lea` adds, is negative.
 pub fn adjusted_upper_half(x: u32) -> u32
     ensures is { result ≡ named.adjusted_upper_half x }

@@ -163,8 +163,8 @@ static MEANINGS: [Meaning; ROW_COUNT] = [
     Stores(As1, At(As2), Zero, 4, false), // st16.a [As2], As1
 ];
 
-/// Returns what the instructions of each row of the table do (their meaning), in the order of the
-/// rows.
+/// Returns the meanings of the rows of the instruction table, in their order: what a row's
+/// instructions do, by their fields.
 pub fn row_meanings() -> &'static [Meaning]
     ensures { map shape_from_fields result.now ≡ map (λ l. l.shape) meanings }
 {

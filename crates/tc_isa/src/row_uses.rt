@@ -246,15 +246,14 @@ static USES: [Uses; ROW_COUNT] = [
     S1_S2, // st16.a [As2], As1
 ];
 
-/// Returns which fields the instructions of each row of the table have, in the order of the rows.
+/// Returns for each row of the table, in order, which fields its instructions have.
 pub fn uses_by_row() -> &'static [Uses]
     ensures { result.now ≡ map uses_of table_rows }
 {
     &USES
 }
 
-/// Returns true if each field that a row doesn't have is 0; the fields that it has are given as its
-/// uses.
+/// Returns true if each field that a row doesn't have is 0; `uses` says which fields the row has.
 #[inline(always)]
 pub fn are_unused_fields_zero(uses: &Uses, f: &Fields) -> bool
     ensures { result ≡ are_unused_fields_zero uses.now f.now }

@@ -26,8 +26,8 @@ pub fn shape(inst: &Inst) -> Shape
     shape_from_fields(&row_meanings()[usize::from(inst.row)], &fields)
 }
 
-/// A law of `shape`, what an instruction does: registers are below 32, words below 2^32, and sizes
-/// 1, 2 or 4; and the table of meanings has the names of the rows.
+/// Laws of instructions' shapes: registers are below 32, words below 2^32, sizes 1, 2 or 4. The
+/// table of meanings has the rows' names.
 pub fn shape_laws()
     ensures bounded { (i : InstData) → IsInst i → IsShape (shape_of i) }
     ensures names { map (λ l. l.name) meanings ≡ map (λ r. r.name) table_rows }

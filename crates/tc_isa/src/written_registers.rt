@@ -34,8 +34,8 @@ fn register_bit(register: u8) -> u32
     1u32 << register
 }
 
-/// Returns the bit, in the mask of written registers, of the base register that post-increment
-/// writes, or 0 without one.
+/// Returns the bit, in the mask of written registers, of the base register of an access with
+/// post-increment (`after`), or 0 without post-increment.
 fn increased_base_bit(after: bool, base: Arg) -> u32
     requires { IsArg base }
     ensures { result ≡ increased_base_bit after base }

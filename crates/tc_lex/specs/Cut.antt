@@ -58,15 +58,15 @@ abbrev pub with_first_tokens : List Token → Result (List Token) ℕ → Result
 with_first_tokens ts (Ok us) = Ok (ts ++ us)
 with_first_tokens ts (Err e) = Err e
 
--- What follows from the front at a place: `next room at skip` is the answer for the rest of the
--- line after its first byte.
+-- What follows from the front at a place of a line: `next room at skip` is the answer for the rest
+-- after its first byte.
 abbrev pub tokens_after_front : Front → ℕ → ℕ → (ℕ → ℕ → ℕ → Result (List Token) ℕ) → Result (List Token) ℕ
 tokens_after_front front.End room at next = Ok []
 tokens_after_front front.Blank room at next = next room (at + 1) 0
 tokens_after_front front.Bad room at next = Err at
 tokens_after_front (front.Token kind len) room at next = if room == 0 then Err at else with_first_tokens (token kind at len ∷ []) (next (room - 1) (at + 1) (len - 1))
 
--- The tokens of a text at this place of its line, at most `room`, after the first `skip` bytes.
+-- The tokens of a text after its first `skip` bytes, at most `room`, or the first bad place.
 unfoldable pub cut : List ℕ → ℕ → ℕ → ℕ → Result (List Token) ℕ
 cut [] room at skip = Ok []
 cut (c ∷ cs) room at zero = tokens_after_front (token_front_of (c ∷ cs)) room at (cut cs)
@@ -120,7 +120,7 @@ AreTokens line low stop (t ∷ ts) = IsNextToken line low t × AreTokens line t.
 abbrev pub IsLineEnd : List ℕ → ℕ → Type 0
 IsLineEnd line stop = (stop ≡ length line) ⊎ ((stop < length line) × (slice_index line stop ≡ 35))
 
--- these tokens, at most `most`, are all of a line from low on, up to its end or its comment
+-- these are all tokens of a line from low on, up to its end or its comment, and at most `most`
 pub record AreAllTokens (line : List ℕ) (low most : ℕ) (ts : List Token) : Type 0 where
   pub stop : ℕ
   pub ends : IsLineEnd line stop
@@ -141,7 +141,7 @@ pub record IsTokenPastLimit (line : List ℕ) (at count most : ℕ) : Type 0 whe
   pub some : 0 < len
   pub longest : IsLongestToken kind len (drop at line)
 
--- a line from low on is tokens up to this place, at which a byte begins no token, or one past the
+-- a line from low on is tokens up to this place, where a byte begins no token, or one past the
 -- limit
 pub record IsTokenFault (line : List ℕ) (low most at : ℕ) : Type 0 where
   pub before : List Token

@@ -35,7 +35,7 @@ pub record OperandData : Type 0 where
 abbrev pub operand_of : Operand → OperandData
 operand_of o = record { is_memory = o.is_memory; plus = o.plus; base = o.base.now; value = value_of o.value }
 
--- a value of this form, with a name, a sign and a number
+-- a value of this form, with a name, a sign and a number below 2^128
 abbrev pub value_with_shape : Shape → List ℕ → Bool → ℕ → ValueData
 value_with_shape s name minus size = record { shape = s; name = name; minus = minus; size = size; wide = false }
 
@@ -51,7 +51,7 @@ operand_number_at ps at =
     else (if is_token_kind ps at kind.Minus && is_token_kind ps (at + 1) kind.Number && length ps == at + 2 then Some (true, token_number (token_text ps (at + 1)))
     else None)
 
--- the value that is a number alone
+-- the value that is a number alone, negative if `minus`; None is a number of 2^128 or more
 abbrev pub number_operand_value : Bool → Option ℕ → ValueData
 number_operand_value minus (Some n) = value_with_shape shape.Number [] minus n
 number_operand_value minus None = value_with_shape shape.Huge [] minus 0
@@ -61,7 +61,7 @@ abbrev pub sum_operand_value : Shape → List ℕ → Bool → Option ℕ → Va
 sum_operand_value s name minus (Some n) = value_with_shape s name minus n
 sum_operand_value s name minus None = record (value_with_shape s name minus 0) { wide = true }
 
--- the value that is the name at this token, with or without a number added
+-- the value that is the name at this token, of form plain, or with a number, of form summed
 unfoldable pub name_or_sum_at : List PieceData → ℕ → Shape → Shape → ValueData
 name_or_sum_at ps at plain summed =
     if is_token_kind ps at kind.Word

@@ -35,16 +35,15 @@ is_token_kind ps i kind = option_map_or (λ p. kind_index p.kind == kind_index k
 unfoldable pub token_text : List PieceData → ℕ → List ℕ
 token_text ps i = option_map_or (λ p. p.text) (slice_get ps i) []
 
--- the text of a piece, which is a token with its text: the bytes of the line from one place to
--- another; a token is always within its line
+-- the bytes of a line from one place to another; none if these aren't places of the line in order
 abbrev pub line_text_between : List ℕ → ℕ → ℕ → List ℕ
 line_text_between line from to = if nat_le from to && nat_le to (length line) then slice_range line from to else []
 
--- the token of a line with its text, as plain data
+-- a token of a line with its text, as plain data
 abbrev pub piece_of_token : List ℕ → Token → PieceData
 piece_of_token line t = record { kind = t.kind; text = line_text_between line t.from t.to }
 
--- the tokens of a line with their texts, or the place that can't be cut
+-- the tokens of a line with their texts, or the place of the fault
 abbrev pub pieces_of_tokens : List ℕ → Result (List Token) ℕ → Result (List PieceData) ℕ
 pieces_of_tokens line (Ok ts) = Ok (map (piece_of_token line) ts)
 pieces_of_tokens line (Err at) = Err at

@@ -34,7 +34,7 @@ pub fn cut_pieces<'a>(line: &'a [u8], out: &mut Scratch<Piece<'a>, 64>) -> Resul
     Ok(())
 }
 
-// The token of this kind and length at the byte offset `at`, with its text.
+// The token of this kind at the byte offset `at` of a line, with its text of `len` bytes.
 fn piece_at(line: &[u8], kind: TokenKind, at: usize, len: usize) -> Piece<'_>
     requires { at + len ≤ length line.now }
     ensures { piece_of result ≡ piece_of_token line.now (token kind at len) }

@@ -10,7 +10,7 @@ use crate::kinds::{Front, TokenKind};
 use crate::numbers::has_hex_prefix;
 use tcd_base::{is_name_byte, is_name_start};
 
-/// The longest token at byte `at` of a line, or the blank, end or bad byte there.
+/// What byte `at` of a line begins: the longest token there, a blank, the end, or a bad byte.
 pub(crate) fn longest_token_at(line: &[u8], at: usize) -> Front
     requires { at < length line.now }
     ensures value { result ≡ token_front_of (drop at line.now) }
@@ -20,7 +20,7 @@ pub(crate) fn longest_token_at(line: &[u8], at: usize) -> Front
 }
 
 // What the rest of a source's line begins with: a token with its length, a blank, the end, or a bad
-// byte. `c` is its first byte.
+// byte. `c` is the first byte of that rest.
 #[tactic(auto, unfolding(crate::specs::Cut::token_front_by_byte))]
 fn token_front_by_byte(c: u8, text: &[u8]) -> Front
     requires some { 0 < length text.now }

@@ -14,7 +14,7 @@ pub struct Piece<'a> {
     pub text: &'a [u8],
 }
 
-/// Whether token `i` of a line exists and has this kind.
+/// Whether token `i` of the tokens `ps` of a line exists and has this kind.
 #[tactic(auto, unfolding(crate::specs::Pieces::is_token_kind))]
 pub fn is_token_kind(ps: &[Piece], i: usize, kind: TokenKind) -> bool
     ensures value { result ≡ is_token_kind (map piece_of ps.now) i kind }

@@ -12,8 +12,8 @@ use crate::same_bytes::is_same_text;
 use crate::scratch::Scratch;
 use crate::split_operands::operands;
 
-/// Adds the operand that these tokens spell to the list. Each arm of one token builds the operand
-/// in the list, so that its 80 bytes aren't copied.
+/// Reads the operand that these tokens spell, and adds the operand to the list. Each arm of one
+/// token builds the operand in the list, so that its 80 bytes aren't copied.
 pub(crate) fn read_operand_into<'a>(ps: &[Piece<'a>], out: &mut Scratch<Operand<'a>, 65>)
     requires { length out.old.items < 65 }
     ensures operands { map operand_of out.new.items
@@ -58,7 +58,7 @@ fn read_longer_operand_into<'a>(ps: &[Piece<'a>], out: &mut Scratch<Operand<'a>,
     }
 }
 
-// The operand that is one word.
+// The operand that is one word, the only token.
 fn lone_word_operand<'a>(ps: &[Piece<'a>]) -> Operand<'a>
     requires one { length ps.now ≡ 1 }
     requires word { is_kind_at (map piece_of ps.now) 0 Word ≡ true }
@@ -67,7 +67,7 @@ fn lone_word_operand<'a>(ps: &[Piece<'a>]) -> Operand<'a>
     plain_operand(value_with_shape(Shape::Word, token_text(ps, 0), false, 0))
 }
 
-// The operand that is one number.
+// The operand that is one number, the only token.
 fn lone_number_operand<'a>(ps: &[Piece<'a>]) -> Operand<'a>
     requires one { length ps.now ≡ 1 }
     requires number { is_kind_at (map piece_of ps.now) 0 Number ≡ true }
@@ -76,7 +76,7 @@ fn lone_number_operand<'a>(ps: &[Piece<'a>]) -> Operand<'a>
     plain_operand(number_operand_value(false, token_number(token_text(ps, 0))))
 }
 
-// Reads an operand that begins with a `[`.
+// Reads an operand that begins with `[`. If malformed, the operand is a bad value.
 #[inline(never)]
 #[tactic(auto, unfolding(crate::specs::Operands::operand))]
 fn memory_operand<'a>(ps: &[Piece<'a>]) -> Operand<'a>
@@ -108,7 +108,7 @@ fn plain_operand(value: Value<'_>) -> Operand<'_>
     }
 }
 
-/// Reads the value of an operand from this token to the end.
+/// Reads the value of an operand that begins at token `at` and takes all tokens from there on.
 #[tactic(auto, unfolding(crate::specs::Operands::operand_value_at), using(crate::proofs::NumberTokens::word_no_number))]
 fn operand_value_at<'a>(ps: &[Piece<'a>], at: usize) -> Value<'a>
     requires { at ≤ length ps.now }
@@ -126,7 +126,7 @@ fn operand_value_at<'a>(ps: &[Piece<'a>], at: usize) -> Value<'a>
     }
 }
 
-/// The operand `[BASE]` or `[BASE+]`, followed by a value.
+/// The operand `[BASE]`, or `[BASE+]` if `plus`, followed by a value.
 fn bracketed_operand<'a>(plus: bool, base: &'a [u8], value: Value<'a>) -> Operand<'a>
     ensures { operand_of result ≡ memory_of plus base.now (value_of value.entry) }
 {
@@ -138,7 +138,7 @@ fn bracketed_operand<'a>(plus: bool, base: &'a [u8], value: Value<'a>) -> Operan
     }
 }
 
-/// The value of an operand with this form, name, sign and number.
+/// The value of an operand with this form, name and number, negative if `minus`.
 fn value_with_shape(shape: Shape, name: &[u8], minus: bool, size: u128) -> Value<'_>
     ensures { value_of result ≡ data_of shape name.now minus size }
 {
@@ -151,7 +151,7 @@ fn value_with_shape(shape: Shape, name: &[u8], minus: bool, size: u128) -> Value
     }
 }
 
-/// Reads a symbol, or its upper or lower half, at this token as a value.
+/// Reads the value that begins at token `at` and is a symbol, or the upper or lower half of one.
 #[tactic(auto, unfolding(crate::specs::Operands::symbol_value_at))]
 fn symbol_value_at<'a>(ps: &[Piece<'a>], at: usize) -> Value<'a>
     requires { at ≤ length ps.now }
@@ -164,7 +164,7 @@ fn symbol_value_at<'a>(ps: &[Piece<'a>], at: usize) -> Value<'a>
     }
 }
 
-/// Reads a number with an optional `-` that ends the operand: the sign, and the number.
+/// Reads a number, perhaps after `-`, that ends the operand: whether negative, and the number.
 #[tactic(auto, unfolding(crate::specs::Operands::operand_number_at))]
 fn operand_number_at(ps: &[Piece], at: usize) -> Option<(bool, Option<u128>)>
     requires { at ≤ length ps.now }
@@ -182,7 +182,7 @@ fn operand_number_at(ps: &[Piece], at: usize) -> Option<(bool, Option<u128>)>
     }
 }
 
-/// Returns the value that is read from a number alone; `None` is a number of 2^128 or more.
+/// The value that is a number alone, negative if `minus`; `None` is one of 2^128 or more.
 fn number_operand_value<'a>(minus: bool, n: Option<u128>) -> Value<'a>
     ensures { value_of result ≡ number_value minus n }
 {
@@ -192,7 +192,7 @@ fn number_operand_value<'a>(minus: bool, n: Option<u128>) -> Value<'a>
     }
 }
 
-// Reads the upper or lower half of a symbol, as in `hi:NAME`.
+// Reads the upper or lower half of a symbol, `hi:NAME` or `lo:NAME`, at token `at`, as a value.
 #[inline(never)]
 #[tactic(auto, unfolding(crate::specs::Operands::symbol_value_at))]
 fn symbol_half_at<'a>(ps: &[Piece<'a>], at: usize) -> Value<'a>
@@ -210,7 +210,7 @@ fn symbol_half_at<'a>(ps: &[Piece<'a>], at: usize) -> Value<'a>
     }
 }
 
-/// Reads the name at this token, with or without a number added, as a value.
+/// Reads a name at token `at`, as a value of form `plain`, or with a number, of form `summed`.
 #[tactic(auto, unfolding(crate::specs::Operands::name_or_sum_at))]
 fn name_or_sum_at<'a>(ps: &[Piece<'a>], at: usize, plain: Shape, summed: Shape) -> Value<'a>
     requires { at ≤ length ps.now }
@@ -227,7 +227,7 @@ fn name_or_sum_at<'a>(ps: &[Piece<'a>], at: usize, plain: Shape, summed: Shape) 
     }
 }
 
-// Reads the name at this token, with the number that is added to it.
+// Reads a name at token `at`, with the number added or subtracted, as a value of form `summed`.
 #[inline(never)]
 #[tactic(auto, unfolding(crate::specs::Operands::name_or_sum_at))]
 fn name_plus_number_at<'a>(ps: &[Piece<'a>], at: usize, plain: Shape, summed: Shape) -> Value<'a>
@@ -251,7 +251,7 @@ fn name_plus_number_at<'a>(ps: &[Piece<'a>], at: usize, plain: Shape, summed: Sh
     }
 }
 
-// The value that is a name plus a number; `None` is a number of 2^128 or more.
+// The value that is a name plus a number, or minus; `None` is a number of 2^128 or more.
 fn sum_operand_value(shape: Shape, name: &[u8], minus: bool, n: Option<u128>) -> Value<'_>
     ensures { value_of result ≡ sum_value shape name.now minus n }
 {

@@ -26,7 +26,7 @@ pub fn operands<'a>(ps: &[Piece<'a>], out: &mut Scratch<Operand<'a>, 65>)
     read_operand_into(rest, out);
 }
 
-/// The place of the first comma among these tokens.
+/// The index of the first comma among these tokens, or `None`.
 fn find_comma(ps: &[Piece]) -> Option<usize>
     ensures value { result ≡ position (λ p. is_comma (piece_of p)) ps.now }
     ensures within { IfSome result (λ i. i < length ps.now) }
@@ -45,7 +45,7 @@ fn read_operand_before<'a>(ps: &[Piece<'a>], i: usize, out: &mut Scratch<Operand
     read_operand_into(&ps[..i], out);
 }
 
-// The tokens of a line after the comma that is token `i`.
+// The tokens of a line after token `i`, a comma.
 fn tokens_after_comma<'b, 'a>(ps: &'b [Piece<'a>], i: usize) -> &'b [Piece<'a>]
     requires { i < length ps.now }
     ensures { result.now ≡ drop (i + 1) ps.now }

@@ -9,16 +9,16 @@ use Rattle.tc_link.specs.declared.definitions.Definition.{Definition}
 use Rattle.tc_link.specs.Placing.{PlacedData, address_in_section, definition_address}
 use Rattle.std.specs.List.{flat_map}
 
--- the value of the map at a name
+-- what the map of global symbols holds for a name; None if no global symbol has the name
 abbrev pub global_at_name : {X S : Type 0} → HashMap (Bor (List ℕ)) X S → List ℕ → Option X
 global_at_name names q = get_by (λ k. bytes_eq q k.now) names
 
 -- ---- the number of symbols with a name
--- for a name, whether several global symbols have it, as the map says; None if none has
+-- whether several global symbols have the name, as the map says; None if none has
 abbrev pub twice_at : {S : Type 0} → HashMap (Bor (List ℕ)) Definition S → List ℕ → Option Bool
 twice_at names q = option_map (λ d. d.is_twice) (global_at_name names q)
 
--- for a name that n global symbols have, whether they are several; None if there are none
+-- whether n global symbols of one name are several; None if n is 0
 abbrev pub twice_of_count : ℕ → Option Bool
 twice_of_count n = if n == 0 then None else Some (nat_lt 1 n)
 
@@ -40,8 +40,7 @@ global_data bases s = record { name = s.name; address = address_in_section bases
 unfoldable pub globals_of : List PlacedData → List GlobalData
 globals_of placed = flat_map (λ p. map (global_data p.bases) (filter is_global p.object.symbols)) placed
 
--- the address of the first global symbol with this name among those of the linked objects, if there
--- is one
+-- the address of the first of these global symbols with this name; None if none has the name
 abbrev pub first_global_address : List GlobalData → List ℕ → Option ℕ
 first_global_address globals name = option_map (λ g. g.address) (find (λ g. bytes_eq name g.name) globals)
 
@@ -64,14 +63,14 @@ KnowsRepeatedGlobals names objects = (q : List ℕ) → twice_at names q ≡ twi
 
 -- ---- addresses
 
--- the address of a name in the map, for objects with these addresses
+-- the address of the global symbol with this name, by the map and placed objects; None without one
 abbrev pub global_symbol_address : {S : Type 0} → HashMap (Bor (List ℕ)) Definition S → List PlacedData → List ℕ → Option ℕ
 global_symbol_address names placed q = option_map (definition_address placed) (global_at_name names q)
 
--- the map holds exactly these global symbols with their addresses
+-- for each name, the map gives the address of the first of these global symbols with that name
 abbrev pub HoldsGlobals : {S : Type 0} → HashMap (Bor (List ℕ)) Definition S → List PlacedData → List GlobalData → Type 0
 HoldsGlobals names placed all = (q : List ℕ) → global_symbol_address names placed q ≡ first_global_address all q
 
--- for all addresses of the objects, the map holds exactly their global symbols
+-- wherever the objects are placed, the map gives the addresses of all their global symbols
 abbrev pub HoldsAllGlobals : {S : Type 0} → HashMap (Bor (List ℕ)) Definition S → List ObjectData → Type 0
 HoldsAllGlobals names objects = (placed : List PlacedData) → map (λ p. p.object) placed ≡ objects → HoldsGlobals names placed (globals_of placed)

@@ -26,8 +26,8 @@ draft_with_line d line = record {
   places = d.places ++ option_to_list (option_and_then place_in_line line);
 }
 
--- the layout of a draft, with the first of its entries; without an entry, a fault at the line after
--- the last
+-- the layout with the first of these entries, after n lines; without an entry, a fault at line n +
+-- 1
 abbrev pub with_entry : ℕ → List (List ℕ) → List PlaceData → Result LayoutData LayoutErr
 with_entry n [] places = Err (BadLine (n + 1))
 with_entry n (name ∷ names) places = Ok (record { entry = name; places = places })

@@ -16,8 +16,8 @@ pub data LayoutLineData : Type 0 where
   entry : List ℕ → LayoutLineData
   place : PlaceData → LayoutLineData
 
--- the place of these words of a layout's line, if they are well-formed, its address is a multiple
--- of 4, and it ends by 2^32
+-- the place of these three words of a layout's line, each None if malformed. None if the address is
+-- no multiple of 4, or the place passes 2^32
 abbrev pub place_of_words : Option (List ℕ) → Option ℕ → Option ℕ → Option LayoutLineData
 place_of_words (Some section) (Some at) (Some most) = then_some (at % 4 == 0 && nat_le (at + most) (2 ^ 32)) (place (record { section = section; at = at; most = most }))
 place_of_words (Some section) (Some at) None = None
@@ -55,7 +55,7 @@ entries_in_lines lines = filter_map (λ l. option_and_then entry_in_line (layout
 unfoldable pub places_in_lines : List (List ℕ) → List PlaceData
 places_in_lines lines = filter_map (λ l. option_and_then place_in_line (layout_line_contents l)) lines
 
--- a line's name is one, and its place is valid
+-- an entry's name is that of a symbol, and a place is valid; an empty line is always good
 abbrev pub IsGoodLayoutLine : LayoutLineData → Type 0
 IsGoodLayoutLine blank = Unit {0}
 IsGoodLayoutLine (entry name) = object_name_of name ≡ Some name

@@ -24,17 +24,15 @@ pub record IsPlace (p : PlaceData) : Type 0 where
   pub word : p.at < 2 ^ 32
   pub within : p.at + p.most ≤ 2 ^ 32
 
--- this many bytes at an address share a byte with a place, which the invariant of layouts excludes
--- for its places
+-- this many bytes from an address on share a byte with a place
 abbrev pub is_overlapping_place : ℕ → ℕ → PlaceData → Bool
 is_overlapping_place at most q = nat_lt (max at q.at) (min (at + most) (q.at + q.most))
 
--- two places share a byte, which the invariant of layouts excludes
+-- two places share a byte, which no layout allows
 abbrev pub are_overlapping_places : PlaceData → PlaceData → Bool
 are_overlapping_places p q = is_overlapping_place p.at p.most q
 
--- some place of a layout is for sections of this name, which the invariant of layouts excludes for
--- a further place
+-- one of these places is for sections of this name; a layout has at most one
 abbrev pub has_place_for : List PlaceData → List ℕ → Bool
 has_place_for ps name = list_any (λ p. bytes_eq name p.section) ps
 

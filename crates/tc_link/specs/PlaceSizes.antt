@@ -9,7 +9,7 @@ use Rattle.std.specs.List.{list_any}
 abbrev pub next_multiple_of_4 : ℕ → ℕ
 next_multiple_of_4 n = (n + 3) / 4 * 4
 
--- the number of used bytes of the place for this name after a further section
+-- the number of used bytes of the place for this name, first n, after a further section
 abbrev pub used_size_with_section : List ℕ → ℕ → SectionData → ℕ
 used_size_with_section name n s = if bytes_eq name s.name then next_multiple_of_4 n + length s.bytes else n
 
@@ -18,7 +18,7 @@ used_size_with_section name n s = if bytes_eq name s.name then next_multiple_of_
 unfoldable pub used_place_size : List ℕ → List SectionData → ℕ
 used_place_size name sections = fold (used_size_with_section name) 0 sections
 
--- for each place, the number of bytes that these sections use of it
+-- the sizes are, for each place, the number of bytes that these sections use there
 abbrev pub AreTaken : List PlaceData → List SectionData → List ℕ → Type 0
 AreTaken places sections sizes = (k : ℕ) (d : PlaceData) → k < length places → slice_index sizes k ≡ used_place_size (slice_index_or places k d).section sections
 

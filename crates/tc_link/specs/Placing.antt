@@ -12,7 +12,7 @@ use Rattle.tc_link.specs.declared.definitions.Definition.{Definition}
 abbrev pub sections_to_link : List ObjectData → List SectionData
 sections_to_link objects = flat_map (λ o. o.sections) objects
 
--- the address at which the linker places a section after these sections, and 0 if it has no place
+-- the address at which the linker places a section after these; 0 if no place has its name
 abbrev pub section_base : List PlaceData → List SectionData → SectionData → ℕ
 section_base places before s = option_map_or (λ p. p.at + next_multiple_of_4 (used_place_size s.name before)) (place_of places s.name) 0
 
@@ -38,8 +38,8 @@ placed_after places before (o ∷ os) = record { object = o; bases = section_bas
 abbrev pub address_in_section : List ℕ → ℕ → ℕ → ℕ
 address_in_section bases section offset = (slice_index bases section + offset) % 2 ^ 32
 
--- the address of a symbol's definition in an object whose sections are placed, from the address of
--- its section
+-- the address of a global symbol's definition, from that of its section; 0 if its object isn't
+-- placed
 abbrev pub definition_address : List PlacedData → Definition → ℕ
 definition_address placed d = option_map_or (λ p. address_in_section p.bases d.section d.offset) (slice_get placed d.object) 0
 

@@ -37,12 +37,11 @@ first_refusal_over f xs = first_refusal_from f 0 xs
 abbrev pub repeated_symbol_refusal : List ObjectData → ℕ → SymbolData → Option Refusal
 repeated_symbol_refusal objects number s = then_some (is_global s && nat_lt 1 (count_globals_named objects s.name)) (twice s.name)
 
--- the first global symbol that is defined in two objects, if there is one
+-- the refusal of the first global symbol that two objects define, or None
 unfoldable pub first_repeated_symbol_refusal : List ObjectData → Option Refusal
 first_repeated_symbol_refusal objects = first_refusal_over (λ _ o. first_refusal_over (repeated_symbol_refusal objects) o.symbols) objects
 
--- a relocation uses the symbol with this number, so that the linker refuses the objects if the
--- symbol is missing
+-- one of the relocations uses the symbol with this number
 abbrev pub is_used_by_relocs : List Reloc → ℕ → Bool
 is_used_by_relocs relocs number = list_any (λ r. r.symbol == number) relocs
 
@@ -51,12 +50,11 @@ is_used_by_relocs relocs number = list_any (λ r. r.symbol == number) relocs
 abbrev pub missing_symbol_refusal : List ObjectData → List Reloc → ℕ → SymbolData → Option Refusal
 missing_symbol_refusal objects relocs number s = then_some (s.kind == undefined_symbol && is_used_by_relocs relocs number && count_globals_named objects s.name == 0) (missing s.name)
 
--- the first symbol that is used, undefined in its object and global in none, if there is one
+-- the refusal of the first symbol that is used, undefined in its object and global in none, or None
 unfoldable pub first_missing_symbol_refusal : List ObjectData → Option Refusal
 first_missing_symbol_refusal objects = first_refusal_over (λ _ o. first_refusal_over (missing_symbol_refusal objects o.relocs) o.symbols) objects
 
--- a symbol is defined in the section with this number, so that the linker refuses the section if it
--- has no place
+-- one of the symbols is defined in the section with this number, which then needs a place
 abbrev pub has_symbol_in_section : List SymbolData → ℕ → Bool
 has_symbol_in_section symbols number = list_any (λ s. not (s.kind == undefined_symbol) && s.section == number) symbols
 
@@ -64,7 +62,7 @@ has_symbol_in_section symbols number = list_any (λ s. not (s.kind == undefined_
 abbrev pub no_place_refusal : List PlaceData → List SymbolData → ℕ → SectionData → Option Refusal
 no_place_refusal places symbols number s = then_some ((nat_lt 0 (length s.bytes) || has_symbol_in_section symbols number) && not (has_place_for places s.name)) (no_place s.name)
 
--- the first section that needs a place and has none, if there is one
+-- the refusal of the first section that needs a place and has none, or None
 unfoldable pub first_no_place_refusal : List PlaceData → List ObjectData → Option Refusal
 first_no_place_refusal places objects = first_refusal_over (λ _ o. first_refusal_over (no_place_refusal places o.symbols) o.sections) objects
 
@@ -72,20 +70,20 @@ first_no_place_refusal places objects = first_refusal_over (λ _ o. first_refusa
 abbrev pub no_room_refusal : List PlaceData → List SectionData → SectionData → Option Refusal
 no_room_refusal places before s = then_some (are_places_overfull places (before ++ s ∷ [])) (no_room s.name)
 
--- the first section for which there is no room, after these sections and those before it
+-- the refusal of the first section without room, after these sections and earlier ones; or None
 unfoldable pub first_no_room_refusal : List PlaceData → List SectionData → List SectionData → Option Refusal
 first_no_room_refusal places before [] = None
 first_no_room_refusal places before (s ∷ ss) = option_or (no_room_refusal places before s) (first_no_room_refusal places (before ++ s ∷ []) ss)
 
--- the reason why a relocation can't be written, so that the linker refuses it, if there is one
+-- the error of a relocation whose field can't hold its value, or None
 abbrev pub reloc_error : List GlobalData → PlacedData → Reloc → Option RelocErr
 reloc_error globals p r = reloc_value_refusal r.kind (reloc_field_address p r) (reloc_value globals p r)
 
--- a refusal if this relocation can't be written into the object with this number, else None
+-- the refusal of a relocation of the object with this number that can't be written, or None
 abbrev pub refusal_at : List GlobalData → ℕ → PlacedData → ℕ → Reloc → Option Refusal
 refusal_at globals object p number r = option_map (λ err. reloc object r.section r.offset err) (reloc_error globals p r)
 
--- the first relocation that can't be written, in the order of the objects, if there is one
+-- the refusal of the first relocation that can't be written, in the order of the objects, or None
 unfoldable pub first_reloc_refusal : List GlobalData → List PlacedData → Option Refusal
 first_reloc_refusal globals placed = first_refusal_over (λ object p. first_refusal_over (refusal_at globals object p) p.object.relocs) placed
 

@@ -33,7 +33,7 @@ section_bytes_with_field bytes at field = take at bytes ++ (field ++ drop (at + 
 abbrev pub reloc_field_at : List ℕ → ℕ → List ℕ
 reloc_field_at bytes at = take 4 (drop at bytes)
 
--- a section with the field of a relocation at this address filled with this value
+-- a section after the relocation r, at address place, filled its field with the value
 abbrev pub section_with_filled_field : Reloc → ℕ → ℕ → SectionData → SectionData
 section_with_filled_field r place value s = record {
   name = s.name;
@@ -44,7 +44,7 @@ section_with_filled_field r place value s = record {
 abbrev pub section_with_reloc : List GlobalData → PlacedData → Reloc → SectionData → SectionData
 section_with_reloc globals p r s = section_with_filled_field r (reloc_field_address p r) (reloc_value globals p r) s
 
--- a list with the item of this number changed, if it's there
+-- a list with f of the item of this number there; unchanged if there is no such item
 abbrev pub with_changed_item : {A : Type 0} → (A → A) → ℕ → List A → List A
 with_changed_item f n xs = option_map_or (λ x. slice_set xs n (f x)) (slice_get xs n) xs
 

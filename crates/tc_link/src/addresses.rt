@@ -12,8 +12,8 @@ use std::alloc::Global;
 use std::collections::HashMap;
 use tc_object::{SymbolRef, UNDEFINED_SYMBOL};
 
-/// The address of an offset in the section of this number, if the sections of its object begin at
-/// `bases`.
+/// The address of an offset in the section of this number, modulo 2^32, if the sections of its
+/// object begin at `bases`. A section that isn't in `bases` counts as at 0.
 pub(crate) fn address_in_section(bases: &[u64], section: u16, offset: u32) -> u32
     ensures { result ≡ address_in_section bases.now section offset }
 {
@@ -24,7 +24,8 @@ pub(crate) fn address_in_section(bases: &[u64], section: u16, offset: u32) -> u3
     (base.wrapping_add(u64::from(offset)) % 4_294_967_296) as u32
 }
 
-/// The address of the global symbol with this name, if there is one.
+/// The address of the global symbol with this name, from its definition in `names` and the
+/// addresses of the objects in `placed`. Without a definition `None`, without the object 0.
 pub(crate) fn global_symbol_address(
     names: &HashMap<&str, Definition>,
     placed: &[Placed<'_, '_>],
@@ -41,8 +42,8 @@ pub(crate) fn global_symbol_address(
     }
 }
 
-/// The addresses of the symbols of a placed object, by their numbers: a defined symbol has its own,
-/// an undefined one that of the global symbol with its name, and 0 if there is none.
+/// The addresses of the symbols of the object `each`, by their numbers. An undefined symbol has
+/// that of the global symbol with its name, and 0 if there is none.
 #[tactic(auto, unfolding(crate::specs::Relocated::symbol_addresses))]
 pub(crate) fn symbol_addresses(
     alloc: Global,

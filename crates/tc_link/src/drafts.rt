@@ -49,8 +49,8 @@ impl Draft {
         }
     }
 
-    /// Adds a line of a layout to the draft, or returns the line's fault. `number` is that of the
-    /// line.
+    /// Adds a line of a layout to the draft, or returns the line's fault. `number` is the line's,
+    /// counted from 1.
     pub(crate) fn add_line(
         &mut self,
         alloc: Global,
@@ -103,8 +103,8 @@ impl Draft {
         }
     }
 
-    // The fault of a place in line `number` of a layout: its section has one already, there are 64,
-    // or it overlaps another.
+    // The fault of a place in line `number` of a layout, if any. The section has a place already,
+    // there are 64 places, or the `most` bytes from `at` on overlap one.
     fn place_fault(&self, number: u32, section: &str, at: u32, most: u32) -> Option<LayoutErr>
         requires { IsPlace (record { section = section.now; at = at; most = most }) }
         ensures fault { result ≡ layout_line_fault number self.now.entries self.now.places

@@ -10,7 +10,7 @@ use std::alloc::Global;
 use std::collections::HashMap;
 use tc_object::{GLOBAL_SYMBOL, ObjectRef, SymbolRef};
 
-/// The map of the global symbols of objects by name.
+/// A map of the global symbols of objects: for each name, the first definition.
 pub(crate) fn globals_by_name<'a>(
     alloc: Global,
     objects: &[ObjectRef<'a>],
@@ -26,14 +26,14 @@ pub(crate) fn globals_by_name<'a>(
     Ok(names)
 }
 
-/// Returns true if no global symbol has the name, by a look-up in the map of global symbols.
+/// Returns true if no global symbol has the name. `names` is the map of global symbols.
 pub(crate) fn has_no_global(names: &HashMap<&str, Definition>, name: &str) -> bool
     ensures { (n : ℕ) → twice_at names.now name.now ≡ twice_of_count n → result ≡ (n == 0) }
 {
     !names.contains_key(name)
 }
 
-/// Returns true if several global symbols have the name, by a look-up in the map of global symbols.
+/// Returns true if several global symbols have the name. `names` is the map of global symbols.
 pub(crate) fn has_several_globals(names: &HashMap<&str, Definition>, name: &str) -> bool
     ensures { (n : ℕ) → twice_at names.now name.now ≡ twice_of_count n → result ≡ nat_lt 1 n }
 {
@@ -76,8 +76,8 @@ fn add_global_symbols<'a>(
     Ok(())
 }
 
-// Adds a symbol of object number `object`, if it is global. The first definition of a name keeps
-// its place.
+// Adds a symbol of object number `object` to the map, if the symbol is global. Of several with one
+// name the map keeps the first, and marks the name.
 fn add_symbol_if_global<'a>(
     names: &mut HashMap<&'a str, Definition>,
     object: usize,

@@ -78,7 +78,7 @@ impl Layout {
     }
 }
 
-/// Returns the number of a layout's place for sections of this name, if there is one.
+/// Returns the index of the place for sections of this name, or `None` if the layout has none.
 pub(crate) fn find_place(places: &[Place], name: &str) -> Option<usize>
     ensures value { result ≡ position (λ p. bytes_eq name.now p.section) places.now }
     ensures within { IfSome result (λ i. i < length places.now) }

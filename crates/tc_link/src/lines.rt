@@ -54,7 +54,7 @@ pub(crate) fn layout_line_contents(line: &[u8]) -> Option<Line<'_>>
     }
 }
 
-/// The line `place SECTION AT MOST` of a layout, if these words are one.
+/// The line `place SECTION AT MOST` of a layout, if these four words are one. Otherwise `None`.
 fn place_line<'a>(word: &[u8], section: &'a [u8], at: &[u8], most: &[u8]) -> Option<Line<'a>>
     ensures line { option_map layout_line_data result
         ≡ (if bytes_eq word.now (codes "place")

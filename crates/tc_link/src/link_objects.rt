@@ -18,7 +18,7 @@ use elf_image::{Image, establish_segment_bytes};
 use std::alloc::Global;
 use tc_object::{Object, ObjectRef};
 
-/// The image of borrowed objects, or the first refusal, as for `link`.
+/// Links objects that borrow their names and bytes, as `link` does.
 pub fn link_borrowed(
     alloc: Global,
     objects: &[ObjectRef<'_>],

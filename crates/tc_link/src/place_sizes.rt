@@ -19,8 +19,8 @@ pub(crate) fn next_multiple_of_4(size: u64) -> u64
     (size + 3) / 4 * 4
 }
 
-// Adds a section, from the next multiple of 4 on, to the number of used bytes of its place in the
-// layout.
+// Adds a section, from the next multiple of 4 on, to the used bytes of the place for its name.
+// `sizes` has the number of used bytes of each place.
 pub(crate) fn add_section_size(places: &[Place], sizes: &mut [u64], section: &SectionRef<'_>)
     requires count { length sizes.old ≡ length places.now }
     requires small { AreSmallPlaceSizes sizes.old }
@@ -34,7 +34,7 @@ pub(crate) fn add_section_size(places: &[Place], sizes: &mut [u64], section: &Se
     }
 }
 
-// Whether a place is too small, or all places together are above the limit of an image.
+// Whether a place has fewer bytes than its used ones, `sizes`, or all use more than 2^24 bytes.
 #[tactic(auto, unfolding(crate::specs::PlaceSizes::are_places_overfull, crate::specs::PlaceSizes::total_used_size))]
 pub(crate) fn are_places_overfull(places: &[Place], sizes: &[u64]) -> bool
     requires count { length sizes.now ≡ length places.now }

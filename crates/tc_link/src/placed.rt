@@ -54,8 +54,8 @@ pub(crate) fn place_objects<'a, 'b>(
     Ok(placed)
 }
 
-/// Returns the address at which a section is placed if these numbers of bytes of the places are
-/// used before it, and 0 if it has no place.
+/// Returns the address at which a section is placed, or 0 if no place has its name. `sizes` has the
+/// number of bytes of each place that earlier sections use.
 pub(crate) fn section_base(places: &[Place], sizes: &[u64], section: &SectionRef<'_>) -> u64
     requires count { length sizes.now ≡ length places.now }
     requires small { AreSmallPlaceSizes sizes.now }
@@ -71,8 +71,8 @@ pub(crate) fn section_base(places: &[Place], sizes: &[u64], section: &SectionRef
     }
 }
 
-/// Places the sections of an object one after another and returns their addresses, or the first
-/// section without room.
+/// Places the sections of an object and returns their addresses, or the first section without room.
+/// `sizes`, the numbers of used bytes of the places, grow.
 pub(crate) fn place_sections(
     alloc: Global,
     places: &[Place],

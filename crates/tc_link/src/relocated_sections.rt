@@ -20,7 +20,7 @@ use tc_object::Reloc;
 use tc_reloc::{RelocErr, apply};
 
 /// Returns the sections of all objects, with their relocations written, or the first relocation
-/// that is refused.
+/// that is refused. `names` is the map of global symbols.
 #[tactic(auto, unfolding(crate::specs::Relocated::all_relocated_sections, crate::specs::Refusals::first_reloc_refusal))]
 pub(crate) fn all_relocated_sections<'a>(
     alloc: Global,
@@ -41,8 +41,8 @@ pub(crate) fn all_relocated_sections<'a>(
     Ok(contents)
 }
 
-/// Returns the value of a relocation, with which the linker fills its field in a section: the
-/// address of its symbol plus the addend, modulo 2^32.
+/// Returns the value that a relocation writes: the address of its symbol plus the addend, modulo
+/// 2^32. `addresses` are those of the object's symbols.
 pub(crate) fn reloc_value(addresses: &[u32], reloc: &Reloc) -> u32
     ensures { (all : List GlobalData) (p : PlacedData) → addresses.now ≡ symbol_addresses all p
         → result ≡ reloc_value all p reloc.now }
@@ -50,7 +50,7 @@ pub(crate) fn reloc_value(addresses: &[u32], reloc: &Reloc) -> u32
     symbol_address_at(addresses, reloc.symbol).wrapping_add(reloc.addend)
 }
 
-// The sections of an object with its relocations written, or the first relocation that is refused.
+// The relocated sections of the object `each`, number `number`, or its first refused relocation.
 fn relocate_object<'a>(
     alloc: Global,
     names: &HashMap<&str, Definition>,
@@ -73,7 +73,7 @@ fn relocate_object<'a>(
     Ok(sections)
 }
 
-// Writes the relocations of an object into its sections, or returns the first that is refused.
+// Writes all relocations of object `number` into its sections, or returns the first refused.
 #[inline(never)]
 fn write_all_relocs(
     addresses: &[u32],
@@ -107,7 +107,7 @@ fn write_all_relocs(
     Ok(())
 }
 
-// Writes a relocation into the sections of its object.
+// Writes a relocation into its section, one of these. `addresses` are those of the symbols.
 fn write_reloc_in_object(
     addresses: &[u32],
     placed: &Placed<'_, '_>,
@@ -131,7 +131,7 @@ fn write_reloc_in_object(
     write_reloc_in_section(&mut sections[reloc.section as usize], reloc, place, value)
 }
 
-// Writes a relocation into its section.
+// Fills the field of a relocation, at address `place`, in its section, with the value.
 fn write_reloc_in_section(
     section: &mut WrittenSection<'_>,
     reloc: &Reloc,

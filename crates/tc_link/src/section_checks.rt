@@ -31,7 +31,7 @@ pub(crate) fn check_places(
     Ok(())
 }
 
-// For each section of an object, whether a symbol is defined in it.
+// For each section of an object, true if a symbol is defined there.
 fn section_symbol_marks(alloc: Global, object: &ObjectRef<'_>) -> Result<Vec<bool>, LinkErr>
     ensures held { IfOk result (λ held. (k : ℕ) (d : Bool) → k < length object.now.sections
         → slice_index_or held.items k d ≡ has_symbol_in_section object.now.symbols k) }
@@ -47,7 +47,7 @@ fn section_symbol_marks(alloc: Global, object: &ObjectRef<'_>) -> Result<Vec<boo
     Ok(held)
 }
 
-// The name of the first of these sections that needs a place and has none.
+// The name of the first section that needs a place and has none. `held` marks those with symbols.
 fn first_unplaced_section<'a>(
     places: &[Place],
     held: &[bool],

@@ -34,7 +34,7 @@ pub(crate) fn segments_of(
     Ok(segments)
 }
 
-// The sections of one name, each at a multiple of 4.
+// The bytes of the sections of one name, each at a multiple of 4, with zeros in the gaps.
 #[tactic(auto, unfolding(crate::specs::Segments::joined_sections))]
 fn join_sections(
     alloc: Global,
@@ -51,8 +51,8 @@ fn join_sections(
     Ok(bytes)
 }
 
-/// Joins a section to the bytes of a segment, at a multiple of 4, if it has the name of the
-/// segment's place.
+/// Appends a section to the bytes of a segment, at the next multiple of 4, if the section has
+/// `name`. Otherwise nothing changes.
 fn add_section(bytes: &mut Vec<u8>, name: &str, section: &WrittenSection<'_>) -> Result<(), LinkErr>
     ensures ok { OnOk result (bytes.new.items ≡ with_section name.now bytes.old.items section.now) }
     ensures err { IfErr result (λ e. e ≡ NoMemory) }

@@ -90,7 +90,7 @@ fn is_repeated_symbol(names: &HashMap<&str, Definition>, symbol: &SymbolRef<'_>)
     symbol.kind == GLOBAL_SYMBOL && has_several_globals(names, symbol.name)
 }
 
-// For each symbol of an object, whether a relocation uses it.
+// For each symbol of an object, true if a relocation uses the symbol.
 fn used_symbol_marks(alloc: Global, object: &ObjectRef<'_>) -> Result<Vec<bool>, LinkErr>
     ensures used { IfOk result (λ used. (k : ℕ) (d : Bool) → k < length object.now.symbols
         → slice_index_or used.items k d ≡ is_used_by_relocs object.now.relocs k) }
@@ -104,7 +104,7 @@ fn used_symbol_marks(alloc: Global, object: &ObjectRef<'_>) -> Result<Vec<bool>,
     Ok(used)
 }
 
-// The name of the first of these symbols that is used, and undefined in all objects.
+// The first symbol that is undefined, used (as `used` says of each), and global nowhere.
 fn first_missing_symbol<'a>(
     names: &HashMap<&str, Definition>,
     used: &[bool],
@@ -126,8 +126,8 @@ fn first_missing_symbol<'a>(
     None
 }
 
-// Whether a symbol is used, and undefined in its object and all others. `used` says whether a
-// relocation uses it.
+// Whether a symbol is undefined in its object, global in none, and used. `used` says whether a
+// relocation uses the symbol.
 fn is_missing_symbol(names: &HashMap<&str, Definition>, used: bool, symbol: &SymbolRef<'_>) -> bool
     ensures { (objects : List ObjectData) → KnowsRepeatedGlobals names.now objects
         → result ≡ (symbol.now.kind == 0 && used && count_globals_named objects symbol.now.name == 0) }

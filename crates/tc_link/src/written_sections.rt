@@ -22,7 +22,7 @@ impl<'a> Model for WrittenSection<'a> {
     ghost view = { λ s. record { name = s.name.now; bytes = s.bytes.items } };
 }
 
-// Adds the relocated sections of a further object to the linker's list.
+// Appends the relocated sections of a further object to those of the earlier ones.
 pub(crate) fn append_written_sections<'a>(
     contents: &mut Vec<WrittenSection<'a>>,
     more: Vec<WrittenSection<'a>>,

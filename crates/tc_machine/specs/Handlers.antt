@@ -24,14 +24,14 @@ at_handler_entry m s back entry = record s {
   pc = entry;
 }
 
--- what a trap does, such as that of syscall or of a misaligned access: the upper context is saved,
--- the handler of its class is entered, and D15 is set to the trap's number
+-- the machine after a trap: the upper context is saved, the handler of the class entered with
+-- return address back, and D15 is tin
 abbrev pub after_trap : Machine → ℕ → ℕ → ℕ → Machine
 after_trap m class tin back =
     if_running (save m true) (λ s. record (at_handler_entry m s back (bit_or m.btv (class * 2 ^ 5))) { d = slice_set s.d 15 tin })
 
--- what an interrupt does (manual, volume 1, interrupts): the upper context is saved, its handler is
--- entered, CCPN is irq, and pc is BIV with irq in bits 12:5
+-- the machine after an interrupt is taken (manual, volume 1, interrupts): the upper context saved,
+-- CCPN irq, and pc BIV with irq in bits 12:5
 abbrev pub after_interrupt : Machine → ℕ → Machine
 after_interrupt m irq =
     if_running (save m true) (λ s. record (at_handler_entry m s m.pc (bit_or m.biv (irq * 2 ^ 5))) { ccpn = irq })

@@ -8,13 +8,13 @@ use Rattle.tc_machine.specs.declared.events.Event.{Event}
 use Rattle.tc_machine.specs.declared.state.Machine.{Machine}
 use Rattle.tc_machine.specs.Stepping.{is_interrupt_taken}
 
--- P for a load or a store instruction; no statement for others
+-- if the instruction is a load or a store, P
 abbrev pub IfLoadOrStore : Shape → Type 0 → Type 0
 IfLoadOrStore (Load dst base offset size signed after) P = P
 IfLoadOrStore (Store src base offset size after) P = P
 IfLoadOrStore _ P = Unit {0}
 
--- P for an instruction that saves or restores a context; no statement for others
+-- if the instruction saves or restores a context, P
 abbrev pub IfContextInstruction : Shape → Type 0 → Type 0
 IfContextInstruction (Call to) P = P
 IfContextInstruction Ret P = P
@@ -25,7 +25,7 @@ IfContextInstruction (Bisr c) P = P
 IfContextInstruction (Syscall tin) P = P
 IfContextInstruction _ P = Unit {0}
 
--- P for an instruction on core registers or the interrupt system; no statement for others
+-- if the instruction enables or disables interrupts, or reads or writes a core register, P
 abbrev pub IfSystemInstruction : Shape → Type 0 → Type 0
 IfSystemInstruction Enable P = P
 IfSystemInstruction Disable P = P

@@ -22,12 +22,11 @@ abbrev pub operand_value : Machine → Arg → ℕ
 operand_value m (Reg r) = reg m r
 operand_value m (Word w) = w
 
--- the sum of an address and a number of bytes, modulo 2 ^ 32, as instructions add to pc and to
--- registers
+-- the sum of two words modulo 2 ^ 32, such as an address and a number of bytes
 abbrev pub wrapping_sum : ℕ → ℕ → ℕ
 wrapping_sum at by = (at + by) % 2 ^ 32
 
--- the machine after an instruction of n bytes that is followed by the next one
+-- the machine with pc advanced over an instruction of n bytes, modulo 2 ^ 32
 abbrev pub with_pc_advanced : ℕ → Machine → Machine
 with_pc_advanced n m = record m { pc = wrapping_sum m.pc n }
 
@@ -42,7 +41,7 @@ abbrev pub with_base_incremented : Machine → Arg → ℕ → Bool → Machine
 with_base_incremented m (Reg r) offset after = if after then with_reg m r (wrapping_sum (reg m r) offset) else m
 with_base_incremented m (Word w) offset after = m
 
--- an access traps if its address is no multiple of its size and the event says so
+-- an access traps if its address x is no multiple of its size and the event has such traps
 abbrev pub is_trapping_access : Event → ℕ → ℕ → Bool
 is_trapping_access e x size = e.aln && not (x % size == 0)
 
@@ -58,11 +57,11 @@ target_of m (target.Rel by) = wrapping_sum m.pc by
 target_of m (target.Abs x) = x
 target_of m (target.Reg r) = reg m r / 2 * 2
 
--- the machine after the branch's register was decremented by 1, if the branch does that
+-- the machine with a branch's register x decremented by 1 if lowers, as for loop
 abbrev pub with_register_decremented : Machine → ℕ → Bool → Machine
 with_register_decremented m x lowers = if lowers then with_reg m x (wrapping_sum (reg m x) (2 ^ 32 - 1)) else m
 
--- the machine after an instruction of n bytes that does this (its shape)
+-- the machine m after an instruction of this shape and of n bytes, executed in the event e
 unfoldable pub does : Machine → Event → Shape → ℕ → Machine
 does m e (Compute op dst x y) n = with_pc_advanced n (with_reg m dst (alu_of op (operand_value m x) (operand_value m y)))
 does m e (Scaled dst base index k) n = with_pc_advanced n (with_reg m dst (wrapping_sum (reg m base) (reg m index * 2 ^ k)))

@@ -20,7 +20,7 @@ with_reg m r w = if nat_lt r 16 then record m { d = slice_set m.d r w } else rec
 abbrev pub a10 : Machine → ℕ
 a10 m = slice_index m.a 10
 
--- the return address
+-- the return address, A11
 abbrev pub a11 : Machine → ℕ
 a11 m = slice_index m.a 11
 
@@ -37,7 +37,7 @@ abbrev pub if_end_running : End → Machine → (Machine → Machine) → Machin
 if_end_running Running m next = next m
 if_end_running (Dead cause) m next = m
 
--- what follows if the machine still runs; a dead machine doesn't change
+-- the machine after a next change if the machine runs; a dead machine doesn't change
 abbrev pub if_running : Machine → (Machine → Machine) → Machine
 if_running m next = if_end_running m.end m next
 
@@ -50,7 +50,7 @@ IsDead (Dead cause) = Unit {0}
 abbrev pub psw_with_status : ℕ → ℕ → ℕ
 psw_with_status psw status = status * 2 ^ 24 + psw % 2 ^ 24
 
--- the words in D0 to D15, or in A0 to A15, of a machine: 16 of them, each below 2 ^ 32
+-- the 16 words, each below 2 ^ 32, that D0 to D15 or A0 to A15 of a machine hold
 pub record AreRegisters (ws : List ℕ) : Type 0 where
   pub count : length ws ≡ 16
   pub words : All (λ w. w < 2 ^ 32) ws

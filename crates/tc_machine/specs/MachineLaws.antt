@@ -51,7 +51,8 @@ abbrev pub MachineRestoreSucceeds : Type 0
 MachineRestoreSucceeds =
     (m : Machine) (upper : Bool) → link_in m.pcxi ≢ 0 → is_last_context_of_kind m upper ≡ true → is_area m.mem (link_in m.pcxi) ≡ true → restore m upper ≡ with_context_restored m upper
 
--- a step of a running machine, if no interrupt is taken and the instruction leaves it running
+-- a step without an interrupt executes the instruction at pc and writes the event's status to PSW,
+-- if the machine runs before and after
 abbrev pub MachineStepExecutes : Type 0
 MachineStepExecutes =
     (m : Machine) (e : Event) (shape : Shape) (n : ℕ) → m.end ≡ Running → is_interrupt_taken m e ≡ false → fetched_instruction m ≡ Ok (shape, n) → (does m e shape n).end ≡ Running →
@@ -66,14 +67,14 @@ DeathChangesEndOnly = (m : Machine) (e : Event) (cause : Cause) → (step m e).e
 abbrev pub StepKeepsMachine : Type 0
 StepKeepsMachine = (m : Machine) (e : Event) → IsMachine m → e.irq < 2 ^ 8 → e.input < 2 ^ 32 → e.status < 2 ^ 8 → IsMachine (step m e)
 
--- every run from a start state, under events that fit, keeps them too
+-- every run from a start state keeps words in the registers and bytes in memory, if events fit
 abbrev pub RunKeepsMachine : Type 0
 RunKeepsMachine = (image : ImageData) (plan : PlanData) (m : Machine) (es : List Event) → IsPlan plan → Starts image plan m → AllFit plan m es → IsMachine (run m es)
 
 -- ---- guard laws: what the definitions under the headline say, in plain equations
 -- An event fits if its interrupt is none or one of the plan's, and its input is within bounds. If
--- no interrupt is taken, these are the bounds of the peripheral that has the loaded word. The
--- status is any byte, and a misaligned access may trap or not.
+-- no interrupt is taken, these are of the peripheral that has the loaded word. The status is any
+-- byte.
 abbrev pub EventEquationsSuffice : Type 0
 EventEquationsSuffice =
     (plan : PlanData) (m : Machine) (irq input status : ℕ) (aln : Bool) → (irq ≡ 0) ⊎ Contains plan.irqs irq → input < 2 ^ 32 → status < 2 ^ 8
@@ -86,8 +87,8 @@ abbrev pub first_events : ℕ → (ℕ → Event) → List Event
 first_events zero events = []
 first_events (suc n) events = events 0 ∷ first_events n (λ k. events (suc k))
 
--- If each of the first n events fits the state before it, they all fit, and their run ends in state
--- n.
+-- If each of the first n events fits the state before, they all fit as AllFit says, and their run
+-- ends in state n.
 abbrev pub RunEquationsSuffice : Type 0
 RunEquationsSuffice =
     (plan : PlanData) (states : ℕ → Machine) (events : ℕ → Event) (n : ℕ) → IsRun states events → ((k : ℕ) → k < n → Fits plan (states k) (events k))
@@ -141,8 +142,8 @@ pub record LiesInRange (ranges : List Range) (x n : ℕ) : Type 0 where
   pub from : range.at ≤ x
   pub to : x + n ≤ range.at + range.len
 
--- what the guard law of safety says of a state and its next event: the machine runs, its areas are
--- whole, at most `most` are used, its code is in rom, and its store is in range
+-- the equations of safety in a state, for its next event: the machine runs, areas are whole, code
+-- is in rom, stores are in range
 pub record MeetsSafetyEquations (image : ImageData) (plan : PlanData) (most : ℕ) (m : Machine) (e : Event) : Type 0 where
   pub running : m.end ≡ Running
   pub used : List ℕ
@@ -160,8 +161,8 @@ pub record MeetsSafetyEquations (image : ImageData) (plan : PlanData) (most : �
   pub there : (i : ℕ) → i < length code → bytes.get m.mem (m.pc + i) ≡ Some (slice_index code i)
   pub store : (x n : ℕ) → stored m e ≡ Some (x, n) → (x + n ≤ 2 ^ 32) × (LiesInRange plan.ram x n ⊎ LiesInRange (map (λ d. d.range) plan.devices) x n)
 
--- guard law of safety: if the image is safe under the plan, each state of a run from a start state,
--- under events that fit, has these five parts with each next event that fits
+-- guard law: if the image is safe, each state of a run under fitting events meets the equations of
+-- safety, with each next event
 abbrev pub SafeImpliesEquations : Type 0
 SafeImpliesEquations =
     (image : ImageData) (plan : PlanData) (most : ℕ) (states : ℕ → Machine) (events : ℕ → Event) (n : ℕ) (e : Event) → Safe image plan most

@@ -23,7 +23,7 @@ pub record Fits (plan : PlanData) (m : Machine) (e : Event) : Type 0 where
   pub status : e.status < 2 ^ 8
   pub answers : is_interrupt_taken m e ≡ false → MayAnswerLoad plan e.input (load_at_pc m)
 
--- each event fits the state before it
+-- each event of the list fits the machine's state before that event
 abbrev pub AllFit : PlanData → Machine → List Event → Type 0
 AllFit plan m [] = Unit {0}
 AllFit plan m (e ∷ es) = Fits plan m e × AllFit plan (step m e) es
@@ -53,7 +53,7 @@ pub record IsAtCode (image : ImageData) (plan : PlanData) (m : Machine) : Type 0
   pub spells : SpellsAt image plan m.pc bytes inst
   pub there : (i : ℕ) → i < length bytes → map.get m.mem (m.pc + i) ≡ Some (slice_index bytes i)
 
--- what is safe in a state of a run, and about its next event
+-- a state of a run is safe with its next event: running, areas whole, code in rom, store in range
 pub record IsSafeAt (image : ImageData) (plan : PlanData) (most : ℕ) (m : Machine) (e : Event) : Type 0 where
   pub running : m.end ≡ Running
   pub chains : ChainsAreWhole plan most m

@@ -7,7 +7,7 @@ use Rattle.tc_machine.specs.declared.events.Cause.TheVariants.{Fcd, Fcu, Csu, Ct
 use Rattle.tc_machine.specs.declared.state.Machine.{Machine}
 use Rattle.tc_machine.specs.Machine.{dead_machine}
 
--- the 16 words of the upper or the lower context
+-- the 16 words of the upper context, or of the lower one if the Bool is false
 abbrev pub context_of : Machine → Bool → List ℕ
 context_of m upper = if upper then upper_context_words m.pcxi m.psw m.d m.a else lower_context_words m.pcxi m.d m.a
 
@@ -31,7 +31,7 @@ save m upper =
     (if link_in m.fcx == link_in m.lcx then dead_machine Fcd (with_context_saved m upper) else with_context_saved m upper)
     else dead_machine NoArea m
 
--- the last context that was saved is of this kind, as PCXI says
+-- the last saved context is an upper one (true) or a lower one, as asked, by the bit UL of PCXI
 abbrev pub is_last_context_of_kind : Machine → Bool → Bool
 is_last_context_of_kind m upper = if upper then ul_of m.core m.pcxi else not (ul_of m.core m.pcxi)
 

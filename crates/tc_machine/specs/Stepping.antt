@@ -19,7 +19,7 @@ use Rattle.tc_machine.specs.Fetching.{fetched_instruction, mapped_bytes, fetched
 abbrev pub is_interrupt_taken : Machine → Event → Bool
 is_interrupt_taken m e = m.ie && nat_lt m.ccpn e.irq
 
--- the machine after what was found at pc: the instruction is executed, or the machine dies by the
+-- the machine after what was fetched at pc: the instruction is executed, or the machine dies by the
 -- cause
 abbrev pub after_fetch_result : Machine → Event → Result (Shape × ℕ) Cause → Machine
 after_fetch_result m e (Ok found) = does m e found.0 found.1
@@ -34,7 +34,7 @@ machine_after_event m e = if is_interrupt_taken m e then after_interrupt m e.irq
 unfoldable pub step : Machine → Event → Machine
 step m e = if_running m (λ m. if_running (machine_after_event m e) (λ n. record n { psw = psw_with_status n.psw e.status }))
 
--- the machine after all these events, one after another
+-- the machine after these events, one after another
 abbrev pub run : Machine → List Event → Machine
 run m [] = m
 run m (e ∷ es) = run (step m e) es
@@ -45,8 +45,8 @@ abbrev pub none_if_dead : End → Option (ℕ × ℕ) → Option (ℕ × ℕ)
 none_if_dead Running found = found
 none_if_dead (Dead cause) found = None
 
--- the address and the size of a load, if this is what was fetched; what the machine loads there if
--- the access doesn't trap, but given either way
+-- the address and the size of the load, if one was fetched, whether its access traps or not; none
+-- for other instructions
 abbrev pub load_of_fetched : Machine → Result (Shape × ℕ) Cause → Option (ℕ × ℕ)
 load_of_fetched m (Ok (Load dst base offset size signed after, n)) = Some (access_address m base offset after, size)
 load_of_fetched m _ = None

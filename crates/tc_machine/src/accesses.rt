@@ -11,8 +11,8 @@ use crate::operand_addresses::wrapping_sum;
 use tc_mem::Mem;
 use tcd_base::sext;
 
-/// Returns the word that a load of `size` bytes gives: mapped bytes from memory, others from the
-/// event's input, extended by the sign or by zeros.
+/// Returns what a load of `size` bytes gives: mapped bytes from memory, others from the event's
+/// `input`, extended by the sign or by zeros.
 pub(crate) fn extended_loaded_word(mem: &Mem, input: u32, addr: u32, size: u8, signed: bool) -> u32
     requires { IsShapeAccessSize size }
     ensures { result ≡ load_result signed size (loaded_number mem.now input addr size) }
@@ -32,8 +32,8 @@ pub(crate) fn extended_loaded_word(mem: &Mem, input: u32, addr: u32, size: u8, s
     }
 }
 
-/// Stores the low `n` bytes of a word in the machine's memory from an address on. Bytes that aren't
-/// mapped are dropped.
+/// Stores the low `n` bytes of a word in the machine's memory from an address on; `n` is 1, 2 or 4.
+/// Bytes that aren't mapped are dropped.
 pub(crate) fn store_low_bytes(mem: &mut Mem, addr: u32, word: u32, n: u8)
     ensures { mem.new ≡ with_bytes mem.old addr word n }
 {
@@ -43,8 +43,8 @@ pub(crate) fn store_low_bytes(mem: &mut Mem, addr: u32, word: u32, n: u8)
     store_byte_by_byte(mem, addr, word, n);
 }
 
-/// Returns true if an access traps: its address is no multiple of its size, and the event says that
-/// such accesses trap.
+/// Returns true if an access of `size` bytes traps: its address is no multiple of `size`, and the
+/// event says that such accesses trap.
 pub fn is_trapping_access(event: &Event, addr: u32, size: u8) -> bool
     requires { IsShapeAccessSize size }
     ensures { result ≡ is_trapping_access event.now addr size }
@@ -74,8 +74,8 @@ fn load_half_or_input(mem: &Mem, input: u32, addr: u32) -> u16
     }
 }
 
-/// Returns the number that a load of one byte reads at an address: the input's lowest byte if none
-/// is mapped.
+/// Returns the byte that a load of one byte reads at an address: the input's lowest byte if none is
+/// mapped.
 #[tactic(auto, unfolding(csa_chain::specs::MemoryBytes::loaded_number))]
 fn load_single_byte(mem: &Mem, input: u32, addr: u32) -> u8
     ensures { result ≡ loaded_number mem.now input addr 1 }
@@ -118,7 +118,7 @@ fn load_half_by_bytes(mem: &Mem, input: u32, addr: u32) -> u16
 }
 
 /// Stores a word, or its low half, in one step if its bytes are in one block of the memory. Returns
-/// whether it did.
+/// false if nothing was stored.
 fn store_in_block(mem: &mut Mem, addr: u32, word: u32, n: u8) -> bool
     ensures { MatchBool result (mem.new ≡ with_bytes mem.old addr word n) (mem.new ≡ mem.old) }
 {
@@ -129,7 +129,7 @@ fn store_in_block(mem: &mut Mem, addr: u32, word: u32, n: u8) -> bool
     }
 }
 
-/// Stores the low `n` bytes of a word from an address on, byte by byte.
+/// Stores the low `n` bytes of a word byte by byte. Bytes that aren't mapped are dropped.
 #[tactic(auto, unfolding(csa_chain::specs::MemoryBytes::with_bytes))]
 fn store_byte_by_byte(mem: &mut Mem, addr: u32, word: u32, n: u8)
     ensures { mem.new ≡ with_bytes mem.old addr word n }

@@ -14,7 +14,8 @@ use tc_isa::{Shape, Target};
 const SYSTEM_CALLS: u8 = 6;
 
 impl Machine {
-    /// Executes an instruction that saves or restores a context.
+    /// Executes an instruction of `n` bytes that saves or restores a context: a call, a return, a
+    /// system call, `svlcx`, `rslcx` or `bisr`.
     #[tactic(auto, unfolding(crate::specs::Instructions::does))]
     pub(crate) fn execute_context_op(&mut self, event: &Event, shape: Shape, n: u32)
         requires { IsShape shape }
@@ -36,8 +37,8 @@ impl Machine {
         }
     }
 
-    /// Executes a call: saves the upper context, puts the return address in A11, and goes to the
-    /// function.
+    /// Executes a call of `n` bytes: saves the upper context, puts the return address in A11, and
+    /// jumps to the function.
     #[tactic(auto, unfolding(crate::specs::Instructions::does))]
     fn call(&mut self, to: Target, n: u32)
         requires { IsShape (Shape.Call to) }
@@ -55,7 +56,7 @@ impl Machine {
         }
     }
 
-    /// Executes the instruction `ret`: restores the upper context, and returns from a call.
+    /// Executes `ret`: restores the upper context, and jumps to the return address in A11.
     #[tactic(auto, unfolding(crate::specs::Instructions::does))]
     fn return_from_call(&mut self, n: u32)
         ensures { (event : Event) → self.new ≡ does self.old event Shape.Ret n }
@@ -68,8 +69,8 @@ impl Machine {
         }
     }
 
-    /// Executes the instruction `rfe`: restores the upper context, and IE and CCPN from PCXI, and
-    /// returns from a handler.
+    /// Executes `rfe`: restores the upper context, IE and CCPN, and jumps to the return address in
+    /// A11. Its length `n` isn't used.
     #[tactic(auto, unfolding(crate::specs::Instructions::does))]
     fn return_from_exception(&mut self, n: u32)
         ensures { (event : Event) → self.new ≡ does self.old event Shape.Rfe n }
@@ -87,7 +88,7 @@ impl Machine {
         }
     }
 
-    /// Executes the instruction `svlcx`: saves the lower context, and goes on after it.
+    /// Executes `svlcx`, of `n` bytes: saves the lower context, and advances pc.
     #[tactic(auto, unfolding(crate::specs::Instructions::does))]
     fn save_lower_context(&mut self, n: u32)
         ensures { (event : Event) → self.new ≡ does self.old event Shape.Svlcx n }
@@ -99,7 +100,7 @@ impl Machine {
         }
     }
 
-    /// Executes the instruction `rslcx`: restores the lower context, and goes on after it.
+    /// Executes `rslcx`, of `n` bytes: restores the lower context, and advances pc.
     #[tactic(auto, unfolding(crate::specs::Instructions::does))]
     fn restore_lower_context(&mut self, n: u32)
         ensures { (event : Event) → self.new ≡ does self.old event Shape.Rslcx n }
@@ -111,7 +112,7 @@ impl Machine {
         }
     }
 
-    /// Executes `bisr`: saves the lower context, sets CCPN and enables interrupts.
+    /// Executes `bisr` of `n` bytes: saves the lower context, sets CCPN to `c`, enables interrupts.
     #[tactic(auto, unfolding(crate::specs::Instructions::does))]
     fn begin_interrupt_routine(&mut self, c: u8, n: u32)
         ensures { (event : Event) → self.new ≡ does self.old event (Shape.Bisr c) n }

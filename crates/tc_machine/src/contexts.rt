@@ -19,7 +19,7 @@ pub(crate) fn context_link(word: u32) -> u32
     word % 0x10_0000
 }
 
-/// Writes a word to the four bytes from an address on, in a save area.
+/// Writes a word to the four bytes from an address on, in a context save area.
 pub(crate) fn write_area_word(mem: &mut Mem, addr: u32, word: u32)
     requires { addr + 3 < 2 ^ 32 }
     ensures { mem.new ≡ with_word mem.old addr word }
@@ -44,7 +44,7 @@ fn write_area_word_bytes(mem: &mut Mem, addr: u32, word: u32)
 }
 
 impl Machine {
-    /// Returns the 16 words that a save of the machine's upper or lower context writes to an area.
+    /// Returns the 16 words that a save of the upper context (`upper`), or the lower one, writes.
     fn words_to_save(&self, upper: bool) -> [u32; 16]
         ensures { result ≡ context_of self.now upper }
     {
@@ -55,7 +55,8 @@ impl Machine {
         }
     }
 
-    /// Returns PCXI after a context was saved to the area of the link `free`.
+    /// Returns PCXI after the upper or lower context was saved to the area that the link `free`
+    /// names.
     fn pcxi_after_save(&self, upper: bool, free: u32) -> u32
         ensures { result ≡ pcxi_word_of self.now.core self.now.ccpn self.now.ie upper
             (link_in free) }
@@ -71,8 +72,8 @@ impl Machine {
 }
 
 impl Machine {
-    /// Returns the 16 words of the context save area that a link names, or `None` if the area isn't
-    /// wholly mapped.
+    /// Returns the 16 words of the context save area that the link `named` names, or `None` if the
+    /// area isn't wholly mapped.
     #[tactic(auto, using(crate::proofs::ContextWords::area_of_words))]
     pub(crate) fn words_of_area(&self, named: u32) -> Option<[u32; 16]>
         requires { named < 2 ^ 20 }
@@ -83,9 +84,8 @@ impl Machine {
         self.mem.area(address_of(named))
     }
 
-    /// Saves a context. The machine dies if the free list is empty or its first area isn't mapped.
-    /// After the save it dies if the limit of the list is reached.
-    /// (manual, volume 1, context management)
+    /// Saves the upper context if `upper`, else the lower (manual, volume 1, context management).
+    /// The machine dies if the free list is empty, its first area unmapped, or its limit reached.
     #[tactic(auto, unfolding(crate::specs::SavesAndRestores::save))]
     pub(crate) fn save(&mut self, upper: bool)
         ensures { self.new ≡ save self.old upper }
@@ -106,9 +106,9 @@ impl Machine {
         }
     }
 
-    /// Restores a context. The machine dies if there is none, if it is of the other kind, or if its
-    /// area isn't mapped.
-    /// (manual, volume 1, context management)
+    /// Restores the upper context if `upper`, else the lower (manual, volume 1, context
+    /// management). The machine dies if PCXI names none, one of the other kind, or an unmapped
+    /// area.
     #[tactic(auto, unfolding(crate::specs::SavesAndRestores::restore))]
     pub(crate) fn restore(&mut self, upper: bool)
         ensures { self.new ≡ restore self.old upper }
@@ -133,7 +133,8 @@ impl Machine {
         }
     }
 
-    /// Saves the context to the first free area. Its word 0 was the link of the next one.
+    /// Saves a context to the first free area, named by the link `free`. The link in `next`, the
+    /// area's old word 0, becomes the first free one.
     fn save_to_area(&mut self, free: u32, next: u32, upper: bool)
         requires free { free ≡ link_in self.old.fcx }
         requires mapped { is_area self.old.mem free ≡ true }
@@ -167,8 +168,8 @@ impl Machine {
         self.release_area(used, before);
     }
 
-    /// Moves the area that PCXI names to the front of the free list. Its old word 0 is the new
-    /// PCXI.
+    /// Moves the area that PCXI names by the link `used` to the front of the free list. Its old
+    /// word 0, `before`, becomes PCXI.
     #[tactic(auto, unfolding(csa_chain::specs::MemoryBytes::with_words))]
     fn release_area(&mut self, used: u32, before: u32)
         requires used { used ≡ link_in self.old.pcxi }

@@ -5,7 +5,7 @@ ghost use Rattle.tc_machine.specs.Machine.{core_register, with_core_register};
 use crate::{Event, Machine};
 use tc_isa::{BIV, BTV, FCX, ICR, ISP, LCX, PCXI, PSW};
 
-/// Returns ICR: CCPN in bits 7:0, IE in bit 8, and the other bits from the input.
+/// Returns ICR: CCPN in bits 7:0, IE in bit 8, and the other bits from the event's `input`.
 fn icr(ccpn: u8, ie: bool, input: u32) -> u32
     ensures { result ≡ input / 2 ^ 9 * 2 ^ 9 + (if ie then 2 ^ 8 else 0) + ccpn }
 {
@@ -14,7 +14,7 @@ fn icr(ccpn: u8, ie: bool, input: u32) -> u32
 }
 
 impl Machine {
-    /// Returns the core register with this number. Any other number reads the event's input.
+    /// Returns the word of the core register with this number. Others read the event's input.
     pub(crate) fn core_register(&self, event: &Event, number: u16) -> u32
         ensures { result ≡ core_register self.now event.now number }
     {

@@ -23,7 +23,8 @@ fn fetch_at_address(mem: &Mem, addr: u32) -> Result<(Inst, usize), DecodeErr>
     }
 }
 
-/// Returns why a machine dies if the bytes at pc decode to no instruction.
+/// Returns why a machine dies if bytes at pc don't decode: `NoCode` if they are the beginning of an
+/// instruction, else `NotListed`.
 fn fetch_failure_cause(e: DecodeErr) -> Cause
     ensures { result ≡ fetch_failure_cause e }
 {
@@ -33,7 +34,7 @@ fn fetch_failure_cause(e: DecodeErr) -> Cause
     }
 }
 
-/// Returns the instruction that the bytes begin with, and its length in bytes.
+/// Returns the instruction that the fetched bytes begin with, and its length in bytes.
 fn decode_fetched_bytes(bytes: &[u8]) -> Result<(Inst, usize), DecodeErr>
     ensures decoded { result ≡ decoded_of bytes.now }
     ensures small { IfOk result (λ found. found.1 ≤ 4) }
@@ -73,8 +74,8 @@ fn fetch_by_bytes(mem: &Mem, addr: u32) -> Result<(Inst, usize), DecodeErr>
 }
 
 impl Machine {
-    /// Returns what the bytes at pc do, and the length of the instruction in bytes. Here pc may be
-    /// odd.
+    /// Returns what the bytes at pc do and the length of the instruction in bytes, or why the
+    /// machine dies if none is decoded. An odd pc counts too.
     pub fn shape_at_pc(&self) -> Result<(Shape, u32), Cause>
         ensures shape { result ≡ fetched_shape
             (decoded_of (mapped_bytes 4 self.now.mem self.now.pc)) }
@@ -86,8 +87,7 @@ impl Machine {
         }
     }
 
-    /// Returns the instruction at pc; `found` is what the bytes there do. At an odd address there
-    /// is none.
+    /// Returns `found`, which is what the bytes at pc do, or the cause `NoCode` if pc is odd.
     #[tactic(auto, unfolding(crate::specs::Fetching::fetched_instruction))]
     pub(crate) fn fetch(&self, found: Result<(Shape, u32), Cause>) -> Result<(Shape, u32), Cause>
         requires found { found ≡ fetched_shape

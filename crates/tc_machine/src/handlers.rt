@@ -4,7 +4,7 @@ ghost use Rattle.tc_machine.specs.Handlers.{handler_psw, handler_stack, after_tr
 
 use crate::{End, Machine};
 
-/// Returns PSW at the entry of a handler: IO is 2, IS is 1, PRS and GW are 0, and the other bits
+/// Returns PSW in a handler by PSW before: IO is 2, IS is 1, PRS and GW are 0, and the other bits
 /// stay.
 fn psw_of_handler(psw: u32) -> u32
     ensures { result ≡ handler_psw psw }
@@ -32,7 +32,8 @@ impl Machine {
         }
     }
 
-    /// Takes a trap of a class, with its identification number in D15 (manual, volume 1, traps).
+    /// Takes a trap of a class, with its identification number `tin` in D15 and the return address
+    /// `back` in A11 (manual, volume 1, traps).
     pub(crate) fn take_trap(&mut self, class: u8, tin: u8, back: u32)
         ensures { self.new ≡ after_trap self.old class tin back }
     {
@@ -49,8 +50,8 @@ impl Machine {
         }
     }
 
-    /// Returns the stack pointer of a handler: the interrupt stack's, or A10 if that stack is in
-    /// use already.
+    /// Returns the stack pointer that a handler begins with: the interrupt stack's, or A10 if that
+    /// stack is in use already.
     fn stack_of_handler(&self) -> u32
         ensures { result ≡ handler_stack self.now }
     {
@@ -61,8 +62,8 @@ impl Machine {
         }
     }
 
-    /// Enters a handler: sets A11 to the return address `back`, A10, PSW and pc, and turns
-    /// interrupts off.
+    /// Enters a handler at `entry`, with the return address `back` in A11, `stack` in A10, a
+    /// handler's PSW made from `psw`, and interrupts off.
     fn enter_handler(&mut self, back: u32, entry: u32, stack: u32, psw: u32)
         ensures { self.new ≡ record self.old {
           a = slice_set (slice_set self.old.a 11 back) 10 stack;

@@ -35,7 +35,7 @@ struct Comparison {
 }
 
 impl Machine {
-    /// Executes an instruction of `n` bytes (manual, volume 2, instruction set).
+    /// Executes an instruction of this shape and of `n` bytes (manual, volume 2, instruction set).
     #[tactic(auto, unfolding(crate::specs::Instructions::does))]
     pub(crate) fn execute(&mut self, event: &Event, shape: Shape, n: u32)
         requires { IsShape shape }
@@ -69,7 +69,7 @@ impl Machine {
         }
     }
 
-    /// Executes a load or a store.
+    /// Executes a load or a store of `n` bytes of code.
     #[tactic(auto, unfolding(crate::specs::Instructions::does))]
     fn execute_load_or_store(&mut self, event: &Event, shape: Shape, n: u32)
         requires { IsShape shape }
@@ -111,7 +111,8 @@ impl Machine {
         }
     }
 
-    /// Executes an instruction of `n` bytes on core registers or the interrupt system.
+    /// Executes an instruction of `n` bytes that enables or disables interrupts, or reads or writes
+    /// a core register.
     #[tactic(auto, unfolding(crate::specs::Instructions::does))]
     fn execute_system_op(&mut self, event: &Event, shape: Shape, n: u32)
         requires { IsShape shape }
@@ -139,8 +140,8 @@ impl Machine {
         }
     }
 
-    /// Executes an arithmetic or logical instruction: writes the result of an operation on two
-    /// operands to a register.
+    /// Executes an arithmetic or logical instruction of `n` bytes: writes the result of `op` on two
+    /// operands to the register `dst`.
     #[tactic(auto, unfolding(crate::specs::Instructions::does))]
     fn execute_operation(&mut self, op: Op, dst: u8, x: Arg, y: Arg, n: u32)
         requires { IsShape (Shape.Compute op dst x y) }
@@ -151,8 +152,8 @@ impl Machine {
         self.advance_pc(n);
     }
 
-    /// Executes `addsc.a`: writes the sum of a base address and an index that is shifted to the
-    /// left by `k` bits.
+    /// Executes `addsc.a`, of `n` bytes: writes the sum of a base address and an index shifted to
+    /// the left by `k` bits.
     #[tactic(auto, unfolding(crate::specs::Instructions::does))]
     fn execute_scaled_add(&mut self, dst: u8, base: u8, index: u8, k: u8, n: u32)
         requires { IsShape (Shape.Scaled dst base index k) }
@@ -164,7 +165,7 @@ impl Machine {
         self.advance_pc(n);
     }
 
-    /// Executes one of the load instructions: writes the register, and the base with
+    /// Executes a load instruction of `n` bytes: writes the register, and the base with
     /// post-increment, or takes the trap of a misaligned access.
     #[tactic(auto, unfolding(crate::specs::Instructions::does))]
     fn execute_load(&mut self, event: &Event, dst: u8, at: Access, signed: bool, n: u32)
@@ -183,7 +184,7 @@ impl Machine {
         self.advance_pc(n);
     }
 
-    /// Executes one of the store instructions: writes the bytes, and the base with post-increment,
+    /// Executes a store instruction of `n` bytes: writes memory, and the base with post-increment,
     /// or takes the trap of a misaligned access.
     #[tactic(auto, unfolding(crate::specs::Instructions::does))]
     fn execute_store(&mut self, event: &Event, src: u8, at: Access, n: u32)
@@ -202,7 +203,8 @@ impl Machine {
         self.advance_pc(n);
     }
 
-    /// Executes a branch, which is taken or not.
+    /// Executes a branch of `n` bytes: if the comparison holds, pc advances by `by`, else by `n`. A
+    /// `loop` (`lowers`) decrements its register.
     #[tactic(auto, unfolding(crate::specs::Instructions::does))]
     fn execute_branch(&mut self, test: Comparison, by: u32, lowers: bool, n: u32)
         requires { IsShape (Shape.Branch test.cond test.x test.y by lowers) }

@@ -15,8 +15,8 @@ pub fn machine_laws()
     ensures runs { RunKeepsMachine }
 {}
 
-/// The laws that pin the definitions of events and runs that fit, of machines that start, of
-/// safety, and of what a store stores.
+/// The guard laws pin the definitions of fitting events and runs, start states, safety and stores:
+/// each concludes from, or gives, plain equations.
 pub fn guard_laws()
     ensures events { EventEquationsSuffice }
     ensures runs { RunEquationsSuffice }

@@ -53,9 +53,8 @@ impl Machine {
         self.next_load_predecoded(&self.shape_at_pc())
     }
 
-    /// Returns true if an event never changes the memory or PCXI, so that the areas in use stay. No
-    /// interrupt is taken, and `found`, which is what the bytes at pc do, is an instruction that
-    /// can't trap. It stores nothing, saves and restores no context and writes no core register.
+    /// Returns true if the event takes no interrupt and `found`, what the bytes at pc do, never
+    /// changes the memory or PCXI. Then the areas in use stay.
     pub fn keeps_areas(&self, event: &Event, found: &Result<(Shape, u32), Cause>) -> bool
         requires { found.now ≡ fetched_shape
             (decoded_of (mapped_bytes 4 self.now.mem self.now.pc)) }
@@ -108,8 +107,8 @@ impl Machine {
         }
     }
 
-    /// Returns word 0 of the save area that a word of a chain names, or `None` if the area isn't
-    /// wholly mapped. `near` is a hint for the memory.
+    /// Returns word 0 of the area whose link is in `word`, or `None` if the area isn't wholly
+    /// mapped. `near` is a hint that speeds up the memory.
     #[tactic(auto, using(crate::proofs::WholeAccesses::first_of_area))]
     fn next_chain_word(&self, word: u32, near: &mut usize) -> Option<u32>
         ensures { result ≡

@@ -8,8 +8,8 @@ use crate::Machine;
 use tc_isa::{Arg, Target};
 
 impl Machine {
-    /// Returns the address that an access has by its operands: the base plus the offset, or the
-    /// base alone with post-increment.
+    /// Returns the address of a load or a store: the base plus the offset, or the base alone with
+    /// post-increment (`after`).
     pub fn access_address(&self, base: Arg, offset: u32, after: bool) -> u32
         requires { IsArg base }
         ensures { result ≡ access_address self.now base offset after }
@@ -21,8 +21,8 @@ impl Machine {
         }
     }
 
-    /// Increases the address in the register of a base operand by the offset, if the access is one
-    /// with post-increment.
+    /// Adds the offset of an access to the register of its base operand, if `after` says that the
+    /// access has post-increment.
     pub(crate) fn post_increment_base(&mut self, base: Arg, offset: u32, after: bool)
         requires { IsArg base }
         ensures { self.new ≡ with_base_incremented self.old base offset after }
@@ -38,7 +38,7 @@ impl Machine {
         }
     }
 
-    /// Returns the address that a jump or a call goes to.
+    /// Returns the address that a jump or a call goes to; bit 0 of a register's word is dropped.
     pub(crate) fn target_address(&self, to: Target) -> u32
         requires { IsTarget to }
         ensures { result ≡ target_of self.now to }
@@ -50,7 +50,7 @@ impl Machine {
         }
     }
 
-    /// Decrements by 1 the register that a branch compares, if the branch does that.
+    /// Decrements by 1 the register `x` that a branch compares, if `lowers` says so, as for `loop`.
     pub(crate) fn decrement_compared_register(&mut self, x: u8, lowers: bool)
         requires { x < 32 }
         ensures { self.new ≡ with_register_decremented self.old x lowers }
@@ -62,7 +62,7 @@ impl Machine {
     }
 }
 
-/// Returns the address `by` bytes after `at`, modulo 2^32.
+/// Returns the sum of two words modulo 2^32, such as an address and a number of bytes.
 pub(crate) fn wrapping_sum(at: u32, by: u32) -> u32
     ensures { result ≡ wrapping_sum at by }
 {

@@ -21,7 +21,7 @@ impl Machine {
         }
     }
 
-    /// Writes a word to a register.
+    /// Writes a word to a register: 0 to 15 for D0 to D15, 16 to 31 for A0 to A15.
     pub(crate) fn set_reg(&mut self, r: u8, word: u32)
         requires { r < 32 }
         ensures { self.new ≡ with_reg self.old r word }
@@ -44,7 +44,7 @@ impl Machine {
         }
     }
 
-    /// Sets the register pc to the address after the instruction, which has `n` bytes.
+    /// Advances pc over an instruction of `n` bytes, modulo 2^32.
     pub(crate) fn advance_pc(&mut self, n: u32)
         ensures { self.new ≡ with_pc_advanced n self.old }
     {

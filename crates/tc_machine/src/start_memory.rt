@@ -19,8 +19,8 @@ pub(crate) fn start_area_link(at: u32) -> u32
     at / 0x1000_0000 * 0x1_0000 + at % 0x1000_0000 / 64
 }
 
-/// Returns the memory of a start state: zeros in rom, ram and `n` save areas, then the image's
-/// bytes in rom, and in each area the link of the next one.
+/// Returns a start state's memory: zeros, the image's bytes in rom, and in each of `n` save areas
+/// from `at` on the next one's link.
 pub(crate) fn start_memory(
     alloc: Global,
     image: &Image,
@@ -125,7 +125,8 @@ fn copy_segment(mem: &mut Mem, segment: &Segment, range: &Range)
     }
 }
 
-/// Returns the link of the area after area `i` of `n`, or 0 after the last one.
+/// Returns the link of the save area after area `i` of `n`, or 0 after the last one. `first` is the
+/// link of area 0.
 fn next_start_link(first: u32, n: u32, i: u32) -> u32
     requires i { i < n }
     requires first { first + n < 2 ^ 32 }

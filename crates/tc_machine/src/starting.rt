@@ -9,7 +9,7 @@ use std::alloc::Global;
 use tcd_base::NoMemory;
 use tcd_plan::Plan;
 
-/// Returns PSW at the start: IO is 2, IS the plan's, and the other bits are 0.
+/// Returns PSW at the start: IO is 2, IS is `is`, the plan's, and the other bits are 0.
 fn start_psw(is: bool) -> u32
     ensures { result ≡ psw_at_start is }
 {
@@ -17,8 +17,8 @@ fn start_psw(is: bool) -> u32
 }
 
 impl Machine {
-    /// Returns the state that starts the image under the plan. All that a start state may choose is
-    /// 0.
+    /// Returns a machine in the start state of the image under the plan. Registers that the plan
+    /// doesn't give and bytes that no segment holds are 0.
     pub fn start(alloc: Global, image: &Image, plan: &Plan) -> Result<Machine, NoMemory>
         ensures { IfOk result (λ m. StartsInZeros image.now plan.now m) }
     {

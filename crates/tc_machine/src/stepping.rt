@@ -9,7 +9,7 @@ use crate::{Cause, End, Event, Machine};
 use tc_isa::Shape;
 
 impl Machine {
-    /// Performs one event as `step` does; `found` is what the bytes at pc do.
+    /// Performs one event as `step` does; `found` is what the bytes at pc do, decoded already.
     #[tactic(auto, unfolding(crate::specs::Stepping::step))]
     pub fn step_predecoded(&mut self, event: &Event, found: Result<(Shape, u32), Cause>)
         requires found { found ≡ fetched_shape
@@ -38,7 +38,7 @@ impl Machine {
         self.step_predecoded(event, self.shape_at_pc());
     }
 
-    /// Performs the events, one after another.
+    /// Performs the events, one after another, as `step` does each.
     pub fn run(&mut self, events: &[Event])
         ensures { self.new ≡ run self.old events.now }
     {

@@ -55,7 +55,7 @@ impl Mem {
         })
     }
 
-    /// Returns the byte at an address, or `None` if it isn't mapped.
+    /// Returns the byte at an address, or `None` if that byte isn't mapped.
     pub fn get(&self, addr: u32) -> Option<u8>
         ensures byte { result ≡ finite.get self.now addr }
         ensures bytes { HasOnlyBytes self.now }
@@ -63,7 +63,7 @@ impl Mem {
         read_memory_byte(&self.pages, addr, self.near)
     }
 
-    /// Writes a mapped byte. If it isn't mapped, the answer is false, and nothing changes.
+    /// Writes a mapped byte. If the byte isn't mapped, the answer is false, and nothing changes.
     pub fn set(&mut self, addr: u32, byte: u8) -> bool
         ensures mapped { result ≡ is_mapped self.old addr }
         ensures written { self.new ≡ with_byte self.old addr byte }
@@ -143,8 +143,7 @@ impl Mem {
     }
 
     /// Returns the first word of the 64 bytes from an address on, or `None` if one of the 64 isn't
-    /// mapped. `near` is a hint: the place at which the last such call found its page; any number
-    /// is allowed.
+    /// mapped. `near` is a hint, kept between calls: the page's index; any number is allowed.
     pub fn area_first_word(&self, addr: u32, near: &mut usize) -> Option<u32>
         requires { addr % 64 ≡ 0 }
         ensures word { result ≡ area_first_word self.now addr }

@@ -16,7 +16,7 @@ pub(crate) struct Page {
     pub bytes: [u8; 4096],
 }
 
-// Returns the byte at an address of the page, or `None` if it isn't mapped.
+// Returns the byte of a page at an address, or `None` if that byte isn't mapped.
 pub(crate) fn page_byte_at(page: &Page, addr: u32) -> Option<u8>
     requires { page.now.number ≡ addr / 4096 }
     ensures { result ≡ page_byte_at addr page.now }
@@ -29,7 +29,7 @@ pub(crate) fn page_byte_at(page: &Page, addr: u32) -> Option<u8>
     }
 }
 
-// Writes the byte at an offset if it is mapped, and returns whether it is.
+// Writes the byte at an offset of a page. An unmapped byte gives false, and nothing changes.
 pub(crate) fn write_page_byte(page: &mut Page, offset: usize, byte: u8) -> bool
     requires { offset < 4096 }
     ensures mapped { result ≡ is_page_bit_set page.old.mapped offset }
@@ -46,7 +46,7 @@ pub(crate) fn write_page_byte(page: &mut Page, offset: usize, byte: u8) -> bool
     mapped
 }
 
-// Writes bytes from an offset on, mapped or not: nobody reads an unmapped one.
+// Writes bytes to a page from an offset on, mapped or not: nobody reads an unmapped one.
 pub(crate) fn write_page_bytes(page: &mut Page, offset: usize, bytes: &[u8])
     requires { offset + length bytes.now ≤ 4096 }
     ensures written { page.new
@@ -56,7 +56,7 @@ pub(crate) fn write_page_bytes(page: &mut Page, offset: usize, bytes: &[u8])
     page.bytes[offset..offset + bytes.len()].copy_from_slice(bytes);
 }
 
-// Returns the word of the four bytes from an offset on, the lowest byte first.
+// Returns the word of four bytes of a page from an offset on, the lowest byte first.
 pub(crate) fn page_word(bytes: &[u8; 4096], offset: usize) -> u32
     requires { offset + 4 ≤ 4096 }
     ensures { result ≡ word_in_bytes bytes.now offset }
@@ -69,7 +69,7 @@ pub(crate) fn page_word(bytes: &[u8; 4096], offset: usize) -> u32
     ])
 }
 
-// Writes a word to the four bytes from an offset on, the lowest byte first.
+// Writes a word to four bytes of a page from an offset on, the lowest byte first.
 #[tactic(auto, unfolding(crate::specs::Pages::page_bytes_with_words))]
 pub(crate) fn write_page_word(bytes: &mut [u8; 4096], offset: usize, word: u32)
     requires { offset + 4 ≤ 4096 }
@@ -137,7 +137,8 @@ pub(crate) fn page_area_first_word(page: &Page, offset: usize) -> Option<u32>
     }
 }
 
-// Returns the word at an offset if it is mapped.
+// Returns the word of the four bytes of a page from an offset on, the lowest byte first. If one of
+// them isn't mapped, or they cross a multiple of 64, the answer is `None`.
 pub(crate) fn mapped_page_word(page: &Page, offset: usize) -> Option<u32>
     requires { offset + 4 ≤ 4096 }
     ensures mapped { is_some result ≡ are_page_bits_set 4 page.now.mapped offset }
@@ -150,7 +151,8 @@ pub(crate) fn mapped_page_word(page: &Page, offset: usize) -> Option<u32>
     }
 }
 
-// Returns the halfword at an offset if it is mapped.
+// Returns the halfword of the two bytes of a page from an offset on, the lower byte first. If one
+// of them isn't mapped, or they cross a multiple of 64, the answer is `None`.
 pub(crate) fn mapped_page_half(page: &Page, offset: usize) -> Option<u16>
     requires { offset + 2 ≤ 4096 }
     ensures mapped { is_some result ≡ are_page_bits_set 2 page.now.mapped offset }
@@ -163,7 +165,8 @@ pub(crate) fn mapped_page_half(page: &Page, offset: usize) -> Option<u16>
     }
 }
 
-// Writes a word at an offset if it is mapped, and returns whether it is.
+// Writes a word to the four bytes of a page from an offset on, the lowest byte first. If one of
+// them isn't mapped, or they cross a multiple of 64, the answer is false, and nothing changes.
 pub(crate) fn write_mapped_page_word(page: &mut Page, offset: usize, word: u32) -> bool
     requires { offset + 4 ≤ 4096 }
     ensures mapped { result ≡ are_page_bits_set 4 page.old.mapped offset }
@@ -180,7 +183,8 @@ pub(crate) fn write_mapped_page_word(page: &mut Page, offset: usize, word: u32) 
     mapped
 }
 
-// Writes a halfword at an offset if it is mapped, and returns whether it is.
+// Writes a halfword to the two bytes of a page from an offset on, the lower byte first. If one of
+// them isn't mapped, or they cross a multiple of 64, the answer is false, and nothing changes.
 pub(crate) fn write_mapped_page_half(page: &mut Page, offset: usize, half: u16) -> bool
     requires { offset + 2 ≤ 4096 }
     ensures mapped { result ≡ are_page_bits_set 2 page.old.mapped offset }
@@ -198,7 +202,7 @@ pub(crate) fn write_mapped_page_half(page: &mut Page, offset: usize, half: u16) 
     mapped
 }
 
-// Marks the bytes that a range has in the page with this number as mapped, in the page's bits.
+// Maps the bytes that a range has in the page with this number: sets their bits in `mapped`.
 pub(crate) fn set_page_bits_of_range(mapped: &mut [u64; 64], number: u32, range: &Range)
     ensures { (k : ℕ) → k < 4096
         → is_page_bit_set mapped.new k
@@ -250,7 +254,7 @@ pub(crate) fn new_page(number: u32, ranges: &[Range]) -> Page
     }
 }
 
-// Returns true if the byte at an offset is mapped.
+// Returns true if the byte at an offset of a page is mapped.
 fn is_page_byte_mapped(page: &Page, offset: usize) -> bool
     requires { offset < 4096 }
     ensures { result ≡ is_page_bit_set page.now.mapped offset }
@@ -258,7 +262,7 @@ fn is_page_byte_mapped(page: &Page, offset: usize) -> bool
     (page.mapped[offset / 64] >> (offset % 64)) % 2 == 1
 }
 
-// Returns the 16 words from an offset on, each with its lowest byte first.
+// Returns the 16 words of a page from an offset on, each with its lowest byte first.
 fn page_area_words(bytes: &[u8; 4096], offset: usize) -> [u32; 16]
     requires { offset + 64 ≤ 4096 }
     ensures size { length result ≡ 16 }
@@ -272,7 +276,7 @@ fn page_area_words(bytes: &[u8; 4096], offset: usize) -> [u32; 16]
     words
 }
 
-// Writes 16 words from an offset on, each with its lowest byte first.
+// Writes 16 words to a page from an offset on, each with its lowest byte first, mapped or not.
 fn write_page_area_words(bytes: &mut [u8; 4096], offset: usize, words: &[u32; 16])
     requires { offset + 64 ≤ 4096 }
     ensures { bytes.new ≡ page_bytes_with_words bytes.old offset words.now }
@@ -284,7 +288,7 @@ fn write_page_area_words(bytes: &mut [u8; 4096], offset: usize, words: &[u32; 16
     }
 }
 
-// Returns true if the four bytes from an offset on are mapped.
+// Returns true if the four bytes from an offset on are mapped and cross no multiple of 64.
 fn is_page_word_mapped(page: &Page, offset: usize) -> bool
     requires { offset < 4096 }
     ensures { result ≡ are_page_bits_set 4 page.now.mapped offset }
@@ -292,7 +296,7 @@ fn is_page_word_mapped(page: &Page, offset: usize) -> bool
     (page.mapped[offset / 64] >> (offset % 64)) % 16 == 15
 }
 
-// Returns true if the two bytes from an offset on are mapped.
+// Returns true if the two bytes from an offset on are mapped and cross no multiple of 64.
 fn is_page_half_mapped(page: &Page, offset: usize) -> bool
     requires { offset < 4096 }
     ensures { result ≡ are_page_bits_set 2 page.now.mapped offset }
@@ -300,7 +304,7 @@ fn is_page_half_mapped(page: &Page, offset: usize) -> bool
     (page.mapped[offset / 64] >> (offset % 64)) % 4 == 3
 }
 
-// Returns the halfword of the two bytes from an offset on, the lower byte first.
+// Returns the halfword of two bytes of a page from an offset on, the lower byte first.
 fn page_half(bytes: &[u8; 4096], offset: usize) -> u16
     requires { offset + 2 ≤ 4096 }
     ensures { result ≡ half_in_bytes bytes.now offset }
@@ -308,7 +312,7 @@ fn page_half(bytes: &[u8; 4096], offset: usize) -> u16
     u16::from_le_bytes([bytes[offset], bytes[offset + 1]])
 }
 
-// Writes a halfword to the two bytes from an offset on, the lower byte first.
+// Writes a halfword to two bytes of a page from an offset on, the lower byte first.
 fn write_page_half(bytes: &mut [u8; 4096], offset: usize, half: u16)
     requires { offset + 2 ≤ 4096 }
     ensures { bytes.new
@@ -320,8 +324,8 @@ fn write_page_half(bytes: &mut [u8; 4096], offset: usize, half: u16)
     bytes[offset + 1] = parts[1];
 }
 
-/// Sets the bits of a page from one offset up to before another. Those of a whole page are set at
-/// once.
+/// Maps the bytes of a page at offsets from `from` to before `to`: sets their bits in `mapped`.
+/// Those of a whole page are set at once.
 fn set_page_bits_between(mapped: &mut [u64; 64], from: usize, to: usize)
     requires ordered { from ≤ to }
     requires within { to ≤ 4096 }
@@ -353,7 +357,7 @@ fn mapped_page_bits() -> [u64; 64]
     [u64::MAX; 64]
 }
 
-// Sets the 64 bits from an offset on, which are one word of the list.
+// Maps the 64 bytes of a page from an offset on: sets their bits, which are one word.
 fn set_page_bit_block(mapped: &mut [u64; 64], offset: usize)
     requires aligned { offset % 64 ≡ 0 }
     requires within { offset < 4096 }
@@ -363,7 +367,7 @@ fn set_page_bit_block(mapped: &mut [u64; 64], offset: usize)
     mapped[offset / 64] = u64::MAX;
 }
 
-/// Sets the bit of an offset, by which the byte there is mapped.
+/// Maps the byte at an offset of a page: sets its bit in `mapped`.
 fn set_page_bit(mapped: &mut [u64; 64], offset: usize)
     requires { offset < 4096 }
     ensures { (k : ℕ) → k < 4096 → is_page_bit_set mapped.new k

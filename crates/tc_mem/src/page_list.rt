@@ -18,7 +18,7 @@ use std::alloc::Global;
 use std::marker::Model;
 use tcd_base::{NoMemory, Range};
 
-/// Returns the byte at an address of a whole memory, for `Mem::get`, or `None` if it isn't mapped.
+/// Returns the byte at an address, or `None` if unmapped. `near` guesses the index of its page.
 pub(crate) fn read_memory_byte(pages: &[Page], addr: u32, near: usize) -> Option<u8>
     requires { AreMemoryPages pages.now }
     ensures byte { result ≡ finite.get (memory_of pages.now) addr }
@@ -44,8 +44,8 @@ pub(crate) fn write_bytes_in_page(pages: &mut [Page], addr: u32, bytes: &[u8])
     write_page_bytes(&mut pages[i], (addr % 4096) as usize, bytes);
 }
 
-/// Returns the word at an address of a whole memory, for `Mem::word`, if its bytes are mapped and
-/// in one block of 64.
+/// Returns the word at an address, or `None` if one of its bytes isn't mapped or they cross a
+/// multiple of 64. `near` guesses the page's index in `pages`.
 pub(crate) fn read_memory_word(pages: &[Page], addr: u32, near: usize) -> Option<u32>
     requires { AreMemoryPages pages.now }
     ensures word { result ≡ mapped_block_word (memory_of pages.now) addr }
@@ -60,8 +60,8 @@ pub(crate) fn read_memory_word(pages: &[Page], addr: u32, near: usize) -> Option
     mapped_page_word(&pages[i], (addr % 4096) as usize)
 }
 
-/// Returns the halfword at an address of a whole memory, for `Mem::half`, if its bytes are mapped
-/// and in one block of 64.
+/// Returns the halfword at an address, or `None` if one of its bytes isn't mapped or they cross a
+/// multiple of 64. `near` guesses the page's index in `pages`.
 pub(crate) fn read_memory_half(pages: &[Page], addr: u32, near: usize) -> Option<u16>
     requires { AreMemoryPages pages.now }
     ensures half { result ≡ mapped_block_half (memory_of pages.now) addr }
@@ -76,7 +76,7 @@ pub(crate) fn read_memory_half(pages: &[Page], addr: u32, near: usize) -> Option
     mapped_page_half(&pages[i], (addr % 4096) as usize)
 }
 
-/// Does the work of `Mem::set`: writes a byte if it is mapped, and returns whether it is.
+/// Writes a byte, or returns false if unmapped. `near` guesses its page's index in `pages`.
 pub(crate) fn write_memory_byte(pages: &mut [Page], addr: u32, byte: u8, near: usize) -> bool
     requires { AreMemoryPages pages.old }
     ensures mapped { result ≡ has_byte (memory_of pages.old) addr }
@@ -109,8 +109,8 @@ pub(crate) fn write_memory_bytes(pages: &mut [Page], addr: u32, bytes: &[u8])
     }
 }
 
-/// Writes a word to a whole memory, for `Mem::set_word`, if its bytes are mapped and in one block
-/// of 64, and returns whether they are.
+/// Writes a word, or returns false if one of its four bytes isn't mapped or they cross a multiple
+/// of 64. `near` guesses the page's index in `pages`.
 pub(crate) fn write_memory_word(pages: &mut [Page], addr: u32, word: u32, near: usize) -> bool
     requires { AreMemoryPages pages.old }
     ensures mapped { result ≡ are_mapped_in_block (memory_of pages.old) addr 4 }
@@ -127,8 +127,8 @@ pub(crate) fn write_memory_word(pages: &mut [Page], addr: u32, word: u32, near: 
     write_mapped_page_word(&mut pages[i], (addr % 4096) as usize, word)
 }
 
-/// Writes a halfword to a whole memory, for `Mem::set_half`, if its bytes are mapped and in one
-/// block of 64, and returns whether they are.
+/// Writes a halfword, or returns false if one of its two bytes isn't mapped or they cross a
+/// multiple of 64. `near` guesses the page's index in `pages`.
 pub(crate) fn write_memory_half(pages: &mut [Page], addr: u32, half: u16, near: usize) -> bool
     requires { AreMemoryPages pages.old }
     ensures mapped { result ≡ are_mapped_in_block (memory_of pages.old) addr 2 }
@@ -145,8 +145,8 @@ pub(crate) fn write_memory_half(pages: &mut [Page], addr: u32, half: u16, near: 
     write_mapped_page_half(&mut pages[i], (addr % 4096) as usize, half)
 }
 
-/// Returns the first word of an area of a whole memory, for `Mem::first_word`, if all 64 bytes are
-/// mapped. The search begins at `near`, which becomes the place of the page if there is one.
+/// Returns the first word of an area of 64 bytes, or `None` if one of them isn't mapped. `near`
+/// guesses the page's index in `pages`, and becomes that index if the page is there.
 pub(crate) fn read_area_first_word(pages: &[Page], addr: u32, near: &mut usize) -> Option<u32>
     requires pages { AreMemoryPages pages.now }
     requires aligned { addr % 64 ≡ 0 }
@@ -160,8 +160,8 @@ pub(crate) fn read_area_first_word(pages: &[Page], addr: u32, near: &mut usize) 
     page_area_first_word(&pages[i], (addr % 4096) as usize)
 }
 
-/// Does the work of `Mem::area` on the memory's list of pages: returns the words of an area that is
-/// wholly mapped.
+/// Returns the 16 words of an area, or `None` if one of its 64 bytes isn't mapped. `near` guesses
+/// the page's index in `pages`.
 pub(crate) fn read_area(pages: &[Page], addr: u32, near: usize) -> Option<[u32; 16]>
     requires pages { AreMemoryPages pages.now }
     requires aligned { addr % 64 ≡ 0 }
@@ -174,8 +174,8 @@ pub(crate) fn read_area(pages: &[Page], addr: u32, near: usize) -> Option<[u32; 
     page_area(&pages[i], (addr % 4096) as usize)
 }
 
-/// Does the work of `Mem::set_area`: writes an area if it is wholly mapped, and returns whether it
-/// is.
+/// Writes 16 words to an area, or returns false if one of its 64 bytes isn't mapped. `near` guesses
+/// the page's index in `pages`, and becomes that index if the page is there.
 pub(crate) fn write_area(pages: &mut [Page], addr: u32, words: &[u32; 16], near: &mut usize) -> bool
     requires pages { AreMemoryPages pages.old }
     requires aligned { addr % 64 ≡ 0 }
@@ -191,8 +191,8 @@ pub(crate) fn write_area(pages: &mut [Page], addr: u32, words: &[u32; 16], near:
     write_page_area(&mut pages[i], (addr % 4096) as usize, words)
 }
 
-/// Returns the pages of a whole new memory in which these ranges are mapped, all zero, for
-/// `Mem::of`. Room for all pages is reserved first, so that each is written where it stays.
+/// Returns the pages of a new memory in which these ranges are mapped, all zero, for `Mem::of`.
+/// Room for all pages is reserved first, so that no page is moved.
 pub(crate) fn new_pages(alloc: Global, ranges: &[Range]) -> Result<Vec<Page>, NoMemory>
     ensures pages { IfOk result (λ v. AreMemoryPages v.items) }
     ensures bytes { IfOk result (λ v. HasOnlyBytes (memory_of v.items)) }

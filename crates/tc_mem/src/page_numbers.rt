@@ -8,8 +8,8 @@ use crate::page::Page;
 use std::alloc::Global;
 use tcd_base::{NoMemory, Range};
 
-// Returns the place of the page with this number in the list of a memory's pages: at `near`, or by
-// binary search.
+// Returns the index of the page with this number in a list of pages, or `None`. The index `near` is
+// tried first, then a binary search.
 pub(crate) fn find_page_near(pages: &[Page], number: u32, near: usize) -> Option<usize>
     requires { IsStrictlyIncreasing (map page_number_of pages.now) }
     ensures within { IfSome result (λ i. i < length pages.now) }
@@ -22,8 +22,8 @@ pub(crate) fn find_page_near(pages: &[Page], number: u32, near: usize) -> Option
     binary_search_page(pages, number)
 }
 
-/// Returns the place of the page with this number in the list of a memory's pages, or `None`.
-/// `near` is a hint for pages away from both ends.
+/// Returns the index of the page with this number in a list of pages, or `None`. An index that the
+/// number suggests is tried first, or else `near`.
 pub(crate) fn find_page(pages: &[Page], number: u32, near: usize) -> Option<usize>
     requires { IsStrictlyIncreasing (map page_number_of pages.now) }
     ensures within { IfSome result (λ i. i < length pages.now) }
@@ -48,8 +48,7 @@ pub(crate) fn page_numbers(alloc: Global, ranges: &[Range]) -> Result<Vec<u32>, 
     Ok(numbers)
 }
 
-// Returns the place of the page with this number in the list of a memory's pages, by binary search,
-// or `None`.
+// Returns the index of the page with this number in a list of pages, or `None`.
 fn binary_search_page(pages: &[Page], number: u32) -> Option<usize>
     requires { IsStrictlyIncreasing (map page_number_of pages.now) }
     ensures within { IfSome result (λ i. i < length pages.now) }
@@ -73,8 +72,8 @@ fn binary_search_page(pages: &[Page], number: u32) -> Option<usize>
     None
 }
 
-// Returns a place at which the page with this number may be: its distance from the first page, or
-// from the last one if it is there, else `near`. A guess that saves the search.
+// Returns an index at which the page with this number may be, by its distance from the first or
+// last page, or else `near`. The answer may be wrong, and only saves a search.
 fn likely_page_index(pages: &[Page], number: u32, near: usize) -> usize {
     let count = pages.len();
     if count == 0 {

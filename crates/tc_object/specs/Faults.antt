@@ -7,7 +7,7 @@ use Rattle.tc_object.specs.Grammar.{is_reloc_section_ordered}
 use Rattle.tc_object.specs.declared.errors.ObjErr.{ObjErr}
 use Rattle.tc_object.specs.declared.errors.ObjErr.TheVariants.{Bad, NoMemory}
 
--- if the test fails, the fault of this kind at this offset, else the next one
+-- if the field isn't good, its fault of this kind and byte offset, else the next fields' fault
 abbrev pub object_field_fault : Bool → ℕ → ℕ → Option FormErr → Option FormErr
 object_field_fault good kind at next = if good then next else Some (record { kind = kind; at = at })
 

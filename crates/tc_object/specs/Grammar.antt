@@ -9,7 +9,7 @@ use Rattle.tc_object.specs.Names.{is_name_length, is_object_name}
 use Rattle.tc_object.specs.Objects.{SectionData, SymbolData, ObjectData, is_section_name, is_symbol_name, section_size_at, is_valid_symbol_section, is_valid_symbol_offset, last_reloc, is_after_last_reloc}
 
 -- ---- fields
--- the value if the test holds, else the fault of this kind at this place
+-- what was read, and the place after, if the test holds; else the fault of this kind at this place
 abbrev pub checked_object_field : {A : Type 0} → ℕ → Bool → Place → A × Place → Result (A × Place) FormErr
 checked_object_field kind good p x = if good then Ok x else field_fault_at kind p
 
@@ -18,7 +18,7 @@ checked_object_field kind good p x = if good then Ok x else field_fault_at kind 
 unfoldable pub name_length_at : Place → Result (ℕ × Place) FormErr
 name_length_at p = u8_at p >>= λ n. checked_object_field 4 (is_name_length n.0) p n
 
--- the field of an object file with the bytes of a name of this length
+-- the bytes of a name of this length, read at this place of an object file
 unfoldable pub name_bytes_at : ℕ → Place → Result (List ℕ × Place) FormErr
 name_bytes_at n p = field_bytes_at n p >>= λ name. checked_object_field 4 (is_object_name name.0) p name
 
@@ -34,7 +34,7 @@ unfoldable pub section_with_new_name : (List ℕ → Bool) → Place → Result 
 section_with_new_name is_used p =
     new_object_name_at is_used p >>= λ name. u32_at name.1 >>= λ len. field_bytes_at len.0 len.1 >>= λ bytes. Ok (record { name = name.0; bytes = bytes.0 }, bytes.1)
 
--- a section read at this place of an object file, with a name that none of these sections has
+-- the next section of an object file, read at this place; its name is none of the earlier ones
 unfoldable pub new_section_at : List SectionData → Place → Result (SectionData × Place) FormErr
 new_section_at before p = section_with_new_name (is_section_name before) p
 
@@ -43,26 +43,26 @@ new_section_at before p = section_with_new_name (is_section_name before) p
 unfoldable pub kind_at : ℕ → ℕ → Place → Result (ℕ × Place) FormErr
 kind_at low high p = u8_at p >>= λ k. checked_object_field 4 (nat_le low k.0 && nat_le k.0 high) p k
 
--- a symbol's section: 0 if it is undefined, else the number of a section of the object
+-- a symbol's section, read at this place: 0 if undefined, else a number of the object's sections
 unfoldable pub symbol_section_at : List SectionData → ℕ → Place → Result (ℕ × Place) FormErr
 symbol_section_at sections kind p = u16_at p >>= λ s. checked_object_field 4 (is_valid_symbol_section sections kind s.0) p s
 
--- a symbol's offset: 0 if it is undefined, else within its section or at its end
+-- a symbol's offset, read at this place: 0 if undefined, else within its section or at its end
 unfoldable pub symbol_offset_at : List SectionData → ℕ → ℕ → Place → Result (ℕ × Place) FormErr
 symbol_offset_at sections kind section p = u32_at p >>= λ o. checked_object_field 4 (is_valid_symbol_offset sections kind section o.0) p o
 
--- a symbol of this name: its kind, section and offset
+-- what follows a symbol's name in an object file: its kind, section and offset
 unfoldable pub symbol_after_name : List SectionData → List ℕ → Place → Result (SymbolData × Place) FormErr
 symbol_after_name sections name p =
     kind_at 0 2 p >>= λ kind. symbol_section_at sections kind.0 kind.1 >>= λ section.
     symbol_offset_at sections kind.0 section.0 section.1 >>= λ offset.
     Ok (record { name = name; kind = kind.0; section = section.0; offset = offset.0 }, offset.1)
 
--- a symbol with a name that isn't used yet
+-- a symbol read at this place of an object file, with a name that isn't used yet
 unfoldable pub symbol_with_new_name : List SectionData → (List ℕ → Bool) → Place → Result (SymbolData × Place) FormErr
 symbol_with_new_name sections is_used p = new_object_name_at is_used p >>= λ name. symbol_after_name sections name.0 name.1
 
--- a symbol after these, with a name that none of them has
+-- the next symbol of an object file, read at this place; its name is none of the earlier ones
 unfoldable pub new_symbol_at : List SectionData → List SymbolData → Place → Result (SymbolData × Place) FormErr
 new_symbol_at sections before p = symbol_with_new_name sections (is_symbol_name before) p
 
@@ -73,12 +73,13 @@ is_reloc_section_ordered None section = true
 is_reloc_section_ordered (Some r) section = nat_le r.section section
 
 -- ---- relocations
--- a section below that of the last relocation is out of order, whatever the offset
+-- a relocation's section, read at this place; one below that of the last relocation is out of
+-- order, whatever the offset
 unfoldable pub reloc_section_at : List SectionData → List Reloc → Place → Result (ℕ × Place) FormErr
 reloc_section_at sections before p =
     u16_at p >>= λ s. checked_object_field 3 (is_reloc_section_ordered (last_reloc before) s.0) p s >>= λ s. checked_object_field 4 (nat_lt s.0 (length sections)) p s
 
--- an offset in a section; the fault of a wrong order is at start, the relocation's section field
+-- a relocation's offset; the fault of a wrong order is at start, the place of its section field
 unfoldable pub reloc_offset_at : List SectionData → List Reloc → ℕ → Place → Place → Result (ℕ × Place) FormErr
 reloc_offset_at sections before section start p =
     u32_at p >>= λ o. checked_object_field 3 (is_after_last_reloc (last_reloc before) section o.0) start o >>= λ o. checked_object_field 4 (nat_le (o.0 + 4) (section_size_at sections section)) p o
@@ -87,7 +88,7 @@ reloc_offset_at sections before section start p =
 unfoldable pub reloc_symbol_at : ℕ → Place → Result (ℕ × Place) FormErr
 reloc_symbol_at symbols p = u16_at p >>= λ s. checked_object_field 4 (nat_lt s.0 symbols) p s
 
--- a relocation after these: section, offset, kind, symbol and addend
+-- the relocation after these, read at this place: section, offset, kind, symbol and addend
 unfoldable pub next_reloc_at : List SectionData → ℕ → List Reloc → Place → Result (Reloc × Place) FormErr
 next_reloc_at sections symbols before p =
     reloc_section_at sections before p >>= λ section. reloc_offset_at sections before section.0 p section.1 >>= λ offset. kind_at 1 7 offset.1 >>= λ kind.

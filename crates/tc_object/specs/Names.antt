@@ -4,7 +4,7 @@ use Rattle.std.specs.List.{list_all}
 use Rattle.std.specs.Bool.{then_some}
 use Rattle.tcd_base.specs.NameBytes.{is_name_byte, is_name_start}
 
--- the bytes may stand in a name, and the first is no digit
+-- the bytes are one at least, all may stand in a name, and the first is no digit
 abbrev pub is_object_name : List ℕ → Bool
 is_object_name bs = not (length bs == 0) && (is_name_start (slice_index bs 0) && list_all is_name_byte bs)
 

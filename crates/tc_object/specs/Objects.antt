@@ -43,8 +43,7 @@ is_section_name ss name = list_any (λ s. bytes_eq name s.name) ss
 abbrev pub is_symbol_name : List SymbolData → List ℕ → Bool
 is_symbol_name ss name = list_any (λ s. bytes_eq name s.name) ss
 
--- each item has the property, given the items before it: how an object's sections, symbols and
--- relocations are valid
+-- each item has the property, which may depend on the items before that one
 abbrev pub AllInTurn : {A : Type 0} → (List A → A → Type 0) → List A → List A → Type 0
 AllInTurn good before [] = Unit {0}
 AllInTurn good before (x ∷ xs) = good before x × AllInTurn good (before ++ x ∷ []) xs

@@ -11,7 +11,7 @@ pub(crate) const MAGIC: u32 = 0x314f_4354;
 /// The most sections of an object.
 pub(crate) const MOST_SECTIONS: u16 = 64;
 
-/// Reads a single field: the magic bytes 54 43 4F 31 ("TCO1") of an object file.
+/// Reads the magic bytes 54 43 4F 31 ("TCO1") with which an object file begins.
 #[tactic(auto, unfolding(crate::specs::Grammar::magic_at))]
 pub(crate) fn read_magic(c: &mut FileCursor<'_>) -> Result<u32, FormErr>
     ensures { ReadsField result c.old c.new magic_at }

@@ -9,7 +9,7 @@ use tcd_base::{
     BAD_VALUE, FileCursor, FormErr, are_name_bytes, form_err_at, is_name_start, read_bytes, read_u8,
 };
 
-/// The bytes as a name: 1 to 64 letters, digits, `_`, `.` and `$`, of which the first is no digit.
+/// The bytes as a name, 1 to 64 letters, digits, `_`, `.` and `$`, no digit first; or `None`.
 pub fn object_name_of(bytes: &[u8]) -> Option<&str>
     ensures { option_copied result ≡ object_name_of bytes.now }
 {
@@ -34,7 +34,7 @@ pub(crate) fn read_name_length(c: &mut FileCursor<'_>) -> Result<u8, FormErr>
     }
 }
 
-/// Reads the bytes of a name of this length.
+/// Reads the bytes of a name of an object file, which has this length.
 #[tactic(auto, unfolding(crate::specs::Grammar::name_bytes_at))]
 pub(crate) fn read_name_bytes<'a>(c: &mut FileCursor<'a>, count: u8) -> Result<&'a str, FormErr>
     ensures read { MatchResult result (λ name. name_bytes_at count c.old ≡ Ok (name.now, c.new))
@@ -49,14 +49,14 @@ pub(crate) fn read_name_bytes<'a>(c: &mut FileCursor<'a>, count: u8) -> Result<&
     Ok(object_name_text(bytes))
 }
 
-/// Whether these bytes are the name of a section or symbol, apart from the bound on their number.
+/// Whether the bytes spell a name of a section or symbol, whatever their number, but not none.
 fn is_object_name(bytes: &[u8]) -> bool
     ensures { result ≡ is_object_name bytes.now }
 {
     !bytes.is_empty() && is_name_start(bytes[0]) && are_name_bytes(bytes)
 }
 
-// The bytes of a name are ASCII, so they are a text.
+// The bytes of a name as a text. They are ASCII, so this can't fail.
 fn object_name_text(bytes: &[u8]) -> &str
     requires { is_object_name bytes.now ≡ true }
     ensures { result.now ≡ bytes.now }

@@ -19,7 +19,7 @@ pub(crate) struct Parts<'a> {
     pub(crate) relocs: Vec<Reloc>,
 }
 
-/// The parts of the object that the bytes spell, or their first fault.
+/// The sections, symbols and relocations that the bytes spell, or their first fault.
 #[tactic(auto, unfolding(crate::specs::Grammar::object_of, crate::specs::Grammar::object_at, crate::specs::Grammar::object_contents_at))]
 pub(crate) fn read_object_file(alloc: Global, bytes: &[u8]) -> Result<Parts<'_>, ObjErr>
     requires { length bytes.now ≤ 2 ^ 30 }

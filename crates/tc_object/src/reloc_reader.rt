@@ -21,8 +21,8 @@ const LAST_KIND: u8 = 7;
 // The size of a relocation in the file.
 const RELOC_BYTES: usize = 13;
 
-/// Reads `count` relocations of an object file, each after the ones before it, or returns the first
-/// fault.
+/// Reads `count` relocations of an object file, in ascending order of section and offset, or
+/// returns the first fault. `symbols` is the number of symbols.
 #[inline(never)]
 pub(crate) fn read_relocs(
     alloc: Global,
@@ -45,7 +45,7 @@ pub(crate) fn read_relocs(
     Ok(relocs)
 }
 
-/// Reads the relocation after these from its 13 bytes at once, if the file holds all of them.
+/// Reads the relocation after those in `before`, from its 13 bytes at once if all are there.
 fn read_reloc(
     c: &mut FileCursor<'_>,
     sections: &[SectionRef<'_>],
@@ -63,8 +63,8 @@ fn read_reloc(
     Ok(reloc)
 }
 
-/// Reads the relocation after these field by field. `read_reloc` calls it if the file ends within
-/// the relocation, so that the fault is at the first field that is cut off.
+/// Reads a relocation that comes after those in `before`, field by field. If the file ends within
+/// the relocation, the fault is at the first field that is cut off.
 #[inline(never)]
 #[tactic(auto, unfolding(crate::specs::Grammar::next_reloc_at))]
 fn read_reloc_fields(
@@ -110,7 +110,7 @@ fn reloc_in_bytes(bytes: &[u8]) -> Reloc
     }
 }
 
-// The first fault of the relocation after these, whose bytes begin at the byte offset `start`.
+// The first fault of a relocation after those in `before`. Its bytes begin at offset `start`.
 #[tactic(auto, unfolding(crate::specs::Faults::reloc_fault))]
 fn check_reloc(
     sections: &[SectionRef<'_>],
@@ -145,8 +145,8 @@ fn check_reloc(
     Ok(())
 }
 
-/// Reads the section number of the relocation after these: a section of the object, not below that
-/// of the last relocation.
+/// Reads the section number of a relocation: a section of the object, not below that of the last
+/// relocation in `before`.
 #[tactic(auto, unfolding(crate::specs::Grammar::reloc_section_at))]
 fn read_reloc_section(
     c: &mut FileCursor<'_>,
@@ -166,8 +166,8 @@ fn read_reloc_section(
     Ok(section)
 }
 
-/// Reads the offset of the relocation after these. The fault of a wrong order is at `section_at`,
-/// the byte offset of the relocation's section field.
+/// Reads the offset of a relocation in its section. A wrong order after `before` is a fault at
+/// `section_at`, the byte offset of the relocation's section field.
 #[tactic(auto, unfolding(crate::specs::Grammar::reloc_offset_at))]
 fn read_reloc_offset(
     c: &mut FileCursor<'_>,
@@ -192,7 +192,7 @@ fn read_reloc_offset(
     Ok(offset)
 }
 
-/// Reads the number of a symbol, which must be below `symbols`.
+/// Reads the symbol of a relocation, a number below `symbols`, the number of symbols.
 #[tactic(auto, unfolding(crate::specs::Grammar::reloc_symbol_at))]
 fn read_reloc_symbol(c: &mut FileCursor<'_>, symbols: u16) -> Result<u16, FormErr>
     ensures { ReadsField result c.old c.new (reloc_symbol_at symbols) }
@@ -205,7 +205,7 @@ fn read_reloc_symbol(c: &mut FileCursor<'_>, symbols: u16) -> Result<u16, FormEr
     Ok(symbol)
 }
 
-// Whether a section isn't below the section of the last relocation.
+// Whether a section number isn't below that of the last of these relocations, if there is one.
 fn is_reloc_section_ordered(before: &[Reloc], section: u16) -> bool
     ensures { result ≡ is_reloc_section_ordered (last_reloc before.now) section }
 {
@@ -215,7 +215,7 @@ fn is_reloc_section_ordered(before: &[Reloc], section: u16) -> bool
     }
 }
 
-// Whether an offset of a section comes after the place of the last relocation.
+// Whether section and offset come after those of the last of these relocations, if any.
 fn is_after_last_reloc(before: &[Reloc], section: u16, offset: u32) -> bool
     ensures { result ≡ is_after_last_reloc (last_reloc before.now) section offset }
 {

@@ -56,7 +56,7 @@ pub(crate) fn section_size_at(sections: &[SectionRef<'_>], number: u16) -> usize
     }
 }
 
-/// Reads the next section of an object file, with a name that none of these sections has.
+/// Reads the next section of an object file, whose name none of the sections in `before` has.
 #[tactic(auto, unfolding(crate::specs::Grammar::new_section_at, crate::specs::Grammar::section_with_new_name))]
 fn read_section<'a>(
     c: &mut FileCursor<'a>,
@@ -70,7 +70,7 @@ fn read_section<'a>(
     Ok(SectionRef { name, bytes })
 }
 
-/// Reads a name that none of these sections has.
+/// Reads the name of a section, which none of the sections in `before` has.
 #[tactic(auto, unfolding(crate::specs::Grammar::new_object_name_at))]
 fn read_section_name<'a>(c: &mut FileCursor<'a>, before: &[SectionRef]) -> Result<&'a str, FormErr>
     ensures read { MatchResult result

@@ -42,7 +42,7 @@ pub(crate) fn read_symbols<'a>(
     Ok(symbols)
 }
 
-/// Reads a symbol whose name isn't used yet.
+/// Reads the next symbol of an object file. Its name isn't in `names` yet, and is added.
 #[tactic(auto, unfolding(crate::specs::Grammar::symbol_with_new_name))]
 fn read_symbol<'a>(
     c: &mut FileCursor<'a>,
@@ -61,7 +61,7 @@ fn read_symbol<'a>(
     Ok(symbol)
 }
 
-/// Reads the kind, section and offset of the symbol of this name from 7 bytes at once, if the file
+/// Reads the kind, section and offset of the symbol of this name, from 7 bytes at once if the file
 /// holds all of them.
 fn read_symbol_after_name<'a>(
     c: &mut FileCursor<'_>,
@@ -80,8 +80,8 @@ fn read_symbol_after_name<'a>(
     Ok(symbol)
 }
 
-/// Reads the symbol of this name field by field. If the file ends within the symbol, the fault is
-/// at the first field that is cut off.
+/// Reads what follows a symbol's name, field by field. If the file ends within the symbol, the
+/// fault is at the first field that is cut off.
 #[inline(never)]
 #[tactic(auto, unfolding(crate::specs::Grammar::symbol_after_name))]
 fn read_symbol_fields<'a>(
@@ -121,7 +121,7 @@ fn symbol_in_bytes<'a>(bytes: &[u8], name: &'a str) -> SymbolRef<'a>
     }
 }
 
-// The first fault of a symbol whose kind is at the byte offset `start`.
+// The first fault of a symbol, if any. Its kind is at the byte offset `start` of the file.
 #[tactic(auto, unfolding(crate::specs::Faults::symbol_fault))]
 fn check_symbol(
     sections: &[SectionRef<'_>],
@@ -144,7 +144,7 @@ fn check_symbol(
     Ok(())
 }
 
-/// Reads the section number of a symbol of this kind.
+/// Reads the section number of a symbol of this kind: 0 for an undefined symbol.
 #[tactic(auto, unfolding(crate::specs::Grammar::symbol_section_at))]
 fn read_symbol_section(
     c: &mut FileCursor<'_>,
@@ -161,7 +161,7 @@ fn read_symbol_section(
     Ok(section)
 }
 
-/// Reads the offset of a symbol of this kind in a section.
+/// Reads the offset of a symbol in its section: 0 for an undefined symbol.
 #[tactic(auto, unfolding(crate::specs::Grammar::symbol_offset_at))]
 fn read_symbol_offset(
     c: &mut FileCursor<'_>,
@@ -179,7 +179,7 @@ fn read_symbol_offset(
     Ok(offset)
 }
 
-// Whether a symbol of this kind may have this section number.
+// Whether a section number is 0 for an undefined symbol, else that of one of these sections.
 fn is_valid_symbol_section(sections: &[SectionRef<'_>], kind: u8, section: u16) -> bool
     ensures { result ≡ is_valid_symbol_section sections.now kind section }
 {
@@ -189,7 +189,7 @@ fn is_valid_symbol_section(sections: &[SectionRef<'_>], kind: u8, section: u16) 
     }
 }
 
-// Whether a symbol of this kind may have this offset in the section.
+// Whether an offset is 0 for an undefined symbol, else in its section or at its end.
 fn is_valid_symbol_offset(sections: &[SectionRef<'_>], kind: u8, section: u16, offset: u32) -> bool
     ensures { result ≡ is_valid_symbol_offset sections.now kind section offset }
 {

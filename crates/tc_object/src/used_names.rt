@@ -11,8 +11,7 @@ use std::alloc::{AllocError, AllocFailed, Global};
 use std::collections::HashMap;
 use tcd_base::{BAD_VALUE, FileCursor, form_err_at};
 
-/// An empty map of the symbol names that an object file has used so far, with room for `count` of
-/// them.
+/// An empty map of symbol names, those that an object file has used so far, with room for `count`.
 pub(crate) fn no_used_names<'a>(
     alloc: Global,
     count: u16,

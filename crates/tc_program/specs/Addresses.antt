@@ -10,7 +10,7 @@ use Rattle.tc_asm.specs.DraftedSources.{symbols_in}
 use Rattle.tc_link.specs.Layouts.{PlaceData, place_of}
 use Rattle.tc_link.specs.PlaceSizes.{next_multiple_of_4, used_place_size}
 
--- the sections of all sources, in the order in which they get addresses after linking
+-- the sections of all sources, in the order in which the linker places them
 abbrev pub program_sections : List (List ℕ) → List SectionData
 program_sections sources = flat_map sections_in sources
 

@@ -13,8 +13,8 @@ use Rattle.tc_link.specs.PlaceSizes.{used_place_size}
 use Rattle.tc_program.specs.Addresses.{program_sections, SectionHasAddress, GlobalHasAddress, NameHasAddress}
 
 -- ---- bytes
--- the number that linking writes into a statement's field for a symbol: the symbol's address plus
--- the addend
+-- the value that linking writes into a statement's field: the address of its symbol plus the
+-- addend, modulo 2^32
 abbrev pub placed_symbol_value : ℕ → ReferenceData → ℕ
 placed_symbol_value address r = (address + assembled_addend r) % 2 ^ 32
 
@@ -50,17 +50,16 @@ pub record IsInPlacedStatement (places : List PlaceData) (sources : List (List �
   pub high : q < base + statement_offset (statements_in source) index statement.section + length statement.bytes
 
 -- ---- images
--- the address of a segment in an image linked from sources, and the number of its bytes
+-- the address of a segment of an image, and the number of its bytes
 pub record SegmentRangeData : Type 0 where
   pub at : ℕ
   pub size : ℕ
 
--- the address of a segment of a placed image, and the number of its bytes
+-- the address of a segment of an image, and the number of its bytes
 abbrev pub segment_range : SegmentData → SegmentRangeData
 segment_range s = record { at = s.at; size = length s.bytes }
 
--- where an image that was linked from sources has a segment: the address of the layout's place, and
--- the number of bytes that the sections of its name use
+-- the address of a layout's place, and the number of bytes that these sections use there
 abbrev pub place_range : List SectionData → PlaceData → SegmentRangeData
 place_range sections p = record { at = p.at; size = used_place_size p.section sections }
 

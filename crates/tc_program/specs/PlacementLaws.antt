@@ -21,8 +21,7 @@ use Rattle.tc_program.specs.Placed.{segment_range, place_range, Placed, placed_s
 use Rattle.tc_asm.specs.InstructionLaws.{InstructionSpellsRow}
 use Rattle.tc_asm.specs.ShortJumpLaws.{short_jump_displacement}
 
--- what the laws of placement ask of objects: there is one for each source, in order, the source
--- breaks no rule, and the object is assembled from it
+-- the objects are those of these sources, one for each in order, and no source breaks a rule
 abbrev pub AreAssembledFrom : List (List ℕ) → List ObjectData → Type 0
 AreAssembledFrom [] [] = Unit {0}
 AreAssembledFrom [] (o ∷ os) = ⊥

@@ -7,7 +7,7 @@ use Rattle.tc_isa.specs.Spelling.{spelling}
 use Rattle.tc_isa.specs.Relocations.{can_relocation_fill}
 use Rattle.tc_reloc.specs.Fields.{reloc_field_bound, with_reloc_field}
 
--- the fields of an instruction with another constant, as a relocation fills it
+-- the fields of an instruction with the constant n, the number that a relocation writes
 abbrev pub with_filled_constant : Fields → ℕ → Fields
 with_filled_constant f n = record f { k = n }
 

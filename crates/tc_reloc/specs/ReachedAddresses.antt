@@ -4,7 +4,7 @@ use Rattle.tc_isa.specs.Relocations.{rel24, abs24, rel15, hi16, lo16, offset16}
 use Rattle.tcd_base.specs.BitFields.{sext_of}
 use Rattle.tc_reloc.specs.Fields.{reloc_field_number}
 
--- the number that a written field of a word holds, with which its instruction reaches an address
+-- the number that the field of a relocation of this kind holds, in the word of its instruction
 unfoldable pub number_in_reloc_field : ℕ → ℕ → ℕ
 number_in_reloc_field kind w =
     if kind == rel24 || kind == abs24 then w / 2 ^ 16 + w / 2 ^ 8 % 2 ^ 8 * 2 ^ 16

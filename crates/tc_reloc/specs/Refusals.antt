@@ -5,8 +5,7 @@ use Rattle.tc_reloc.specs.declared.refusals.RelocErr.{RelocErr}
 use Rattle.tc_reloc.specs.declared.refusals.RelocErr.TheVariants.{Odd, FarOff, Segment}
 use Rattle.tc_reloc.specs.Fields.{reloc_distance}
 
--- a relocation's distance is in reach: half of it, as a signed word, is a signed number of this
--- many bits
+-- a distance in bytes is in reach: its half, as a signed word, is a signed number of this many bits
 abbrev pub is_reloc_in_reach : ℕ → ℕ → Bool
 is_reloc_in_reach bits d = nat_lt d (2 ^ bits) || nat_le (2 ^ 32 - 2 ^ bits) d
 

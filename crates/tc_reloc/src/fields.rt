@@ -4,8 +4,8 @@ ghost use Rattle.tc_reloc.specs.Fields.{reloc_field_number, bits_outside_reloc_f
 
 use tc_isa::{ABS24, HI16, LO16, OFFSET16, REL15, REL24};
 
-/// The number that a relocation of this kind, at address `place`, writes into its field for
-/// `value`.
+/// The number that a relocation of this kind, with its field at address `place`, writes into the
+/// field for `value`.
 #[tactic(auto, unfolding(crate::specs::Fields::reloc_field_number))]
 pub(crate) fn reloc_field_number(kind: u8, place: u32, value: u32) -> u32
     ensures { result ≡ reloc_field_number kind place value }
@@ -34,7 +34,7 @@ pub(crate) fn bits_outside_reloc_field(kind: u8, word: u32) -> u32
     }
 }
 
-/// The word with this number in the field that a relocation of this kind fills, and zeros
+/// The word with the number `content` in the field of a relocation of this kind, and zeros
 /// elsewhere.
 #[tactic(auto, unfolding(crate::specs::Fields::reloc_field_bits, crate::specs::Fields::reloc_field_bound))]
 pub(crate) fn reloc_field_bits(kind: u8, content: u32) -> u32

@@ -34,7 +34,7 @@ pub(crate) fn reloc_value_refusal(kind: u8, place: u32, value: u32) -> Option<Re
     }
 }
 
-// Whether half of a distance is a signed number of `bits` bits.
+// Whether a distance in bytes, halved, is a signed number of `bits` bits.
 fn is_reloc_in_reach(bits: u8, distance: u32) -> bool
     requires { bits ≤ 31 }
     ensures { result ≡ is_reloc_in_reach bits distance }

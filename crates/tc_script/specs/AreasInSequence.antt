@@ -14,7 +14,7 @@ use Rattle.tc_script.specs.declared.area_counts.AreasUsed.{AreasUsed}
 use Rattle.tc_script.specs.declared.area_counts.Effect.{Effect}
 use Rattle.tc_script.specs.declared.area_counts.Effect.TheVariants.{Stays, Saves, Restores, Unknown}
 
--- the links of n consecutive areas, of which this is the first one; the last area's link is first
+-- the links of n consecutive areas from link `first` on, in descending order, as a chain has them
 abbrev pub links_in_sequence : ℕ → ℕ → List ℕ
 links_in_sequence first zero = []
 links_in_sequence first (suc n) = (first + n) ∷ links_in_sequence first n
@@ -59,15 +59,15 @@ pub record KeepsMemoryAndPcxi (m after : Machine) : Type 0 where
   pub mem : after.mem ≡ m.mem
   pub pcxi : after.pcxi ≡ m.pcxi
 
--- what an effect says of the areas in use after an event, by the count of those before it, which
--- can say that they are consecutive
+-- what an effect says of the areas in use after an event is true: as u counts them before, one
+-- more, one less, or nothing
 abbrev pub AreaEffectHolds : Effect → AreasUsed → Machine → Type 0
 AreaEffectHolds Stays u after = IsAreaCountOf u after
 AreaEffectHolds Saves u after = (u.count < 4096) × IsAreaCountOf (record u { count = u.count + 1 }) after
 AreaEffectHolds Restores u after = (1 ≤ u.count) × IsAreaCountOf (record u { count = u.count - 1 }) after
 AreaEffectHolds Unknown u after = Unit {0}
 
--- what this effect says of the areas in use, which can be consecutive, is true after an instruction
--- if that leaves the machine running
+-- the effect is true of the areas in use after an instruction of this shape, if the machine then
+-- runs
 abbrev pub IsAreaEffectOf : Effect → AreasUsed → Machine → Event → Shape → Type 0
 IsAreaEffectOf effect u m e shape = (n : ℕ) → (does m e shape n).end ≡ Running → AreaEffectHolds effect u (does m e shape n)

@@ -17,7 +17,6 @@ IsDecodedShapeOf found bytes = (found ≡ fetched_shape (decoded_of bytes)) × I
 abbrev pub IsKnownWord : KnownWord → Type 0
 IsKnownWord k = IfSome k.word (λ w. IsDecodedShapeOf k.found (bytes_of_word w))
 
--- the cache of decoded words has at this place what these bytes do, whatever is read after the
--- table's end
+-- entry `place` of the cache of decoded words says what these bytes do
 abbrev pub HasDecodedShapeAt : List KnownWord → ℕ → List ℕ → Type 0
 HasDecodedShapeAt words place bytes = (behind : KnownWord) → IsDecodedShapeOf (slice_index_or words place behind).found bytes

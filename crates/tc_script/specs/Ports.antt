@@ -4,7 +4,7 @@ use Rattle.tcd_plan.specs.declared.plans.Device.{Device}
 use Rattle.tcd_base.specs.Ranges.{IsWithinRange, is_within_range}
 use Rattle.tc_script.specs.declared.scripts.AnswerRange.{AnswerRange}
 
--- the peripherals, and the closure
+-- ports: the peripherals of a plan, and the closure that answers for them
 pub record PortsData (F : Type 0) : Type 0 where
   pub devices : List Device
   pub answer : F
@@ -13,7 +13,7 @@ pub record PortsData (F : Type 0) : Type 0 where
 abbrev pub ArePortsAskable : (ℕ → ℕ → Type 0) → List Device → Type 0
 ArePortsAskable can devices = All (λ d. (addr t : ℕ) → IsWithinRange addr 1 d.range → t < 2 ^ 32 → can addr t) devices
 
--- each word that it answers for an address of a peripheral is within that peripheral's bounds
+-- each word that the closure answers for an address of a peripheral is within the latter's bounds
 abbrev pub ArePortsBounded : (ℕ → ℕ → ℕ → Type 0) → List Device → Type 0
 ArePortsBounded gives devices =
     All (λ d. (addr t w : ℕ) → IsWithinRange addr 1 d.range → t < 2 ^ 32 → w < 2 ^ 32 → gives addr t w → (d.lo ≤ w) × (w ≤ d.hi)) devices

@@ -3,7 +3,7 @@ use Rattle.std.specs.Prelude.{◌≤◌, List, length, All}
 use Rattle.tc_script.specs.declared.scripts.Turn.{Turn}
 use Rattle.tc_script.specs.declared.scripts.AnswerRange.{AnswerRange}
 
--- its turns, and for each peripheral the bounds of its answers
+-- a turn script: its turns, and for each peripheral the bounds of its answers
 pub record ScriptData : Type 0 where
   pub turns : List Turn
   pub bounds : List AnswerRange

@@ -50,7 +50,7 @@ script_draft_after_parsed_line plan line (Some said) d = script_draft_after_stat
 abbrev pub script_draft_after_line : PlanData → ℕ → List ℕ → Draft → Result Draft ScriptErr
 script_draft_after_line plan number line d = script_draft_after_parsed_line plan number (script_statement_of (line_words line)) d
 
--- what is read next of a script, if no line was refused
+-- the result of reading on with the draft of a script, or the error of an earlier line
 abbrev pub draft_and_then : Result Draft ScriptErr → (Draft → Result Draft ScriptErr) → Result Draft ScriptErr
 draft_and_then (Ok d) next = next d
 draft_and_then (Err e) next = Err e
@@ -69,7 +69,7 @@ script_of_draft (Err e) = Err e
 abbrev pub script_of : PlanData → List ℕ → Result ScriptData ScriptErr
 script_of plan bytes = script_of_draft (script_draft_after_lines plan 1 (text_lines bytes) (initial_script_draft plan))
 
--- a refusal; out of memory is always possible
+-- the error of reading a script is the right one; out of memory is always possible
 abbrev pub IsAllowedScriptErr : {A : Type 0} → ScriptErr → Result A ScriptErr → Type 0
 IsAllowedScriptErr (BadLine n) answer = answer ≡ Err (BadLine n)
 IsAllowedScriptErr (NoSource n) answer = answer ≡ Err (NoSource n)
@@ -77,12 +77,12 @@ IsAllowedScriptErr (OutOfRange n) answer = answer ≡ Err (OutOfRange n)
 IsAllowedScriptErr (TooMany n) answer = answer ≡ Err (TooMany n)
 IsAllowedScriptErr NoMemory answer = Unit {0}
 
--- the draft of a script that is changed in place, or a refusal of the script
+-- the script's draft, changed in place, or the error is right; out of memory is always possible
 abbrev pub GivesScriptDraft : Result Unit ScriptErr → Draft → Result Draft ScriptErr → Type 0
 GivesScriptDraft (Ok done) new answer = answer ≡ Ok new
 GivesScriptDraft (Err e) new answer = IsAllowedScriptErr e answer
 
--- a script, or a refusal
+-- the script or the error is right; out of memory is always possible
 abbrev pub GivesScript : Result ScriptData ScriptErr → Result ScriptData ScriptErr → Type 0
 GivesScript (Ok script) answer = answer ≡ Ok script
 GivesScript (Err e) answer = IsAllowedScriptErr e answer

@@ -15,7 +15,7 @@ statement_of_one_word word = None
 abbrev pub statement_if : Bool → Statement → Option Statement
 statement_if test s = if test then Some s else None
 
--- `step N`, N from 1 to 100,000; `irq P`, P at most 255; `aln 0` and `aln 1`
+-- one number: `step N`, N from 1 to 100,000; `irq P`, P at most 255; `aln 0` and `aln 1`
 abbrev pub statement_of_one_number : List ℕ → ℕ → Option Statement
 statement_of_one_number verb n =
     if bytes_eq verb (codes "step") then statement_if (nat_le 1 n && nat_le n 100000) (Step n)
@@ -23,11 +23,11 @@ statement_of_one_number verb n =
     else if bytes_eq verb (codes "aln") then statement_if (nat_le n 1) (Aln (n == 1))
     else None
 
--- `in DEVICE LO HI`, with LO at most HI
+-- three numbers: `in DEVICE LO HI`, with LO at most HI
 abbrev pub statement_of_three_numbers : List ℕ → ℕ → ℕ → ℕ → Option Statement
 statement_of_three_numbers verb device lo hi = if bytes_eq verb (codes "in") then statement_if (nat_le lo hi) (In device lo hi) else None
 
--- the statement of these words
+-- the statement that the words of a script's line say, or None if the line has another form
 unfoldable pub script_statement_of : List (List ℕ) → Option Statement
 script_statement_of (word ∷ []) = statement_of_one_word word
 script_statement_of (verb ∷ x ∷ []) = option_and_then (statement_of_one_number verb) (script_number x)
@@ -35,7 +35,7 @@ script_statement_of (verb ∷ x ∷ y ∷ z ∷ []) =
     option_and_then (λ device. option_and_then (λ lo. option_and_then (statement_of_three_numbers verb device lo) (script_number z)) (script_number y)) (script_number x)
 script_statement_of words = None
 
--- bounds are in order
+-- the bounds of a statement `in` are in order; other statements have no bounds
 abbrev pub HasOrderedBounds : Statement → Type 0
 HasOrderedBounds (In device lo hi) = lo ≤ hi
 HasOrderedBounds said = Unit {0}

@@ -31,8 +31,8 @@ pub(crate) enum Effect {
     Unknown,
 }
 
-/// Counts the save areas in use by a walk along their chain. They are known to be consecutive only
-/// if there are none.
+/// Returns how many save areas are in use, by a walk along their chain, or 0 if there is no chain.
+/// They are known to be consecutive only if there are none.
 pub(crate) fn count_areas_in_use(m: &Machine) -> AreasUsed
     ensures { IsAreaCountOf result m.now }
 {
@@ -44,8 +44,8 @@ pub(crate) fn count_areas_in_use(m: &Machine) -> AreasUsed
     }
 }
 
-/// Returns the effect of an event on the save areas in use: more is known if they are consecutive.
-/// The machine runs before and after the event.
+/// Returns the effect of an event on the save areas in use, if known. The machine runs before and
+/// after the event; `found` is what the bytes at pc do.
 pub(crate) fn area_effect_of_event(
     m: &Machine,
     event: &Event,
@@ -100,8 +100,8 @@ fn is_event_interrupt_taken(m: &Machine, event: &Event) -> bool
     m.ie && m.ccpn < event.irq
 }
 
-/// Returns the effect of a save on the count of the areas in use, kept from event to event: one
-/// more, if the first free area is the next one after those in use.
+/// Returns the effect of a save on areas in use that are consecutive: one more, if the first free
+/// area is next, else unknown.
 fn area_effect_of_save(m: &Machine, used: AreasUsed) -> Effect
     requires counted { IsAreaCountOf used m.now }
     requires row { used.in_row ≡ true }
@@ -120,8 +120,8 @@ fn area_effect_of_save(m: &Machine, used: AreasUsed) -> Effect
     Effect::Saves
 }
 
-/// Returns how an instruction changes the script's count of areas in use, if they are consecutive.
-/// The machine runs after it.
+/// Returns the effect of an instruction on the areas in use, which are consecutive, if the machine
+/// still runs afterwards.
 fn area_effect_of_instruction(m: &Machine, event: &Event, shape: Shape, used: AreasUsed) -> Effect
     requires counted { IsAreaCountOf used m.now }
     requires row { used.in_row ≡ true }
@@ -161,8 +161,8 @@ fn area_effect_of_instruction(m: &Machine, event: &Event, shape: Shape, used: Ar
     }
 }
 
-/// Returns the effect of a load on the count of the areas in use, kept from event to event: none,
-/// if it doesn't trap.
+/// Returns the effect of a load on the areas in use, which are consecutive: none, or that of a save
+/// if the load traps.
 fn area_effect_of_load(m: &Machine, event: &Event, used: AreasUsed, addr: u32, size: u8) -> Effect
     requires counted { IsAreaCountOf used m.now }
     requires row { used.in_row ≡ true }
@@ -203,8 +203,8 @@ fn area_effect_of_store_or_trap(
     }
 }
 
-/// Returns how an instruction that accesses no memory except that of an area changes the script's
-/// count of areas. The machine runs after it.
+/// Returns the effect of a call, a return, or another save or restore of a context on consecutive
+/// areas in use; unknown for other instructions.
 fn area_effect_of_context_op(m: &Machine, event: &Event, shape: Shape, used: AreasUsed) -> Effect
     requires counted { IsAreaCountOf used m.now }
     requires row { used.in_row ≡ true }
@@ -222,8 +222,8 @@ fn area_effect_of_context_op(m: &Machine, event: &Event, shape: Shape, used: Are
     }
 }
 
-/// Returns the effect on the areas in use of a store that doesn't trap: none, only if the store
-/// misses all of them, or unknown.
+/// Returns the effect on the areas in use of a store that doesn't trap: none if the store surely
+/// misses all of them, else unknown.
 fn area_effect_of_store(m: &Machine, used: AreasUsed, addr: u32, size: u8) -> Effect
     requires counted { IsAreaCountOf used m.now }
     requires row { used.in_row ≡ true }
@@ -250,8 +250,8 @@ fn area_effect_of_store(m: &Machine, used: AreasUsed, addr: u32, size: u8) -> Ef
     Effect::Unknown
 }
 
-/// Returns the effect of a restore on the script's count of areas in use: one less, or unknown if
-/// there are none.
+/// Returns the effect of a restore on the areas in use, which are consecutive: one less, or unknown
+/// if there are none.
 fn area_effect_of_restore(m: &Machine, used: AreasUsed) -> Effect
     requires counted { IsAreaCountOf used m.now }
     requires row { used.in_row ≡ true }

@@ -21,8 +21,8 @@ pub(crate) struct KnownWords {
     pub words: [KnownWord; 1024],
 }
 
-/// Returns the place of a word in the cache of known words that a script's run keeps: the highest
-/// ten of the 32 bits of its product with 2^32 divided by the golden ratio.
+/// Returns the index of a word in the cache of decoded words. The index is the highest ten of the
+/// 32 bits of the word's product with 2^32 divided by the golden ratio.
 fn known_word_index(word: u32) -> usize
     ensures { result < 1024 }
 {
@@ -50,8 +50,8 @@ impl KnownWords {
         }
     }
 
-    /// Returns the place in the cache of decoded words that holds what the bytes at pc do, after
-    /// decoding them if no place does yet.
+    /// Returns the index of an entry of the cache of decoded words that says what the bytes at pc
+    /// do. They are decoded if no entry does yet.
     pub(crate) fn find_or_decode_at_pc(&mut self, m: &Machine) -> usize
         requires { All IsKnownWord self.old.words }
         ensures place { result < 1024 }
@@ -71,8 +71,8 @@ impl KnownWords {
         place
     }
 
-    /// Decodes the bytes at pc into a place of the cache, as what this word does, or as an entry
-    /// that names no word.
+    /// Decodes the bytes at pc into entry `place` of the cache. The entry is for `word`, which
+    /// these bytes are; with None it names no word.
     #[inline(never)]
     fn decode_into(&mut self, m: &Machine, place: usize, word: Option<u32>)
         requires place { place < 1024 }

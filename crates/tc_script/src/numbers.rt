@@ -5,8 +5,8 @@ ghost use Rattle.std.specs.List.{list_all};
 ghost use Rattle.std.specs.Str.Parse.{digits_value};
 ghost use Rattle.tc_script.specs.Numbers.{is_decimal, script_number};
 
-/// Returns the number that a script's word spells: decimal, no leading zeros, below 2^32. So does
-/// the word of `gen`.
+/// Returns the number that a token of a script or the argument of `gen` spells, or None: decimal,
+/// no leading zeros, below 2^32.
 #[tactic(auto, unfolding(crate::specs::Numbers::script_number))]
 pub fn script_number(word: &[u8]) -> Option<u32>
     ensures { result ≡ script_number word.now }
@@ -17,7 +17,7 @@ pub fn script_number(word: &[u8]) -> Option<u32>
     u32::try_from(script_digits_value(word)).ok()
 }
 
-/// Returns true if a script's word is decimal digits without leading zeros.
+/// Returns true if a token of a script is decimal digits without leading zeros.
 fn is_decimal(word: &[u8]) -> bool
     ensures value { result ≡ is_decimal word.now }
     ensures digits { IsTrue result → list_all is_ascii_digit word.now ≡ true }
@@ -43,7 +43,7 @@ fn script_digits_value(word: &[u8]) -> u64
     value
 }
 
-/// Returns true if all bytes of a script's word are decimal digits.
+/// Returns true if all bytes of a script's token are decimal digits.
 fn are_all_digits(word: &[u8]) -> bool
     ensures { result ≡ list_all is_ascii_digit word.now }
 {

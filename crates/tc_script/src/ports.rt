@@ -65,7 +65,7 @@ impl<F: Fn(u32, u32) -> u32> Ports<F> {
     }
 }
 
-/// Returns the input of an event: the closure's answer if the load is wholly inside one peripheral
+/// Returns the input of event `t`: the closure's answer if the load is wholly inside one peripheral
 /// range, else 0.
 pub(crate) fn port_input<F: Fn(u32, u32) -> u32>(
     ports: &Ports<F>,
@@ -86,7 +86,7 @@ pub(crate) fn port_input<F: Fn(u32, u32) -> u32>(
     }
 }
 
-/// Returns what a peripheral's port answers at an event, numbered from 0: the words from `lo` to
+/// Returns what a peripheral's port answers at event `at`, numbered from 0: the words from `lo` to
 /// `hi`, in turn and over again.
 pub(crate) fn device_answer(bounds: AnswerRange, at: u32) -> u32
     requires { bounds.lo ≤ bounds.hi }
@@ -96,8 +96,8 @@ pub(crate) fn device_answer(bounds: AnswerRange, at: u32) -> u32
     (u64::from(bounds.lo) + u64::from(at) % count) as u32
 }
 
-/// Returns the answer of the port at an address at an event: that of the peripheral there, by the
-/// script's bounds, or 0 if no peripheral is there.
+/// Returns what the peripheral at address `addr` answers at event `t` by the script's bounds, or 0
+/// if no peripheral is there.
 pub(crate) fn device_answer_at(devices: &[Device], script: &Script, addr: u32, t: u32) -> u32
     requires { length script.now.bounds ≡ length devices.now }
     ensures { result ≡ device_answer_at devices.now script.now.bounds addr t }

@@ -35,7 +35,7 @@ fn initial_script_bounds(devices: &[Device]) -> ArrayVec<AnswerRange, 16>
     bounds
 }
 
-/// Returns true if a line `irq` of a script can be read: its interrupt is one of the plan's.
+/// Returns true if the interrupt of a script's line `irq P` is one of the plan's.
 fn is_plan_irq(plan: &Plan, irq: u8) -> bool
     ensures { result ≡ is_plan_irq plan.now irq }
 {

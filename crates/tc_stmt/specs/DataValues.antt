@@ -9,7 +9,7 @@ use Rattle.tc_stmt.specs.Names.{symbol_rule}
 use Rattle.tc_stmt.specs.OperandForms.{shape_index, is_symbol_operand, is_half_operand, operand_number_modulo, is_number_operand, is_huge_operand}
 use Rattle.tc_stmt.specs.Items.{ItemData, bytes, zeros}
 
--- a number of `.byte`, `.half` or `.word` fits this many bits, signed or unsigned
+-- the number `size`, negative if `minus`, fits this many bits, signed or unsigned
 abbrev pub is_value_within_width : ℕ → Bool → ℕ → Bool
 is_value_within_width bits minus size = if minus then nat_le size (2 ^ bits / 2) else nat_lt size (2 ^ bits)
 

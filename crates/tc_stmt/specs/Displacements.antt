@@ -9,7 +9,8 @@ use Rattle.tc_stmt.specs.declared.want.Field.TheVariants.{K}
 use Rattle.tc_stmt.specs.OperandForms.{operand_number_modulo}
 use Rattle.tc_stmt.specs.RowFields.{RowFieldsData, with_rule, with_value}
 
--- a displacement of this many bytes doesn't fit; SBR (form 13) only reaches forwards
+-- `size` bytes, backwards if `minus`, are too far for a row of this form, whose field has `bound`
+-- values; SBR (form 13) only reaches forwards
 abbrev pub is_far_displacement : Form → ℕ → Bool → ℕ → Bool
 is_far_displacement form bound minus size =
     if is_sbr_form form
@@ -35,6 +36,6 @@ with_displacement r minus size acc =
 unfoldable pub target_operand_relocation : RowData → ℕ
 target_operand_relocation r = if is_32_bit_row r then (if is_b_form r.form then rel24 else rel15) else 0
 
--- the displacement of a jump or call of this form can be negative: in all forms but SBR
+-- a jump or call of this form can have a negative displacement: all forms but SBR
 unfoldable pub can_jump_back : Form → Bool
 can_jump_back form = not (is_sbr_form form)

@@ -27,15 +27,15 @@ unfoldable pub fill_named_register : Bool → Field → List ℕ → RowFieldsDa
 fill_named_register bank field name acc =
     if register_number name / 16 == (if bank then 1 else 0) then with_value field (register_number name % 16) acc else with_rule wrong_register acc
 
--- a number fits the bound of the field that it fills
+-- the number `size`, negative if `minus`, fits a field of `bound` values, signed or not
 unfoldable pub is_within_field_bound : Bool → ℕ → Bool → ℕ → Bool
 is_within_field_bound signed bound minus size =
     if signed
     then (if minus then nat_le size (bound / 2) else nat_lt size (bound / 2))
     else (if minus then size == 0 else nat_lt size bound)
 
--- a row's fields with a number in one of them, whose bound depends on the form; a number that
--- doesn't fit breaks rule 5
+-- a row's fields with the number `size`, negative if `minus`, in one that is signed or not; a
+-- number that doesn't fit breaks rule 5
 unfoldable pub fill_number : Form → Bool → Field → Bool → ℕ → RowFieldsData → RowFieldsData
 fill_number form signed field minus size acc =
     if is_within_field_bound signed (field_of field (field_bounds form)) minus size then with_value field (operand_number_modulo (field_of field (field_bounds form)) minus size) acc else with_rule wide_number acc
@@ -76,7 +76,7 @@ fill_constant r signed field v acc =
     else (if is_half_operand (shape_index v.shape) then (if half_operand_relocation r v.shape == 0 then Some (with_misplaced v acc) else Some (with_symbol (half_operand_relocation r v.shape) v acc))
     else None)))
 
--- A row's fields after `[BASE]` or `[BASE+]`, with an offset if the row has one; None if the
+-- A row's fields after `[BASE]`, or `[BASE+]` if `plus`, with an offset if `offset`; None if the
 -- operand has another form. Source: TriCore 1 Architecture Manual V1.3, volume 1, addressing modes.
 unfoldable pub fill_memory : RowData → Bool → Bool → OperandData → RowFieldsData → Option RowFieldsData
 fill_memory r plus offset o acc =
@@ -114,7 +114,8 @@ fill_absolute r v acc =
     else (if is_half_operand (shape_index v.shape) then Some (with_misplaced v acc)
     else None)))
 
--- a row's fields after a value that names a register; None if the value is no name
+-- a row's fields after a value that names a register, of the data bank (false) or the address bank
+-- (true); None for no name
 unfoldable pub fill_register : Bool → Field → ValueData → RowFieldsData → Option RowFieldsData
 fill_register bank field v acc = if is_name_operand v.shape then Some (fill_named_register bank field v.name acc) else None
 
@@ -147,7 +148,7 @@ fill_operands r [] (o ∷ os) acc = None
 fill_operands r (w ∷ ws) [] acc = None
 fill_operands r (w ∷ ws) (o ∷ os) acc = option_and_then (fill_operands r ws os) (fill r w o acc)
 
--- a row's fields, with rule 12 noted if the row's registers must differ and are equal
+-- a row's fields, with rule 12 noted as broken if the row's registers must differ and are equal
 abbrev pub note_equal_registers : RowData → RowFieldsData → RowFieldsData
 note_equal_registers r f = if are_registers_allowed r f.fields then f else with_rule equal_registers f
 
@@ -156,7 +157,7 @@ note_equal_registers r f = if are_registers_allowed r f.fields then f else with_
 unfoldable pub fields_of_row : RowData → List Want → List OperandData → Option RowFieldsData
 fields_of_row r ws os = option_and_then (λ f. Some (note_equal_registers r f)) (fill_operands r ws os zero_fields)
 
--- the code's answer for operands that fill a row is this: false for None, else the fields in the
--- record
+-- the code's result for operands that fill a row: true and these fields as plain data, or false for
+-- None
 abbrev pub GivesFilledFields : Bool → RowFields → Option RowFieldsData → Type 0
 GivesFilledFields fits f given = (if fits then Some (row_fields_of f) else None) ≡ given

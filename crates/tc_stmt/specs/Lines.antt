@@ -31,7 +31,7 @@ abbrev pub line_after_items : List ItemData → LineData → LineData
 line_after_items is l = line_data l.rule (is ++ l.items)
 
 -- ---- statements
--- the operand of a line `.section NAME` or `.global NAME` is a word
+-- the operand is a name without brackets, as `.section` and `.global` want
 unfoldable pub is_unbracketed_name : OperandData → Bool
 is_unbracketed_name o = if o.is_memory then false else is_name_operand o.value.shape
 
@@ -42,7 +42,7 @@ only_operand_name [] = None
 only_operand_name (o ∷ []) = if is_unbracketed_name o then Some o.value.name else None
 only_operand_name (o ∷ p ∷ os) = None
 
--- `.section NAME` or `.global NAME`; any other operands break rule 3
+-- a line `.section NAME` or `.global NAME`, whose item `make` gives; other operands break rule 3
 unfoldable pub named_line : (List ℕ → ItemData) → List OperandData → LineData
 named_line make os = option_map_or (λ name. line_data no_rule (make name ∷ [])) (only_operand_name os) (line_data wrong_operands [])
 

@@ -28,11 +28,11 @@ is_number_operand s = shape_index s == 1
 abbrev pub is_name_operand : Shape → Bool
 is_name_operand s = shape_index s == 2
 
--- the value is a name plus a number
+-- the form of an operand's value is a name plus or minus a number
 abbrev pub is_sum_operand : Shape → Bool
 is_sum_operand s = shape_index s == 3
 
--- the value is the upper half of an address
+-- the form of an operand's value is the upper half of an address, `hi:`
 abbrev pub is_high_operand : Shape → Bool
 is_high_operand s = shape_index s == 4
 
@@ -49,7 +49,7 @@ register_number name =
     else (if length name == 3 && slice_index name 1 == 49 && nat_le 48 (slice_index name 2) && nat_le (slice_index name 2) 53 then slice_index name 2 - 38
     else 64))
 
--- the value of an operand in the form of a number, with its sign, modulo this bound
+-- an operand's number `size`, negative if `minus`, modulo this bound
 abbrev pub operand_number_modulo : ℕ → Bool → ℕ → ℕ
 operand_number_modulo bound minus size = if minus && not (size == 0) then bound - size else size
 

@@ -6,12 +6,12 @@ use Rattle.tc_stmt.specs.declared.item.Item.{Item}
 use Rattle.tc_stmt.specs.Items.{ItemData, item_of}
 use Rattle.tc_stmt.specs.Lines.{LineData, line_data, items_in, line_after_items}
 
--- the plain data of lines, each with its own items
+-- these lines of a source as plain data, each with as many of these items as it counts
 abbrev pub lines_read : List Line → List ItemData → List LineData
 lines_read [] is = []
 lines_read (l ∷ ls) is = line_data l.rule (take l.count is) ∷ lines_read ls (drop l.count is)
 
--- the plain data of the lines of a source
+-- the lines of a source that was read, as plain data with their items
 abbrev pub source_lines : Source → List LineData
 source_lines s = lines_read s.lines.items (map item_of s.items.items)
 

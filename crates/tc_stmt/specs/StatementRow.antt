@@ -15,7 +15,7 @@ use Rattle.tc_stmt.specs.Filling.{fields_of_row}
 abbrev pub empty_tally : Tally
 empty_tally = record { named = false; fits = false; least = no_rule }
 
--- a row tried for a statement: the row's fields if the statement fits the row, else the tally of
+-- the outcome of one row for a statement: the row's fields if the statement fits, else the tally of
 -- the rows tried
 unfoldable pub row_outcome : List ℕ → List OperandData → RowData → Tally → Result RowFieldsData Tally
 row_outcome name os r t =
@@ -47,7 +47,7 @@ abbrev pub GivesRowOutcome : {U : Type 0} → Result U Tally → RowFields → R
 GivesRowOutcome (Ok u) f r = r ≡ Ok (row_fields_of f)
 GivesRowOutcome (Err t) f r = r ≡ Err t
 
--- the code's answer for a statement is this
+-- the code's result for a statement: the number of its row and the fields, or the broken rule
 abbrev pub GivesStatementOutcome : Result (ℕ × RowFields) ℕ → Result (ℕ × RowFieldsData) ℕ → Type 0
 GivesStatementOutcome (Ok p) r = r ≡ Ok (p.0, row_fields_of p.1)
 GivesStatementOutcome (Err e) r = r ≡ Err e

@@ -115,8 +115,8 @@ pub(crate) fn empty_values_rule(os: &[Operand<'_>]) -> u8
     }
 }
 
-/// Adds the items of these values of `.byte`, `.half` or `.word`, and returns the least rule that
-/// they break.
+/// Adds an item of `width` bytes for each of these values of `.byte`, `.half` or `.word`. Returns
+/// the least rule that they break, or no rule.
 #[tactic(auto, unfolding(crate::specs::DataValues::values_rule))]
 pub(crate) fn add_values<'a>(
     width: u8,
@@ -137,7 +137,7 @@ pub(crate) fn add_values<'a>(
     Ok(rule)
 }
 
-// Whether a number fits `width` bytes, signed or unsigned.
+// Whether the number `size`, negative if `minus`, fits `width` bytes, signed or unsigned.
 fn is_value_within_width(width: u8, minus: bool, size: u128) -> bool
     requires { (width ≡ 1) ⊎ ((width ≡ 2) ⊎ (width ≡ 4)) }
     ensures value { result ≡ is_value_within_width (8 * width) minus size }

@@ -23,8 +23,8 @@ use tc_lex::{Operand, Shape, Value, is_same_text};
 // The number of a name that is no register: above the numbers of all registers.
 const NO_REGISTER: u8 = 64;
 
-/// Returns the row's fields after a target fills them with a displacement of `size` bytes, and the
-/// least rule that is broken then.
+/// Returns the row's fields with a displacement of `size` bytes, backwards if `minus`, in the field
+/// of its target. Otherwise the rule that is broken is noted.
 pub fn with_displacement<'a>(
     row: &Row,
     minus: bool,
@@ -39,8 +39,8 @@ pub fn with_displacement<'a>(
     made
 }
 
-/// Fills the fields of an operand that the row wants here. Returns false if the operand has another
-/// form.
+/// Fills a row's fields with an operand of the kind that the row wants there. Returns false if the
+/// operand has another form.
 #[tactic(auto, unfolding(crate::specs::Filling::fill, crate::specs::Filling::fill_plain))]
 pub(crate) fn fill<'a>(row: &Row, want: Want, o: &Operand<'a>, acc: &mut RowFields<'a>) -> bool
     ensures { GivesFilledFields result acc.new
@@ -62,7 +62,8 @@ pub(crate) fn fill<'a>(row: &Row, want: Want, o: &Operand<'a>, acc: &mut RowFiel
     }
 }
 
-// Fills the fields of all operands. Returns false if their forms aren't those that the row wants.
+// Fills a row's fields with all operands, each of the kind that the row wants. Returns false if
+// their number or a form differs.
 pub(crate) fn fill_operands<'a>(
     row: &Row,
     wants: &[Want],
@@ -83,7 +84,8 @@ pub(crate) fn fill_operands<'a>(
     true
 }
 
-/// Fills the field of a displacement of `size` bytes, or breaks a rule.
+/// Fills the field of a displacement of `size` bytes, backwards if `minus`, or notes the rule that
+/// is broken.
 #[tactic(auto, unfolding(crate::specs::Displacements::with_displacement))]
 fn fill_displacement(row: &Row, minus: bool, size: u128, acc: &mut RowFields<'_>)
     ensures { row_fields_of acc.new
@@ -101,7 +103,7 @@ fn fill_displacement(row: &Row, minus: bool, size: u128, acc: &mut RowFields<'_>
     }
 }
 
-// The least rule that a displacement of `size` bytes breaks, or no rule.
+// The least rule that a displacement of `size` bytes, backwards if `minus`, breaks, or no rule.
 #[tactic(auto, unfolding(crate::specs::Displacements::displacement_rule))]
 fn displacement_rule(row: &Row, minus: bool, size: u128) -> u8
     ensures value { result ≡ displacement_rule (row_of row.now) minus size }
@@ -125,7 +127,7 @@ fn displacement_rule(row: &Row, minus: bool, size: u128) -> u8
     by_far.min(by_odd)
 }
 
-/// An operand's number modulo the bound of its field.
+/// An operand's number `size`, negative if `minus`, modulo the bound of its field.
 fn operand_number_modulo(bound: u32, minus: bool, size: u32) -> u32
     requires { size ≤ bound }
     ensures { result ≡ operand_number_modulo bound minus size }
@@ -148,7 +150,8 @@ fn target_operand_bound(form: Form) -> u32
     field_bounds(form).k
 }
 
-/// Whether a displacement of `size` bytes doesn't fit the form; SBR only reaches forwards.
+/// Whether `size` bytes, backwards if `minus`, are too far for a row of this form, whose field has
+/// `bound` values. SBR only reaches forwards.
 fn is_far_displacement(form: Form, bound: u32, minus: bool, size: u128) -> bool
     requires { 1 ≤ bound }
     ensures value { result ≡ is_far_displacement form bound minus size }
@@ -168,8 +171,8 @@ fn is_far_displacement(form: Form, bound: u32, minus: bool, size: u128) -> bool
     }
 }
 
-/// Fills the fields of `[BASE]` or `[BASE+]`, with an offset if the row has one. Returns false if
-/// the operand has another form.
+/// Fills the fields of `[BASE]`, or of `[BASE+]` if `plus`, with an offset if `offset`. Returns
+/// false if the operand has another form.
 #[tactic(auto, unfolding(crate::specs::Filling::fill_memory))]
 fn fill_memory<'a>(
     row: &Row,
@@ -196,8 +199,8 @@ fn fill_memory<'a>(
     }
 }
 
-/// Fills a field with the register that the operand names. Returns false if the operand has another
-/// form.
+/// Fills a field with the register that an operand names, of the address bank if `bank`, else data.
+/// Returns false if the operand has another form.
 #[tactic(auto, unfolding(crate::specs::Filling::fill_register))]
 fn fill_register(bank: bool, field: Field, v: &Value<'_>, acc: &mut RowFields<'_>) -> bool
     ensures { GivesFilledFields result acc.new
@@ -227,8 +230,8 @@ fn fill_a10(v: &Value<'_>, acc: &mut RowFields<'_>) -> bool
     }
 }
 
-/// Fills a field with an operand's value as a constant, or breaks a rule. Returns false if the
-/// operand has another form.
+/// Fills a field, signed if `signed`, with an operand's constant, or notes the rule that is broken.
+/// Returns false if the operand has another form.
 #[tactic(auto, unfolding(crate::specs::Filling::fill_constant))]
 fn fill_constant<'a>(
     row: &Row,
@@ -318,7 +321,8 @@ fn fill_absolute<'a>(row: &Row, v: &Value<'a>, acc: &mut RowFields<'a>) -> bool
     }
 }
 
-/// Fills a field with the register of this name and bank, or breaks rule 4.
+/// Fills a field with the register of this name, of the address bank if `bank`, else data. Another
+/// name breaks rule 4.
 #[tactic(auto, unfolding(crate::specs::Filling::fill_named_register))]
 fn fill_named_register(bank: bool, field: Field, name: &[u8], acc: &mut RowFields<'_>)
     ensures { row_fields_of acc.new
@@ -363,7 +367,8 @@ fn bank_first_register(c: u8) -> u8
     }
 }
 
-/// Fills a field with an operand's number that fits it, or breaks rule 5.
+/// Fills a field, signed if `signed`, with the number `size`, negative if `minus`. A number that
+/// doesn't fit breaks rule 5.
 #[tactic(auto, unfolding(crate::specs::Filling::fill_number))]
 fn fill_number(
     form: Form,
@@ -409,7 +414,8 @@ fn half_operand_relocation(row: &Row, shape: Shape) -> u8
     }
 }
 
-/// Whether an operand's number fits a field with this bound.
+/// Whether the number `size`, negative if `minus`, fits a field of `bound` values, signed if
+/// `signed`.
 #[tactic(auto, unfolding(crate::specs::Filling::is_within_field_bound))]
 fn is_within_field_bound(signed: bool, bound: u32, minus: bool, size: u128) -> bool
     ensures value { result ≡ is_within_field_bound signed bound minus size }
@@ -452,7 +458,8 @@ fn target_operand_relocation(row: &Row) -> u8
     }
 }
 
-/// Fills the field of an absolute address, or breaks rule 5.
+/// Fills the constant with the absolute address `size`. A negative address, or one that the form
+/// can't hold, breaks rule 5.
 #[tactic(auto, unfolding(crate::specs::Filling::fill_address))]
 fn fill_address(form: Form, minus: bool, size: u128, acc: &mut RowFields<'_>)
     ensures { row_fields_of acc.new ≡ fill_address form minus size (row_fields_of acc.old) }

@@ -23,8 +23,8 @@ use tc_lex::{
     token_text,
 };
 
-/// Reads a line: adds its items, and returns the least rule that it breaks by itself. The two lists
-/// are scratch space, which each line uses again. An empty line needs neither.
+/// Reads a line: adds its items, and returns their number and the least rule that the line breaks
+/// by itself. `pieces` and `operands` are scratch space.
 #[inline(always)]
 pub(crate) fn read_line<'a>(
     line: &'a [u8],
@@ -66,7 +66,8 @@ fn read_line_items<'a>(
     }
 }
 
-/// Reads a line from its tokens: a label, if there is one, and what follows.
+/// Reads a line from its tokens: adds the items of its label and its statement, and returns the
+/// rule that the line breaks.
 #[tactic(auto, unfolding(crate::specs::Lines::tokens_line))]
 fn tokens_line<'a>(
     ps: &[Piece<'a>],
@@ -83,7 +84,8 @@ fn tokens_line<'a>(
     }
 }
 
-// Reads a line that can't be cut into tokens; `front` is its text before the first bad byte.
+// Reads a line that can't be cut into tokens, and breaks rule 1. Adds the label in `front`, its
+// text before the first bad byte.
 #[tactic(auto, using(crate::proofs::PieceLines::label_pieces, crate::proofs::PieceLines::label_unread))]
 fn uncut_line<'a>(
     front: &'a [u8],
@@ -107,7 +109,8 @@ fn has_label(ps: &[Piece]) -> bool
     is_token_kind(ps, 0, TokenKind::Word) && is_token_kind(ps, 1, TokenKind::Colon)
 }
 
-// Reads a line that begins with a label.
+// Reads a line that begins with a label: adds the label, and reads the rest. Returns the rule that
+// the rest breaks.
 fn labelled_line<'a>(
     ps: &[Piece<'a>],
     operands: &mut Scratch<Operand<'a>, 65>,
@@ -153,7 +156,7 @@ fn add_label<'a>(name: &'a [u8], items: &mut Vec<Item<'a>>) -> Result<(), AllocE
     Ok(())
 }
 
-// Returns the rule of a line that adds no item to its source.
+// Returns `rule` for a line that adds no items. `items` stay as they are.
 fn rule_without_items(rule: u8, items: &mut Vec<Item<'_>>) -> Result<u8, AllocError>
     ensures { AddsLine (line_data rule []) result items.old.items items.new.items }
 {
@@ -313,7 +316,7 @@ fn add_item<'a>(rule: u8, item: Item<'a>, items: &mut Vec<Item<'a>>) -> Result<u
     Ok(rule)
 }
 
-/// Whether the operand is a word, as `.section` and `.global` want.
+/// Whether the operand is a name without brackets, as `.section` and `.global` want.
 #[tactic(auto, unfolding(crate::specs::Lines::is_unbracketed_name))]
 fn is_unbracketed_name(o: &Operand<'_>) -> bool
     ensures { result ≡ is_unbracketed_name (operand_of o.now) }

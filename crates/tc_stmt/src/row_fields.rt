@@ -107,15 +107,15 @@ pub fn field_of(field: Field, f: &Fields) -> u32
     }
 }
 
-/// Sets a field of a row, as an operand fills it, to a value.
+/// Fills one of a row's fields with a value, modulo 256 in all fields but `k`.
 pub(crate) fn fill_field(field: Field, v: u32, acc: &mut RowFields<'_>)
     ensures { row_fields_of acc.new ≡ put_in field v (row_fields_of acc.old) }
 {
     set_field(field, v, &mut acc.fields);
 }
 
-/// Notes among a row's fields the symbol of an operand, in a place that takes one, or the rule that
-/// the symbol breaks.
+/// Notes among a row's fields an operand's symbol, with the `kind` of its relocation (0 for none),
+/// or the rule that the symbol breaks.
 #[tactic(auto, unfolding(crate::specs::Filling::with_symbol))]
 pub(crate) fn note_symbol<'a>(kind: u8, v: &Value<'a>, acc: &mut RowFields<'a>)
     ensures { row_fields_of acc.new
@@ -141,7 +141,7 @@ pub(crate) fn note_misplaced_symbol(v: &Value<'_>, acc: &mut RowFields<'_>)
     note_broken_rule(MISPLACED_SYMBOL.min(symbol_rule(v)), acc);
 }
 
-/// Notes in `RowFields` that rule 12 is broken, if the row's registers must differ and are equal.
+/// Notes that rule 12 is broken, if the row's registers must differ and are equal.
 pub(crate) fn note_equal_registers(row: &Row, f: &mut RowFields<'_>)
     ensures { row_fields_of f.new ≡ note_equal_registers (row_of row.now) (row_fields_of f.old) }
 {

@@ -48,7 +48,7 @@ pub fn read_source<'a>(alloc: Global, source: &'a [u8]) -> Result<Source<'a>, Al
     Ok(Source { lines, items })
 }
 
-// The place of the next line feed, which ends an empty line if it is the first byte.
+// The place of the first line feed in the rest of a source, or `None` if there is none.
 #[inline(always)]
 #[tactic(auto, using(crate::proofs::Feeds::first_byte))]
 fn next_line_feed(rest: &[u8]) -> Option<usize>

@@ -19,8 +19,8 @@ use crate::want::Want;
 use tc_isa::{Row, rows};
 use tc_lex::{Operand, are_same_bytes};
 
-/// The row of a statement in the instruction table with its fields, or the least rule that the
-/// statement breaks.
+/// Returns the number of the first row that the statement fits, with its fields, or the least rule
+/// that the statement breaks.
 pub fn statement<'a>(name: &[u8], os: &[Operand<'a>]) -> Result<(u8, RowFields<'a>), u8>
     ensures { GivesStatementOutcome result (statement name.now (map operand_of os.now)) }
 {

@@ -17,11 +17,11 @@ bytes_of_half x = x % 256 ∷ x / 256 % 256 ∷ []
 abbrev pub bytes_of_word : ℕ → List ℕ
 bytes_of_word x = x % 256 ∷ x / 256 % 256 ∷ x / 65536 % 256 ∷ x / 16777216 % 256 ∷ []
 
--- the two bytes of a number, the lowest first
+-- the two bytes of a number below 2^16, the lowest first; the second isn't reduced modulo 256
 abbrev pub two_bytes : ℕ → List ℕ
 two_bytes w = w % 256 ∷ w / 256 ∷ []
 
--- the four bytes of a word, the lowest first
+-- the four bytes of a word of 32 bits, the lowest first; the last isn't reduced modulo 256
 abbrev pub four_bytes : ℕ → List ℕ
 four_bytes w = w % 256 ∷ w / 2 ^ 8 % 256 ∷ w / 2 ^ 16 % 256 ∷ w / 2 ^ 24 ∷ []
 

@@ -20,7 +20,7 @@ field_fault_at kind p = Err (record { kind = kind; at = p.place })
 unfoldable pub u8_at : Place → Result (ℕ × Place) FormErr
 u8_at p = if nat_le (p.place + 1) (length p.bytes) then Ok (slice_index p.bytes p.place, record p { place = p.place + 1 }) else field_fault_at SHORT p
 
--- a field of two bytes, little-endian, with the fault of u8_at
+-- a field of two bytes, little-endian, and the place after it, or the fault SHORT at its first byte
 unfoldable pub u16_at : Place → Result (ℕ × Place) FormErr
 u16_at p = if nat_le (p.place + 2) (length p.bytes) then Ok (half_in_bytes p.bytes p.place, record p { place = p.place + 2 }) else field_fault_at SHORT p
 
@@ -29,7 +29,7 @@ u16_at p = if nat_le (p.place + 2) (length p.bytes) then Ok (half_in_bytes p.byt
 unfoldable pub u32_at : Place → Result (ℕ × Place) FormErr
 u32_at p = if nat_le (p.place + 4) (length p.bytes) then Ok (word_in_bytes p.bytes p.place, record p { place = p.place + 4 }) else field_fault_at SHORT p
 
--- a field of n bytes, with the fault of u8_at
+-- a field of n bytes, and the place after it, or the fault SHORT at its first byte
 unfoldable pub field_bytes_at : ℕ → Place → Result (List ℕ × Place) FormErr
 field_bytes_at n p = if nat_le (p.place + n) (length p.bytes) then Ok (take n (drop p.place p.bytes), record p { place = p.place + n }) else field_fault_at SHORT p
 

@@ -45,7 +45,7 @@ pub struct FormErr {
     pub at: u32,
 }
 
-/// Returns the first fault of a file, of this kind and at this offset.
+/// Returns the error of a file: the kind of its first fault, and the fault's offset in bytes.
 pub fn form_err_at(kind: u8, at: usize) -> FormErr
     requires { at ≤ 2 ^ 30 }
     ensures { result ≡ record { kind = kind; at = at } }

@@ -3,7 +3,7 @@ ghost use Rattle.std.specs.Prelude.{◌≡◌, length, true};
 ghost use Rattle.std.specs.List.{list_all};
 ghost use Rattle.tcd_base.specs.NameBytes.{is_name_byte, is_name_start, is_name_byte_table_from};
 
-/// Returns true if a name can begin with this byte: a letter, `_`, `.` or `$`.
+/// Returns true if a symbol's or label's name can begin with this byte: a letter, `_`, `.` or `$`.
 #[tactic(auto, unfolding(crate::specs::NameBytes::is_name_start))]
 pub fn is_name_start(c: u8) -> bool
     ensures { result ≡ is_name_start c }

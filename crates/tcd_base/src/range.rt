@@ -27,8 +27,7 @@ impl Range {
     }
 }
 
-/// Tests ranges of addresses: returns true if the `n` addresses from `addr` on are inside one of
-/// them.
+/// Returns true if the `n` addresses from `addr` on are inside one of the ranges.
 pub fn is_in_one_range(ranges: &[Range], addr: u32, n: u32) -> bool
     ensures { result ≡ list_any (is_within_range addr n) ranges.now }
 {

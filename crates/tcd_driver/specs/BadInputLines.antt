@@ -26,15 +26,15 @@ use Rattle.task_chains.specs.TaskListText as tasks
 use Rattle.tc_stmt.specs.Lines.{lines_in}
 use Rattle.tc_asm.specs.Rules.{IsFirstBrokenLine}
 
--- the driver's line for arguments that are no command
+-- the driver's line `bad words`, for arguments that are no command
 unfoldable pub bad_words_line : List ℕ
 bad_words_line = codes "bad words" ++ 10 ∷ []
 
--- the bad-input line on bytes that are no executable: it has their first fault
+-- the bytes are no executable, and this bad-input line has their first fault
 abbrev pub IsNoImage : List ℕ → List ℕ → Type 0
 IsNoImage bytes line = (e : ImageErr) × (image_of_file bytes ≡ Err e) × (line ≡ bad_elf_line e)
 
--- the bad-input line on bytes that are no plan: it has their first fault
+-- the bytes are no plan, and this bad-input line has their first fault
 abbrev pub IsNoPlan : List ℕ → List ℕ → Type 0
 IsNoPlan bytes line = (e : PlanErr) × IsPlanResult bytes (Err e) × (e ≢ NoMemory) × (line ≡ bad_plan_line e)
 
@@ -42,16 +42,16 @@ IsNoPlan bytes line = (e : PlanErr) × IsPlanResult bytes (Err e) × (e ≢ NoMe
 abbrev pub IsNoCert : List ℕ → List ℕ → Type 0
 IsNoCert bytes line = (e : FormErr) × (certificate_of bytes ≡ Err e) × (line ≡ codes "bad cert " ++ (decimal e.kind ++ (codes " at " ++ (decimal e.at ++ 10 ∷ []))))
 
--- the bad-input line on bytes that are no turn script for the plan: it has their first fault
+-- the bytes are no turn script for the plan, and this bad-input line has their first fault
 abbrev pub IsNoScript : PlanData → List ℕ → List ℕ → Type 0
 IsNoScript plan bytes line = (e : ScriptErr) × (script_of plan bytes ≡ Err e) × (line ≡ bad_script_line e)
 
--- the bad-input line on bytes that are no layout: it has their first fault
+-- the bytes are no layout, and this bad-input line has their first fault
 abbrev pub IsNoLayout : List ℕ → List ℕ → Type 0
 IsNoLayout bytes line = (e : LayoutErr) × (layout_of bytes ≡ Err e) × (line ≡ bad_layout_line e)
 
--- the bad-input line on bytes that are no object: it has the number of the first fault, the
--- object's place among the objects that are named, and the offset of the fault
+-- the bytes are no object, and this bad-input line has their first fault: its number, the object's
+-- place among those named, and its offset
 abbrev pub IsNoObject : ℕ → List ℕ → List ℕ → Type 0
 IsNoObject place bytes line =
     (e : FormErr) × (object_of bytes ≡ Err e)
@@ -75,11 +75,11 @@ bad_tasks_line task.NoRoom = codes "bad tasks 5" ++ 10 ∷ []
 bad_tasks_line task.OnIsp = codes "bad tasks 6" ++ 10 ∷ []
 bad_tasks_line task.Count = codes "bad tasks 7" ++ 10 ∷ []
 
--- the bad-input line on bytes that are no cells of the plan: it has their first fault
+-- the bytes are no cells of the plan, and this bad-input line has their first fault
 abbrev pub AreNoCells : PlanData → List ℕ → List ℕ → Type 0
 AreNoCells plan bytes line = (e : CellsErr) × cells.IsResultOfCellText plan bytes (Err e) × (line ≡ bad_cells_line e)
 
--- the bad-input line on bytes that are no tasks of the plan: it has their first fault
+-- the bytes are no tasks of the plan, and this bad-input line has their first fault
 abbrev pub AreNoTasks : PlanData → List ℕ → List ℕ → Type 0
 AreNoTasks plan bytes line = (e : TasksErr) × tasks.IsResultOfTaskText plan (text_lines bytes) (Err e) × (line ≡ bad_tasks_line e)
 
@@ -88,7 +88,7 @@ AreNoTasks plan bytes line = (e : TasksErr) × tasks.IsResultOfTaskText plan (te
 abbrev pub bad_source_line_text : ℕ → ℕ → ℕ → List ℕ
 bad_source_line_text rule place line = codes "bad source " ++ (decimal rule ++ (codes " at " ++ (decimal place ++ (codes " " ++ (decimal line ++ 10 ∷ [])))))
 
--- the bad-input line on a source of which a line breaks a rule: it has the source's place, the
--- first such line, and the least rule that it breaks
+-- a line of the source breaks a rule, and this bad-input line has the source's place, the first
+-- such line, and its least rule
 abbrev pub SourceBreaksRule : ℕ → List ℕ → List ℕ → Type 0
 SourceBreaksRule place bytes printed = (line : ℕ) × (rule : ℕ) × IsFirstBrokenLine (lines_in bytes) line rule × (printed ≡ bad_source_line_text rule place line)

@@ -43,26 +43,28 @@ pub record IsLeastOfItsFormat (image : ImageData) (plan : PlanData) (cert : Cert
   pub needs : (other : CertData) (frame : Key) → IsCert other → other.version ≡ cert.version → Accepts image plan other → need_in_cert cert frame ≤ need_in_cert other frame
   pub states : (other : CertData) → IsCert other → other.version ≡ cert.version → Accepts image plan other → IsAssignmentBelow (assignment_of_cert cert) (assignment_of_cert other)
 
--- why an image and a plan have no best certificate: none of either format is accepted, and this is
+-- in the headlines where `cert`, `cfg` and `ship` refuse: no certificate is accepted, and this is
 -- why none of format 2 is
 pub record NoCertIsAccepted (image : ImageData) (plan : PlanData) (rule : ℕ) (frame : Key) (address : ℕ) : Type 0 where
   pub each : (cert : CertData) → IsCert cert → Accepts image plan cert → ⊥
   pub why : IsRefusal image plan 2 rule frame address
 
 -- ---- by the values in the code
--- the least certificate of a format, which was checked, and its need
+-- this certificate is the least of its format, and every run is safe with this need, that of its
+-- start
 pub record IsLeastWithNeed (image : ImageData) (plan : PlanData) (version : ℕ) (cert : CertData) (need : ℕ) : Type 0 where
   pub is_cert : IsCert cert
   pub made : IsLeastCert image plan version cert
   pub safe : Safe image plan need
   pub need_is : need ≡ certified_need image plan cert
 
--- the result of making the least certificate of a format
+-- the result of making a format's least certificate: that, with its need, or a right error
 abbrev pub IsLeastCertOrErr : ImageData → PlanData → ℕ → Result (CertData × ℕ) MakeErr → Type 0
 IsLeastCertOrErr image plan version (Ok made) = IsLeastWithNeed image plan version made.0 made.1
 IsLeastCertOrErr image plan version (Err e) = IsRightMakeErr image plan version e
 
--- the result of making the best certificate for an image and a plan, with its need
+-- the result of making the best certificate: that, with its need, or why none of format 2 is
+-- accepted
 abbrev pub IsBestCertOrErr : ImageData → PlanData → Result (CertData × ℕ) MakeErr → Type 0
 IsBestCertOrErr image plan (Ok made) = IsAcceptedBestCert image plan made.0 × (made.1 ≡ certified_need image plan made.0)
 IsBestCertOrErr image plan (Err (make_err.Refused rule key addr)) = HasNoBestCert image plan rule key addr

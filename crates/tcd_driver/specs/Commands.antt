@@ -64,11 +64,12 @@ ship_command_of (verb ∷ plan ∷ layout ∷ elf ∷ cert ∷ sources) =
     if is_ship verb elf cert sources then Some (ship (record { plan = plan; layout = layout; elf = elf; cert = cert; sources = sources })) else None
 ship_command_of words = None
 
--- `tasks` has at least one certificate
+-- the arguments are those of the command `tasks`, which has 1 to 65,531 certificates
 abbrev pub is_tasks : List ℕ → List (List ℕ) → Bool
 is_tasks verb certs = bytes_eq verb (codes "tasks") && nat_le 1 (length certs) && nat_le (length certs) 65531
 
--- `taskcert` has at least one certificate, and writes each under a name of its own
+-- the arguments are those of the command `taskcert`, which writes 1 to 65,531 certificates under
+-- different names
 abbrev pub is_taskcert : List ℕ → List (List ℕ) → Bool
 is_taskcert verb certs = bytes_eq verb (codes "taskcert") && nat_le 1 (length certs) && nat_le (length certs) 65531 && are_distinct_names certs
 
@@ -81,7 +82,7 @@ tasks_command_of (verb ∷ elf ∷ plan ∷ list ∷ certs) =
 tasks_command_of words = None
 
 -- the command `bootgen`: a plan, the entry and the address of a boot sequence that doesn't pass
--- 2^32, and a source
+-- 2^32, and a source; None for bad numbers
 abbrev pub bootgen_command_of : List ℕ → List ℕ → List ℕ → List ℕ → Option Command
 bootgen_command_of plan entry at source =
     option_and_then (λ e. option_and_then (λ x. then_some (nat_le x 0xffffff20) (bootgen (record { plan = plan; entry = e; at = x; source = source }))) (hex_number_of at)) (hex_number_of entry)
@@ -90,21 +91,21 @@ bootgen_command_of plan entry at source =
 abbrev pub boot_command_of : List ℕ → List ℕ → List ℕ → List ℕ → Option Command
 boot_command_of elf plan cert at = option_map (λ x. boot (record { elf = elf; plan = plan; cert = cert; at = x })) (hex_number_of at)
 
--- the commands with one argument after their verb
+-- the command with one argument after its verb, `dis` or `gen`; None for others, or a bad number
 abbrev pub command_of_one : List ℕ → List ℕ → Option Command
 command_of_one verb word =
     if bytes_eq verb (codes "dis") then Some (dis word)
     else if bytes_eq verb (codes "gen") then option_map generate (gen_function_count word)
     else None
 
--- the commands with two arguments after their verb
+-- the command that has two arguments after its verb, `asm` or `cfg`; None for other verbs
 abbrev pub command_of_two : List ℕ → List ℕ → List ℕ → Option Command
 command_of_two verb first second =
     if bytes_eq verb (codes "asm") then Some (asm (record { source = first; object = second }))
     else if bytes_eq verb (codes "cfg") then Some (cfg (record { elf = first; plan = second }))
     else None
 
--- the commands with three arguments after their verb
+-- the command with three arguments, `check`, `cert`, `report` or `run`; None for other verbs
 abbrev pub command_of_three : List ℕ → List ℕ → List ℕ → List ℕ → Option Command
 command_of_three verb elf plan third =
     if bytes_eq verb (codes "check") then Some (check (record { elf = elf; plan = plan; cert = third }))
@@ -113,7 +114,7 @@ command_of_three verb elf plan third =
     else if bytes_eq verb (codes "run") then Some (run (record { elf = elf; plan = plan; script = third }))
     else None
 
--- the commands with four arguments after their verb; an address has eight upper-case hex digits
+-- the command with four arguments after its verb; None for other verbs, or a bad address
 abbrev pub command_of_four : List ℕ → List ℕ → List ℕ → List ℕ → List ℕ → Option Command
 command_of_four verb first second third fourth =
     if bytes_eq verb (codes "cells") then Some (cells (record { elf = first; plan = second; cells = third; cert = fourth }))
@@ -122,7 +123,7 @@ command_of_four verb first second third fourth =
     else if bytes_eq verb (codes "bootgen") then bootgen_command_of first second third fourth
     else None
 
--- the commands with a fixed number of arguments
+-- the command that has one to four arguments after its verb; None for other arguments
 abbrev pub fixed_arity_command_of : List (List ℕ) → Option Command
 fixed_arity_command_of (verb ∷ first ∷ []) = command_of_one verb first
 fixed_arity_command_of (verb ∷ first ∷ second ∷ []) = command_of_two verb first second
@@ -130,7 +131,7 @@ fixed_arity_command_of (verb ∷ first ∷ second ∷ third ∷ []) = command_of
 fixed_arity_command_of (verb ∷ first ∷ second ∷ third ∷ fourth ∷ []) = command_of_four verb first second third fourth
 fixed_arity_command_of words = None
 
--- the command that arguments ask for
+-- the command that these arguments of the program ask for; None if they are no command
 abbrev pub command : List (List ℕ) → Option Command
 command words = option_or (link_command_of words) (option_or (ship_command_of words) (option_or (tasks_command_of words) (fixed_arity_command_of words)))
 
@@ -155,7 +156,7 @@ reading_of (generate functions) = gen_reading functions
 reading_of (taskcert names) = taskcert_reading names
 
 -- ---- the command as a value of the program
--- the command that this value is
+-- the plain data of a command in the code: its file names as bytes, and its numbers
 abbrev pub command_of_value : Words → Command
 command_of_value (words.Check elf plan cert) = check (record { elf = elf.now; plan = plan.now; cert = cert.now })
 command_of_value (words.Cert elf plan cert) = certify (record { elf = elf.now; plan = plan.now; cert = cert.now })

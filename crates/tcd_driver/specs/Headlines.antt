@@ -58,8 +58,7 @@ HoldsPlan m name plan = HoldsFile m name (2 ^ 24) (λ bytes. GivesPlan bytes (Ok
 abbrev pub HoldsCert : FileMap → List ℕ → CertData → Type 0
 HoldsCert m name cert = HoldsFile m name (2 ^ 30) (λ bytes. certificate_of bytes ≡ Ok cert)
 
--- what headlines of commands say of several files: each name holds the value at its place in the
--- list
+-- each of these names holds at most `most` bytes, which are the value at the same place in the list
 abbrev pub HoldEachFile : {A : Type 0} → FileMap → ℕ → (List ℕ → A → Type 0) → List (List ℕ) → List A → Type 0
 HoldEachFile m most Is [] [] = Unit {0}
 HoldEachFile m most Is [] (x ∷ xs) = ⊥

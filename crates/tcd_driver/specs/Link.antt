@@ -22,7 +22,8 @@ pub record LinkArgs : Type 0 where
 abbrev pub WritesImage : List ℕ → ImageData → Report → Type 0
 WritesImage name image report = report ≡ report_with_file name (elf_file image) (linked_image_line (length (elf_file image)))
 
--- the report of `link` on objects and a layout: the image to write, or the first rejection
+-- the report of `link` on objects and a layout: the image to write, or the first reason why they
+-- can't be linked
 pub data IsLinkReport (name : List ℕ) (layout : LayoutData) (objects : List ObjectData) (report : Report) : Type 0 where
   refused : (r : Refusal) → image_of_objects objects layout ≡ Err r → report ≡ text_report BadInput (bad_link_line r) → IsLinkReport name layout objects report
   image : (i : ImageData) → image_of_objects objects layout ≡ Ok i → WritesImage name i report → IsLinkReport name layout objects report

@@ -15,7 +15,7 @@ use Rattle.tcd_forms.specs.Forms.{elf_form, plan_form, script_form}
 use Rattle.tcd_forms.specs.Lines.{run_line}
 use Rattle.tcd_reading.specs.declared.status.Status.TheVariants.{Done}
 
--- what `run` reads, by the names of the files: an executable, a plan, and a turn script
+-- the names of the files that `run` reads: an executable, a plan, and a turn script
 pub record RunArgs : Type 0 where
   pub elf : List ℕ
   pub plan : List ℕ

@@ -75,7 +75,7 @@ ship_reading names =
     (λ layout. input_files SourceData numbered_source_form 0 names.sources (λ sources. answer (IsShipReport names.elf names.cert plan layout sources))))
 
 -- ---- the same, by the values in the code
--- the names of the files of `ship`, as plain data
+-- the arguments of `ship` as plain data
 abbrev pub ship_args : Shipment → ShipArgs
 ship_args s = record { plan = s.plan.now; layout = s.layout.now; elf = s.elf.now; cert = s.cert.now; sources = map string_bytes s.sources.now }
 

@@ -8,7 +8,7 @@ use Rattle.tcd_reading.specs.declared.status.Status.TheVariants.{Done, Refused, 
 use Rattle.tcd_driver.specs.Headlines.Asks.{InputRequirement, is_elf, is_plan, is_cert, is_layout, is_object, is_source, is_script, are_cells, are_tasks, BadInputOf}
 use Rattle.tcd_driver.specs.Tool.{ToolCall, CommandSays}
 
--- the name of the file of which this is asked, if it is asked of one
+-- the name of the file that this requirement is about, if it is about one file
 abbrev pub asked_name : InputRequirement → Option (List ℕ)
 asked_name (is_elf name) = Some name
 asked_name (is_plan name) = Some name
@@ -21,8 +21,8 @@ asked_name (are_cells plan_name name) = Some name
 asked_name (are_tasks plan_name name) = Some name
 asked_name ask = None
 
--- the files are steady and hold these, and the sink has room for `bad words` and for the text of
--- each of three ends
+-- the call's files are steady and hold these, and its sink has room for `bad words` and for the
+-- text of each of three ends
 pub record HasRoomForEnds (call : ToolCall) (before : FileMap) (IfDone IfRefused IfBad : FileMap → List ℕ → Type 0) : Type 0 where
   pub held : (call.files).held ≡ Some before
   pub steady : (call.files).steady ≡ true
@@ -33,8 +33,8 @@ pub record HasRoomForEnds (call : ToolCall) (before : FileMap) (IfDone IfRefused
   pub refused : (after : FileMap) (text : List ℕ) → IfRefused after text → length text ≤ room
   pub bad_input : (after : FileMap) (text : List ℕ) → IfBad after text → length text ≤ room
 
--- What the tool promises of any command, whatever its arguments, asks and ends, decides its status
--- over files that hold all that is asked of, with room: one of three, each exactly if it can be.
+-- If the tool keeps a command's promise, the status of a call is one of three, each exactly if it
+-- can be. The files hold all that is asked of, with room.
 abbrev pub StatusesAreDecided : (FileMap → FileMap → List ℕ → Type 0) → (FileMap → FileMap → List ℕ → Type 0) → Type 0
 StatusesAreDecided IfDone IfRefused =
     (call : ToolCall) (words : List (List ℕ)) (asks : List InputRequirement) (before : FileMap)

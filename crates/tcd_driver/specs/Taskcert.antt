@@ -112,7 +112,7 @@ pub record IsTaskCertWithNeed (image : ImageData) (plan : PlanData) (tasks : Tas
   pub made : IsLeastTaskCert image plan tasks u cert
   pub need_is : need ≡ certified_need (view_image_of image tasks u) (view_plan_of plan tasks u) cert
 
--- the result of making a certificate for task u
+-- the result of making a certificate for task u: that, with its need, or why there is none
 abbrev pub IsTaskCertOrErr : ImageData → PlanData → TasksData → ℕ → Result (CertData × ℕ) MakeErr → Type 0
 IsTaskCertOrErr image plan tasks u (Ok made) = IsTaskCertWithNeed image plan tasks u made.0 made.1
 IsTaskCertOrErr image plan tasks u (Err (make_err.Refused rule key addr)) = HasNoTaskCert (view_image_of image tasks u) (view_plan_of plan tasks u) tasks rule key addr

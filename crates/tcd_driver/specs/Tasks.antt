@@ -31,7 +31,7 @@ pub record TasksArgs : Type 0 where
   pub tasks : List ℕ
   pub certs : List (List ℕ)
 
--- the certificate of task u in the list that `tasks` reads
+-- the certificate of task u, at place u of the list that `tasks` reads; an empty one past its end
 abbrev pub cert_of_task : List CertData → ℕ → CertData
 cert_of_task certs u = slice_index_or certs u (record { version = 1; nodes = [] })
 
@@ -54,8 +54,8 @@ IsVerdictOnTask image plan tasks cert u (Yes n) =
 IsVerdictOnTask image plan tasks cert u (No rule key addr) = IsTaskRefused image plan tasks cert u rule key addr
 
 -- ---- all tasks
--- the needs that the commands `tasks` and `taskcert` add up for certificates: at least two areas
--- for each task except the first
+-- for each task the need that counts in the sum: its certificate's need, but at least 2 for each
+-- task except the first
 abbrev pub counted_needs_of_tasks : ImageData → PlanData → TasksData → List CertData → ℕ → ℕ
 counted_needs_of_tasks image plan tasks certs = need_of_task image plan tasks (cert_of_task certs)
 
@@ -63,7 +63,7 @@ counted_needs_of_tasks image plan tasks certs = need_of_task image plan tasks (c
 abbrev pub sum_of_needs : ImageData → PlanData → TasksData → List CertData → ℕ
 sum_of_needs image plan tasks certs = sum_of_first (count tasks) (counted_needs_of_tasks image plan tasks certs)
 
--- the certificate of each task below n is accepted for the task's view and keeps the tasks apart
+-- for each task below n the certificate is accepted for the task's view and keeps the tasks apart
 -- (K17)
 abbrev pub AreFirstTaskCertsAccepted : ImageData → PlanData → TasksData → List CertData → ℕ → Type 0
 AreFirstTaskCertsAccepted image plan tasks certs n = (u : ℕ) → u < n → IsSoundTaskCert image plan tasks (cert_of_task certs u) u
@@ -99,8 +99,8 @@ pub data IsTasksVerdict (image : ImageData) (plan : PlanData) (tasks : TasksData
       → IsTasksVerdict image plan tasks certs report
 
 -- ---- what is read
--- what `tasks` or `taskcert` reads next if it has as many names as tasks; else nothing more is
--- read, and the bad count printed
+-- what `tasks` or `taskcert` reads next if the number of its certificates is right (true); else
+-- nothing, and the bad count is reported
 abbrev pub tasks_reading_if : Bool → Reading → Reading
 tasks_reading_if true reading = reading
 tasks_reading_if false reading = answer (λ report. report ≡ text_report BadInput (bad_tasks_line Count))

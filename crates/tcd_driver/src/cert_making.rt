@@ -12,8 +12,8 @@ use tcd_forms::refused_line;
 use tcd_plan::Plan;
 use tcd_reading::{Outcome, Report, Status, Stop};
 
-/// Makes the least certificate of format 1 or 2, and checks it. Returns it with its need, or why
-/// none is accepted.
+/// Makes and checks the least certificate of format `version`, 1 or 2. Returns the certificate with
+/// its need, or why none of this format is accepted.
 pub(crate) fn make_least_cert(
     alloc: Global,
     image: &Image,
@@ -32,8 +32,8 @@ pub(crate) fn make_least_cert(
     }
 }
 
-/// Makes the least certificate of format 1, or of format 2 if none of format 1 is accepted, and
-/// checks it. Returns it with its need, or why none of format 2 is accepted.
+/// Makes and checks the least certificate of format 1, or of format 2 if none of format 1 is
+/// accepted. Returns the certificate with its need, or why none of format 2 is accepted.
 pub(crate) fn make_best_cert(
     alloc: Global,
     image: &Image,
@@ -48,7 +48,8 @@ pub(crate) fn make_best_cert(
     }
 }
 
-/// Reports that no certificate is made: the rule that fails first, with its address and frame.
+/// Returns the outcome of a maker's error: a refusal with the rule that fails first, its address
+/// and its frame, or no memory.
 pub(crate) fn report_no_cert(alloc: Global, e: MakeErr) -> Outcome
     ensures { IsReportOutcome (IsNoCertReport e) ⊥ result }
 {

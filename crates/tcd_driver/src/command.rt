@@ -271,7 +271,8 @@ fn is_taskcert(alloc: Global, verb: &str, certs: &[String]) -> bool
         && are_distinct_names(alloc, certs)
 }
 
-// Returns the command with one argument after its verb: `dis` or `gen`, or `None` for other verbs.
+// Returns the command that has one argument after its verb, `dis` or `gen`. `None` for other verbs
+// and bad numbers of functions.
 fn command_of_one<'a>(verb: &str, word: &'a str) -> Option<Command<'a>>
     ensures is { option_map command_of_value result ≡ command_of_one verb.now word.now }
     ensures limits { IfSome result CommandKeepsLimits }
@@ -285,7 +286,8 @@ fn command_of_one<'a>(verb: &str, word: &'a str) -> Option<Command<'a>>
     }
 }
 
-// Returns the command with two arguments after its verb: `asm` or `cfg`, or `None` for other verbs.
+// Returns the command that has two arguments after its verb, `asm` or `cfg`, or `None` for other
+// verbs.
 fn command_of_two<'a>(verb: &str, first: &'a str, second: &'a str) -> Option<Command<'a>>
     ensures is { option_map command_of_value result
         ≡ command_of_two verb.now first.now second.now }
@@ -306,8 +308,8 @@ fn command_of_two<'a>(verb: &str, first: &'a str, second: &'a str) -> Option<Com
     }
 }
 
-// Returns the command with three arguments after its verb: `check`, `cert`, `report` or `run`, or
-// `None` for other verbs.
+// Returns the command that has three arguments after its verb, `check`, `cert`, `report` or `run`,
+// or `None` for other verbs.
 fn command_of_three<'a>(
     verb: &str,
     elf: &'a str,
@@ -347,8 +349,8 @@ fn command_of_three<'a>(
     }
 }
 
-// Returns the command with four arguments after its verb: `cells`, `cellcert`, `boot` or `bootgen`,
-// or `None` for other verbs.
+// Returns the command that has four arguments after its verb, `cells`, `cellcert`, `boot` or
+// `bootgen`. `None` for other verbs and bad addresses.
 fn command_of_four<'a>(
     verb: &str,
     first: &'a str,
@@ -393,8 +395,7 @@ fn gen_command<'a>(word: &str) -> Option<Command<'a>>
     Some(Command::Gen { functions })
 }
 
-// Returns the number of functions of the image that `gen` generates, or `None` if it isn't 1 to
-// 500.
+// Returns `n`, the number of functions that `gen` is asked for, or `None` if `n` isn't 1 to 500.
 fn gen_count_in_range(n: u32) -> Option<u32>
     ensures is { result ≡ then_some (nat_le 1 n && nat_le n 500) n }
     ensures limits { IfSome result (λ n. (1 ≤ n) × (n ≤ 500)) }
@@ -422,8 +423,8 @@ fn boot_command<'a>(elf: &'a str, plan: &'a str, cert: &'a str, at: &str) -> Opt
     })
 }
 
-// Returns the command `bootgen` with these arguments, or `None` for a bad number, or a boot
-// sequence that passes 2^32.
+// Returns the command `bootgen` for a boot sequence at `at` that jumps to `entry`. `None` for a bad
+// number, or a sequence that passes 2^32.
 fn bootgen_command<'a>(plan: &'a str, entry: &str, at: &str, source: &'a str) -> Option<Command<'a>>
     ensures is { option_map command_of_value result
         ≡ bootgen_command_of plan.now entry.now at.now source.now }

@@ -20,8 +20,8 @@ impl AnyEnds for Brand {
     ghost IfRefused = { NeverRefuses };
 }
 
-/// The status of any command is decided over steady files that hold each file of which it asks
-/// something, with room for each text that it may print.
+/// A command with the ends `C` is done, refuses, or finds bad input, if its files are steady and
+/// present, with room and memory.
 pub fn decided_status_law<C: AnyEnds>()
     ensures { StatusesAreDecided C.IfDone C.IfRefused }
 {}

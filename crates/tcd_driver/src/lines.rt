@@ -13,7 +13,7 @@ use tcd_forms::{append_to_printed_line, copy_printed_line};
 use tcd_text::hex_word;
 use value_cells::CellsErr;
 
-// Returns the printed line for arguments that are no command.
+// Returns the line `bad words`, which is printed for arguments that are no command.
 #[tactic(auto, unfolding(crate::specs::BadInputLines::bad_words_line))]
 pub(crate) fn bad_words_line() -> &'static [u8]
     ensures { result.now ≡ bad_words_line }
@@ -21,7 +21,8 @@ pub(crate) fn bad_words_line() -> &'static [u8]
     b"bad words\n"
 }
 
-// Returns the printed line on a boot sequence that `boot` refuses: the number of the reason.
+// Returns the line `refused boot N` on a boot sequence that `boot` refuses: N is the number of the
+// reason, 1 to 4.
 #[tactic(auto, unfolding(crate::specs::Boot::refused_boot_line))]
 pub(crate) fn refused_boot_line(alloc: Global, e: BootErr) -> Result<Vec<u8>, NoMemory>
     ensures { IfOk result (λ line. line.items ≡ refused_boot_line e) }
@@ -65,8 +66,7 @@ pub(crate) fn bad_tasks_line(alloc: Global, e: TasksErr) -> Result<Vec<u8>, NoMe
     }
 }
 
-// Returns the printed line of `boot` on the first byte that differs from the boot sequence, with
-// its address.
+// Returns the line `refused boot 4 at ADDR`: the byte at `addr` is the first that differs.
 pub(crate) fn boot_difference_line(alloc: Global, addr: u32) -> Result<Vec<u8>, NoMemory>
     ensures { IfOk result
         (λ line. line.items ≡ codes "refused boot 4 at " ++ (hex_word addr ++ 10 ∷ [])) }

@@ -85,8 +85,8 @@ pub record SourceData : Type 0 where
   pub text : List ℕ
   pub object : ObjectData
 
--- the form of a source file among several, with its place among them: the value is its text and its
--- object
+-- the form of a source file among several, by its number among them, from 0: the value is its text
+-- and its object
 abbrev pub numbered_source_form : ℕ → FormSeen SourceData
 numbered_source_form place = record {
   limit = 2 ^ 24;
@@ -105,8 +105,8 @@ layout_form = record {
   IsBad = λ bytes text. (e : LayoutErr) × (layout_of bytes ≡ Err e) × (text ≡ bad_layout_line e);
 }
 
--- the form of an object file among several, with its place among them: the limit in bytes, the
--- object, and the lines on bad files
+-- the form of an object file among several, by its number, from 0: the limit in bytes, the object,
+-- and the lines on bad files
 abbrev pub object_form : ℕ → FormSeen ObjectData
 object_form place = record {
   limit = 2 ^ 24;

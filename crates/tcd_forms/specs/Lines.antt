@@ -29,11 +29,11 @@ use Rattle.tcd_plan.specs.declared.plans.PlanErr.TheVariants as plan
 unfoldable pub line_end_with_frame : Key → List ℕ
 line_end_with_frame key = key_kind_text key.kind ++ (hex_word key.entry ++ (codes " prio " ++ (decimal key.prio ++ (codes " is " ++ ((if key.is then 49 else 48) ∷ 10 ∷ [])))))
 
--- the end of a rejection's line that names one number
+-- the end of a rejection's line that names one number, as a line or an index
 unfoldable pub line_end_with_number : ℕ → List ℕ
 line_end_with_number i = codes " at " ++ (decimal i ++ 10 ∷ [])
 
--- the end of a rejection's line that names two numbers
+-- the end of a rejection's line that names two numbers, as a file and a line
 unfoldable pub line_end_with_two_numbers : ℕ → ℕ → List ℕ
 line_end_with_two_numbers i j = codes " at " ++ (decimal i ++ (codes " " ++ (decimal j ++ 10 ∷ [])))
 
@@ -85,7 +85,7 @@ bad_cert_line e = codes "bad cert " ++ (decimal e.kind ++ line_end_with_number e
 unfoldable pub refused_line : ℕ → Key → ℕ → List ℕ
 refused_line rule key addr = codes "refused K" ++ (decimal rule ++ (codes " at " ++ (hex_word addr ++ (codes " in " ++ line_end_with_frame key))))
 
--- the printed line on an accepted certificate: the needed CSAs, and those of the plan
+-- the line on an accepted certificate: the needed CSAs, and those of the plan without its reserve
 unfoldable pub certified_line : ℕ → ℕ → List ℕ
 certified_line need areas = codes "certified " ++ (decimal need ++ (codes " of " ++ (decimal areas ++ (codes " areas" ++ 10 ∷ []))))
 
@@ -122,13 +122,13 @@ run_end_text (Dead cause) pc = codes "dead " ++ (death_cause_text cause ++ (code
 unfoldable pub run_line : ℕ → ℕ → Machine → List ℕ
 run_line events peak m = codes "events " ++ (decimal events ++ (codes " peak " ++ (decimal peak ++ (codes " " ++ run_end_text m.end m.pc))))
 
--- the printed line for the source at this place, if it has more bytes than its form allows; `asm`
--- has one source, at place 0
+-- the printed line for a source with too many bytes, by its number among the sources, from 0; `asm`
+-- has one source
 unfoldable pub source_too_long_line : ℕ → List ℕ
 source_too_long_line place = codes "bad source 0" ++ line_end_with_number place
 
--- the printed line on a source file that breaks a rule: the rule, the place of the file among the
--- sources, and the line in it
+-- the printed line on a source that breaks a rule: its number among the sources, from 0, the rule,
+-- and the line in it
 unfoldable pub bad_source_line : ℕ → ℕ → ℕ → List ℕ
 bad_source_line place rule line = codes "bad source " ++ (decimal rule ++ line_end_with_two_numbers place line)
 
@@ -148,12 +148,12 @@ bad_layout_line (layout.TooMany n) = codes "bad layout 3" ++ line_end_with_numbe
 bad_layout_line (layout.Overlap n) = codes "bad layout 4" ++ line_end_with_number n
 bad_layout_line layout.NoMemory = []
 
--- the printed line for the object at this place, if it has more bytes than its form allows
+-- the printed line for an object with too many bytes, by its number among the objects, from 0
 unfoldable pub object_too_long_line : ℕ → List ℕ
 object_too_long_line place = codes "bad object 0" ++ line_end_with_number place
 
--- the printed line on why the file at this place is no object: the number of the fault, and its
--- offset in the file
+-- the printed line on why a file is no object: its number among the objects, from 0, and the fault
+-- with its offset
 unfoldable pub bad_object_line : ℕ → FormErr → List ℕ
 bad_object_line place e = codes "bad object " ++ (decimal e.kind ++ line_end_with_two_numbers place e.at)
 
@@ -192,7 +192,7 @@ tasks_too_long_line = codes "bad tasks 0" ++ 10 ∷ []
 
 -- ---- boot sequences, cells, tasks and generated images
 -- the printed line of `boot` on a certified boot sequence: its events, the needed CSAs, and those
--- of the plan
+-- of the plan without its reserve
 unfoldable pub boot_line : ℕ → ℕ → ℕ → List ℕ
 boot_line events need areas =
     codes "boot " ++ (decimal events ++ (codes " events certified " ++ (decimal need ++ (codes " of " ++ (decimal areas ++ (codes " areas" ++ 10 ∷ []))))))
@@ -201,8 +201,8 @@ boot_line events need areas =
 unfoldable pub bootgen_line : List ℕ
 bootgen_line = codes "boot 56 instructions" ++ 10 ∷ []
 
--- the printed line of certified cells: the needed CSAs, those of the plan, and the number of cells
--- that must keep their bounds
+-- the printed line of certified cells: the needed CSAs, those of the plan without its reserve, and
+-- the number of cells in their bounds
 unfoldable pub certified_cells_line : ℕ → ℕ → ℕ → List ℕ
 certified_cells_line need areas count =
     codes "certified " ++ (decimal need ++ (codes " of " ++ (decimal areas ++ (codes " areas with " ++ (decimal count ++ (codes " cells" ++ 10 ∷ []))))))
@@ -212,7 +212,7 @@ certified_cells_line need areas count =
 unfoldable pub refused_switch_line : ℕ → List ℕ
 refused_switch_line addr = codes "refused switch at " ++ (hex_word addr ++ 10 ∷ [])
 
--- a printed line on a certificate with the number of its task before the line feed
+-- a printed line on a certificate with the number u of its task before the line feed
 unfoldable pub line_with_task : List ℕ → ℕ → List ℕ
 line_with_task line u = take (length line - 1) line ++ (codes " of task " ++ (decimal u ++ 10 ∷ []))
 
@@ -232,7 +232,7 @@ certified_tasks_line sum areas n =
     codes "certified " ++ (decimal sum ++ (codes " of " ++ (decimal areas ++ (codes " areas in " ++ (decimal n ++ (codes " tasks" ++ 10 ∷ []))))))
 
 -- the printed line of `gen`: the image's functions, its certificate's nodes and points, the needed
--- CSAs, and those of the plan
+-- CSAs, and those of the plan without its reserve
 unfoldable pub gen_line : ℕ → ℕ → ℕ → ℕ → ℕ → List ℕ
 gen_line functions nodes points need areas =
     codes "functions "

@@ -149,8 +149,8 @@ pub fn bad_script_line(alloc: Global, e: ScriptErr) -> Result<Vec<u8>, NoMemory>
     }
 }
 
-/// Returns the printed line on a source that breaks a rule: its place, the first bad line, and the
-/// least rule broken there.
+/// Returns the printed line on a source that breaks a rule. `place` is its number among the files,
+/// from 0; `rule` is the least one broken in `line`, the first bad line.
 #[tactic(auto, unfolding(crate::specs::Lines::bad_source_line, crate::specs::Lines::line_end_with_two_numbers))]
 pub fn bad_source_line(alloc: Global, place: u32, rule: u8, line: u32) -> Result<Vec<u8>, NoMemory>
     ensures { IfOk result (λ text. text.items ≡ bad_source_line place rule line) }
@@ -173,8 +173,8 @@ pub fn bad_layout_line(alloc: Global, e: LayoutErr) -> Result<Vec<u8>, NoMemory>
     }
 }
 
-/// Returns the printed line for the source at this place, if it has more bytes than its form
-/// allows.
+/// Returns the printed line for a source with too many bytes; `place` is its number among the
+/// command's sources, from 0.
 #[tactic(auto, unfolding(crate::specs::Lines::source_too_long_line, crate::specs::Lines::line_end_with_number))]
 pub fn source_too_long_line(alloc: Global, place: u32) -> Result<Vec<u8>, NoMemory>
     ensures { IfOk result (λ line. line.items ≡ source_too_long_line place) }
@@ -182,8 +182,8 @@ pub fn source_too_long_line(alloc: Global, place: u32) -> Result<Vec<u8>, NoMemo
     Ok(format!(in alloc; "bad source 0 at {place}\n")?.into_bytes())
 }
 
-/// Returns the printed line for the object at this place, if it has more bytes than its form
-/// allows.
+/// Returns the printed line for an object with too many bytes; `place` is its number among the
+/// command's objects, from 0.
 #[tactic(auto, unfolding(crate::specs::Lines::object_too_long_line, crate::specs::Lines::line_end_with_number))]
 pub fn object_too_long_line(alloc: Global, place: u32) -> Result<Vec<u8>, NoMemory>
     ensures { IfOk result (λ line. line.items ≡ object_too_long_line place) }
@@ -191,8 +191,8 @@ pub fn object_too_long_line(alloc: Global, place: u32) -> Result<Vec<u8>, NoMemo
     Ok(format!(in alloc; "bad object 0 at {place}\n")?.into_bytes())
 }
 
-/// Returns the printed line on why the file at this place is no object: the number of the fault,
-/// and its offset.
+/// Returns the printed line on why a file is no object: its number among the objects, from 0, and
+/// the fault with its offset.
 #[tactic(auto, unfolding(crate::specs::Lines::bad_object_line, crate::specs::Lines::line_end_with_two_numbers))]
 pub fn bad_object_line(alloc: Global, place: u32, e: FormErr) -> Result<Vec<u8>, NoMemory>
     ensures { IfOk result (λ line. line.items ≡ bad_object_line place e) }

@@ -13,7 +13,7 @@ use tcd_base::NoMemory;
 use tcd_text::hex_word;
 
 /// Returns the printed line of `boot` on a certified boot sequence: its events, the needed CSAs,
-/// and those of the plan.
+/// and those of the plan without its reserve.
 #[tactic(auto, unfolding(crate::specs::Lines::boot_line))]
 pub fn boot_line(alloc: Global, events: u32, need: u32, areas: u32) -> Result<Vec<u8>, NoMemory>
     ensures { IfOk result (λ line. line.items ≡ boot_line events need areas) }
@@ -30,8 +30,8 @@ pub fn bootgen_line() -> &'static [u8]
     b"boot 56 instructions\n"
 }
 
-/// Returns the printed line on certified cells: the needed CSAs, those of the plan, and the number
-/// of cells in their bounds.
+/// Returns the printed line on certified cells: the needed CSAs, those of the plan without its
+/// reserve, and the number of cells in their bounds.
 #[tactic(auto, unfolding(crate::specs::Lines::certified_cells_line))]
 pub fn certified_cells_line(
     alloc: Global,
@@ -46,8 +46,8 @@ pub fn certified_cells_line(
     Ok(text.into_bytes())
 }
 
-/// Returns the printed line on certified tasks: the CSAs that they need together, those of the
-/// plan, and the number of tasks.
+/// Returns the printed line on certified tasks: the CSAs that they need together, those of the plan
+/// without its reserve, and the number of tasks.
 #[tactic(auto, unfolding(crate::specs::Lines::certified_tasks_line))]
 pub fn certified_tasks_line(
     alloc: Global,
@@ -62,7 +62,7 @@ pub fn certified_tasks_line(
 }
 
 /// Returns the printed line of `gen`: the image's functions, its certificate's nodes and points,
-/// and the needed CSAs.
+/// the needed CSAs, and those of the plan without its reserve.
 #[tactic(auto, unfolding(crate::specs::Lines::gen_line))]
 pub fn gen_line(
     alloc: Global,
@@ -82,7 +82,8 @@ pub fn gen_line(
     Ok(text.into_bytes())
 }
 
-/// Returns the printed line on an accepted certificate: the needed CSAs, and those of the plan.
+/// Returns the line on an accepted certificate: the needed CSAs, and the plan's without its
+/// reserve.
 #[tactic(auto, unfolding(crate::specs::Lines::certified_line))]
 pub fn certified_line(alloc: Global, need: u32, areas: u32) -> Result<Vec<u8>, NoMemory>
     ensures { IfOk result (λ line. line.items ≡ certified_line need areas) }
@@ -176,7 +177,7 @@ pub fn refused_task_line(
     Ok(line)
 }
 
-/// Returns the printed line on tasks whose needs together exceed the CSAs of the plan.
+/// Returns the printed line on tasks whose needs together exceed the CSAs without the reserve.
 #[tactic(auto, unfolding(crate::specs::Lines::refused_sum_line))]
 pub fn refused_sum_line(alloc: Global, sum: u64, areas: u32) -> Result<Vec<u8>, NoMemory>
     ensures { IfOk result (λ line. line.items ≡ refused_sum_line sum areas) }

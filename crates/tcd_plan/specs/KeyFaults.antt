@@ -25,20 +25,19 @@ lacks_key r o = not (may_key_be_absent r.form) && is_none (get r.name o)
 abbrev pub is_key_value_bad : KeyRow → Data → Bool
 is_key_value_bad r o = not (has_value_form r.form r.name o)
 
--- in the objects that a parent names, a key of this name isn't refused as unknown: a row of the
--- table of keys has it
+-- the table of keys has a key of this name for a parent, so it isn't refused as unknown
 abbrev pub is_known_key : KeyParent → List ℕ → Bool
 is_known_key h name = list_any (is_row_of_key h name) key_rows
 
--- an object has a key that isn't one of its own
+-- an object has a key that the table doesn't have for its parent
 abbrev pub has_unknown_key : KeyParent → Data → Bool
 has_unknown_key h o = not (list_all (is_known_key h) (json_object_keys o))
 
--- the key with this number, as a fault of a document names it
+-- the key of a plan with this number, as a refusal names it
 abbrev pub plan_key_of : ℕ → PlanKey
 plan_key_of key = record { 0 = key }
 
--- the first key of the list for which an object that it is in meets the test
+-- the key of the first row of the table for which an object that the key is in meets the test
 abbrev pub first_key_where : (KeyRow → Data → Bool) → Data → Option PlanKey
 first_key_where test d = option_map (λ r. plan_key_of r.key) (find (λ r. list_any (test r) (plan_objects_of r.parent d)) key_rows)
 
@@ -46,7 +45,7 @@ first_key_where test d = option_map (λ r. plan_key_of r.key) (find (λ r. list_
 unfoldable pub first_missing_key : Data → Option PlanKey
 first_missing_key d = first_key_where lacks_key d
 
--- the first object, or array of objects, with a key that isn't one of its own
+-- the key of the first object, or array of objects, with a key that the table doesn't have for it
 unfoldable pub first_object_with_unknown_key : Data → Option PlanKey
 first_object_with_unknown_key d = option_map (λ h. plan_key_of (parent_key h)) (find (λ h. list_any (has_unknown_key h) (plan_objects_of h d)) key_parents)
 

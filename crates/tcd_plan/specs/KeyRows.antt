@@ -60,12 +60,11 @@ key_rows =
     key_row 31 Root (codes "core") CoreText ∷
     []
 
--- the objects that the rows of the table of keys are in, in the order in which their keys are
--- printed
+-- the objects, and arrays of objects, that the rows of the table of keys are in, by their own keys
 abbrev pub key_parents : List KeyParent
 key_parents = Root ∷ Rom ∷ Ram ∷ Devices ∷ Csa ∷ Start ∷ Globals ∷ []
 
--- for the rows of the table of keys: the number of the key that an object has in the document
+-- the number of the key at which a plan's document has a parent of keys; 0 for the whole document
 abbrev pub parent_key : KeyParent → ℕ
 parent_key Root = 0
 parent_key Rom = 1
@@ -80,6 +79,6 @@ parent_key Globals = 26
 abbrev pub has_matching_key_text : KeyRow → Bool
 has_matching_key_text r = bytes_eq (key_text_of r.key) (if parent_key r.parent == 0 then r.name else key_text_of (parent_key r.parent) ++ codes "." ++ r.name)
 
--- a row is of this key of the object
+-- a row of the table is of the key with this name in a parent's objects
 abbrev pub is_row_of_key : KeyParent → List ℕ → KeyRow → Bool
 is_row_of_key h name r = (parent_key r.parent == parent_key h) && bytes_eq r.name name

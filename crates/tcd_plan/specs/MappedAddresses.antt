@@ -17,13 +17,13 @@ IsInAreas plan x = (plan.csa_at ≤ x) × (x < plan.csa_at + 64 * plan.areas)
 abbrev pub IsMappedBy : PlanData → ℕ → Type 0
 IsMappedBy plan x = IsInOneRange x 1 plan.rom ⊎ IsInOneRange x 1 plan.ram ⊎ IsInAreas plan x
 
--- the input is one that the peripheral regions of a plan can answer: it is within the bounds of
--- each peripheral that has the four bytes at x
+-- each peripheral that has the four bytes at x may answer with this input: it is within the
+-- peripheral's bounds
 abbrev pub MayAnswerAt : ℕ → ℕ → List Device → Type 0
 MayAnswerAt x input ds = All (λ d. IsWithinRange x 4 d.range → (d.lo ≤ input) × (input ≤ d.hi)) ds
 
--- the input is one that the peripheral regions of a plan can answer to this load: a word that is
--- loaded from a peripheral is within the peripheral's bounds
+-- an event with this load may have this input: a word that is loaded from a peripheral is within
+-- the peripheral's bounds
 abbrev pub MayAnswerLoad : PlanData → ℕ → Option (ℕ × ℕ) → Type 0
 MayAnswerLoad plan input load = IfSome load (λ l. l.1 ≡ 4 → MayAnswerAt l.0 input plan.devices)
 

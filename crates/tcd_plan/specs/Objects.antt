@@ -17,7 +17,7 @@ array_objects_at name d = if is_some_and (list_all is_object) (json_elements_at 
 abbrev pub single_object_at : List ℕ → Data → List Data
 single_object_at name d = if is_some_and is_object (get name d) then option_to_list (get name d) else []
 
--- the objects that a parent names
+-- the objects that a plan's document has for a parent of keys
 abbrev pub plan_objects_of : KeyParent → Data → List Data
 plan_objects_of Root d = d ∷ []
 plan_objects_of Rom d = array_objects_at (codes "rom") d

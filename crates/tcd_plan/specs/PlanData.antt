@@ -143,7 +143,7 @@ pub record IsPlan (p : PlanData) : Type 0 where
 abbrev pub is_plan_irq : PlanData → ℕ → Bool
 is_plan_irq plan irq = list_any (λ q. q == irq) plan.irqs
 
--- the word that a plan's data has for the start of A0, A1, A8 or A9, by the register's number
+-- the word that a plan's data has for A0, A1, A8 or A9 at the start: register 16, 17, 24 or 25
 abbrev pub global_of : PlanData → ℕ → ℕ
 global_of p r = slice_index p.globals (if r == 16 then 0 else if r == 17 then 1 else if r == 24 then 2 else 3)
 
@@ -151,17 +151,17 @@ global_of p r = slice_index p.globals (if r == 16 then 0 else if r == 17 then 1 
 abbrev pub are_ranges_within_limits : List Range → Bool
 are_ranges_within_limits rs = nat_le (length rs) 16 && nat_le (sum_by (λ r. r.len) rs) (2 ^ 22)
 
--- of several refusals of a plan, the first that is there
+-- the first value in a list of options, such as the first of several refusals that applies
 abbrev pub first_some : {T : Type 0} → List (Option T) → Option T
 first_some [] = None
 first_some (o ∷ os) = option_or o (first_some os)
 
--- the key with this number, of an array in a plan's data that isn't within its limits
+-- the key with this number, of an array in a plan's data, unless the array is within its limits
 abbrev pub key_unless : Bool → ℕ → Option PlanKey
 key_unless few key = if few then None else Some (plan_key_of key)
 
--- for each array in a plan's data its key, if the array has too many elements, or too many bytes in
--- its ranges
+-- for each array in a plan's data: its key if the array has too many elements, or too many bytes in
+-- its ranges, else None
 abbrev pub keys_over_limit : PlanData → List (Option PlanKey)
 keys_over_limit p =
     key_unless (are_ranges_within_limits p.rom) 1 ∷

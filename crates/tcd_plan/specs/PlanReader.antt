@@ -67,7 +67,7 @@ unchecked_plan_of d = record {
 abbrev pub refusal_if : Bool → PlanErr → Option PlanErr
 refusal_if b e = if b then Some e else None
 
--- the refusals of a plan's document that apply, in the order of their numbers
+-- the refusals of a plan's document in the order of their numbers, each None unless it applies
 abbrev pub plan_refusals : Data → List (Option PlanErr)
 plan_refusals d =
     refusal_if (not (is_object d)) NotJson ∷
@@ -88,12 +88,12 @@ plan_refusal d = first_some (plan_refusals d)
 abbrev pub plan_of : Data → Result PlanData PlanErr
 plan_of d = option_map_or Err (plan_refusal d) (Ok (unchecked_plan_of d))
 
--- the bytes are the text of a document, as serde_json reads it, that gives the answer
+-- the bytes are the text of a document, as serde_json reads it, whose plan or first refusal is r
 abbrev pub GivesPlan : List ℕ → Result PlanData PlanErr → Type 0
 GivesPlan bytes r = (d : Data) × IsUtf8 bytes × (read bytes ≡ Some d) × (plan_of d ≡ r)
 
--- an answer for a file's bytes: NotJson if they are not the text of a JSON object, else the
--- document's answer; out of memory is always possible
+-- a result for a file's bytes: NotJson if they are no text of a JSON object, else the document's;
+-- out of memory is always possible
 abbrev pub IsPlanResult : List ℕ → Result PlanData PlanErr → Type 0
 IsPlanResult bytes (Err NoMemory) = Unit {0}
 IsPlanResult bytes (Err NotJson) = (d : Data) → IsUtf8 bytes → read bytes ≡ Some d → plan_of d ≡ Err NotJson

@@ -8,7 +8,7 @@ use Rattle.tcd_plan.specs.JsonValues.{is_object, is_json_text, json_number_at, j
 use Rattle.tcd_plan.specs.declared.key_table.ValueForm.{ValueForm}
 use Rattle.tcd_plan.specs.declared.key_table.ValueForm.TheVariants.{Ranges, Objects, Object, At, Len, Hi, Word, Byte, Truth, Irqs, Traps, CoreText}
 
--- a value has its form: it is there, and passes the test of the form
+-- there is a value, and it passes the test
 abbrev pub is_some_and : {T : Type 0} → (T → Bool) → Option T → Bool
 is_some_and test o = option_map_or test o false
 

@@ -35,7 +35,7 @@ fn push_cut_range(ranges: &mut ArrayVec<Range, 32>, r: &Range, x: u32, n: u32)
     push_range_between(ranges, (block + u64::from(n)).max(start), end);
 }
 
-// Appends the range from one address up to another, if it has a byte.
+// Appends the range from address `from` up to, without, `upto`, if it has a byte.
 fn push_range_between(ranges: &mut ArrayVec<Range, 32>, from: u64, upto: u64)
     requires room { length ranges.old.items < 32 }
     requires end { upto ≤ 2 ^ 32 }

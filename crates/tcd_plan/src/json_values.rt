@@ -8,7 +8,7 @@ ghost use Rattle.tcd_plan.specs.JsonValues.{is_json_hex, is_json_text, json_numb
 use serde_json::Value;
 
 #[tactic(auto, using(crate::proofs::ViewLemmas::list_of_items))]
-/// Returns the elements of the JSON array at a key of an object.
+/// Returns the elements of the JSON array at a key of an object, or None if there is none.
 pub fn json_elements_at<'a>(value: &'a Value, name: &str) -> Option<&'a [Value]>
     ensures { option_map (λ s. map view s.now) result ≡ json_elements_at name.now (view value.now) }
 {
@@ -33,7 +33,7 @@ pub fn json_word_at(value: &Value, name: &str) -> u32
     json_number_at(value, name).unwrap_or(0)
 }
 
-/// Returns the number at a key of the object at another key, or 0 if there is none.
+/// Returns the number at the key `name` of the object at the key `outer`, or 0 if there is none.
 pub fn json_nested_number(value: &Value, outer: &str, name: &str) -> u32
     ensures { result ≡ json_nested_number outer.now name.now (view value.now) }
 {
@@ -50,8 +50,8 @@ pub fn json_number_at(value: &Value, name: &str) -> Option<u32>
     value.get(name).and_then(json_number_of)
 }
 
-/// Returns the number that a value is: a JSON number that is an unsigned integer of 32 bits, or a
-/// text `0x` with 1 to 8 hex digits.
+/// Returns the number that a value is, or None: an unsigned integer of 32 bits, or a text `0x` with
+/// 1 to 8 hex digits.
 pub fn json_number_of(value: &Value) -> Option<u32>
     ensures { result ≡ json_number_of (view value.now) }
 {
@@ -62,7 +62,7 @@ pub fn json_number_of(value: &Value) -> Option<u32>
     }
 }
 
-/// Returns the elements of the array with this key in the document.
+/// Returns the elements of the JSON array at a key of an object; none if no array is there.
 pub fn json_elements_or_empty<'a>(value: &'a Value, name: &str) -> &'a [Value]
     ensures { map view result.now ≡ json_elements_or_empty name.now (view value.now) }
 {
@@ -76,7 +76,7 @@ pub fn has_json_text(places: &[Value], text: &str) -> bool
     places.iter().any(|place| is_json_text(place, text))
 }
 
-/// Reads a number below 256 at a key of an object in the document.
+/// Returns the number, below 256, at the key `name` of the object at the key `outer`; 0 if none.
 pub fn json_nested_byte(value: &Value, outer: &str, name: &str) -> u8
     requires { json_nested_number outer.now name.now (view value.now) < 2 ^ 8 }
     ensures { result ≡ json_nested_number outer.now name.now (view value.now) }
@@ -84,7 +84,7 @@ pub fn json_nested_byte(value: &Value, outer: &str, name: &str) -> u8
     json_nested_number(value, outer, name) as u8
 }
 
-/// Returns the number that a JSON text spells: `0x` with 1 to 8 hex digits.
+/// Returns the number that a JSON text spells, or None: `0x` with 1 to 8 hex digits.
 fn json_text_number(text: &[u8]) -> Option<u32>
     ensures { result ≡ json_text_number text.now }
 {
@@ -96,8 +96,8 @@ fn json_text_number(text: &[u8]) -> Option<u32>
     }
 }
 
-/// Returns the number that a JSON text has after its `0x`, in up to 8 hex digits of either case;
-/// `None` if another character is there.
+/// Returns the number that up to 8 hex digits of either case spell, as after a JSON text's `0x`;
+/// None if another character is there.
 fn json_hex_value(digits: &[u8]) -> Option<u32>
     requires { length digits.now ≤ 8 }
     ensures { result ≡

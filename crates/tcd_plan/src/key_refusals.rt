@@ -15,7 +15,7 @@ use crate::key_table::{
 use crate::object_forms::{has_value_form, plan_objects_of};
 use serde_json::{Map, Value};
 
-/// Returns the first key that an object lacks.
+/// Returns the first key of the table that an object of the document lacks, or None.
 pub fn first_missing_key(value: &Value) -> Option<PlanKey>
     ensures { result ≡ first_missing_key (view value.now) }
 {
@@ -26,7 +26,7 @@ pub fn first_missing_key(value: &Value) -> Option<PlanKey>
     )
 }
 
-/// Returns the first key whose value doesn't have its form.
+/// Returns the first key of the table whose value in an object doesn't have its form, or None.
 pub fn first_bad_key(value: &Value) -> Option<PlanKey>
     ensures { result ≡ first_bad_key (view value.now) }
 {
@@ -37,7 +37,7 @@ pub fn first_bad_key(value: &Value) -> Option<PlanKey>
     )
 }
 
-/// Returns the first object, or array of objects, with a key that isn't one of its own.
+/// Returns the key of the first object, or array of objects, that has an unknown key; or None.
 pub fn first_object_with_unknown_key(value: &Value) -> Option<PlanKey>
     ensures { result ≡ first_object_with_unknown_key (view value.now) }
 {
@@ -48,29 +48,28 @@ pub fn first_object_with_unknown_key(value: &Value) -> Option<PlanKey>
     )
 }
 
-/// Returns true if an object is refused since it lacks the row's key, which may not be absent.
+/// Returns true if an object lacks the row's key, and this key may not be absent.
 pub fn lacks_key(row: &Row, object: &Value) -> bool
     ensures { result ≡ lacks_key (row_of row.now) (view object.now) }
 {
     !may_key_be_absent(row.form) && object.get(row.name).is_none()
 }
 
-/// Returns true if no object is refused for lacking a key of this form: `core` alone may be absent.
+/// Returns true if a key whose value has this form may be absent: only `core` may.
 pub(crate) fn may_key_be_absent(form: ValueForm) -> bool
     ensures { result ≡ may_key_be_absent form }
 {
     matches!(form, ValueForm::CoreText)
 }
 
-/// Returns the key that a refusal names: that of the first row of the table that has the fault, if
-/// there is such a row.
+/// Returns the key of the row that a refusal is for, or None if there is no such row.
 fn key_of_refused_row(row: Option<&Row>) -> Option<PlanKey>
     ensures { result ≡ option_map (λ r. plan_key_of r.now.key) row.entry }
 {
     row.map(|row| PlanKey(row.key))
 }
 
-/// Returns true if an object of the plan that should have the row's key lacks it.
+/// Returns true if an object that the row's key belongs in lacks the key.
 fn has_object_without_key(row: &Row, value: &Value) -> bool
     ensures { result ≡ list_any (lacks_key (row_of row.now))
         (plan_objects_of row.now.parent (view value.now)) }
@@ -80,7 +79,7 @@ fn has_object_without_key(row: &Row, value: &Value) -> bool
         .any(|object| lacks_key(row, object))
 }
 
-/// Returns true if the value of the row's key in one of the parent's objects doesn't have its form.
+/// Returns true if an object that the row's key belongs in has a value of another form for the key.
 fn has_object_with_bad_value(row: &Row, value: &Value) -> bool
     ensures { result ≡ list_any (is_key_value_bad (row_of row.now))
         (plan_objects_of row.now.parent (view value.now)) }
@@ -90,14 +89,14 @@ fn has_object_with_bad_value(row: &Row, value: &Value) -> bool
         .any(|object| !has_value_form(row.form, row.name, object))
 }
 
-/// Returns the key of a parent, if there is one.
+/// Returns the key at which the plan has this parent of keys, or None if there is no parent.
 fn key_of_parent(parent: Option<&KeyParent>) -> Option<PlanKey>
     ensures { result ≡ option_map (λ h. plan_key_of (parent_key h.now)) parent.entry }
 {
     parent.map(|parent| PlanKey(parent_key(*parent)))
 }
 
-/// Returns true if one of a parent's objects has a key that isn't one of its own.
+/// Returns true if one of a parent's objects has a key that isn't in the table for them.
 fn has_object_with_unknown_key(parent: KeyParent, value: &Value) -> bool
     ensures { result ≡ list_any (has_unknown_key parent) (plan_objects_of parent (view value.now)) }
 {
@@ -106,7 +105,7 @@ fn has_object_with_unknown_key(parent: KeyParent, value: &Value) -> bool
         .any(|object| has_unknown_key(parent, object))
 }
 
-/// Returns true if an object has a key that isn't one of its parent's.
+/// Returns true if an object has a key that the table doesn't have for its parent.
 fn has_unknown_key(parent: KeyParent, object: &Value) -> bool
     ensures { result ≡ has_unknown_key parent (view object.now) }
 {
@@ -116,7 +115,7 @@ fn has_unknown_key(parent: KeyParent, object: &Value) -> bool
     }
 }
 
-/// Returns true if all members of an object are keys of its parent.
+/// Returns true if the table has all keys of an object for its parent.
 fn are_known_keys(parent: KeyParent, members: &Map<String, Value>) -> bool
     ensures { result ≡ list_all (λ name. is_known_key parent (string_bytes name))
         (keys members.now) }
@@ -126,7 +125,7 @@ fn are_known_keys(parent: KeyParent, members: &Map<String, Value>) -> bool
         .all(|name| is_known_key(parent, name.as_str()))
 }
 
-/// Returns true if a parent's objects can have the key with this name.
+/// Returns true if the table has the key with this name for a parent.
 fn is_known_key(parent: KeyParent, name: &str) -> bool
     ensures { result ≡ is_known_key parent name.now }
 {

@@ -286,14 +286,14 @@ pub fn key_table_rows() -> &'static [Row]
     &ROWS
 }
 
-/// Returns the objects of a document, in the order in which their keys are printed.
+/// Returns the objects, and arrays of objects, of a plan that keys are in, by ascending keys.
 pub fn key_parents() -> &'static [KeyParent]
     ensures { result.now ≡ key_parents }
 {
     &KEY_PARENTS
 }
 
-/// Returns the number of the key that an object has in the document.
+/// Returns the number of the key at which the plan has a parent of keys; 0 for the whole document.
 pub fn parent_key(parent: KeyParent) -> u8
     ensures { result ≡ parent_key parent }
 {
@@ -308,7 +308,7 @@ pub fn parent_key(parent: KeyParent) -> u8
     }
 }
 
-/// Returns true if a row of the table is of the key with this name in the parent's objects.
+/// Returns true if a row of the table is of the key with this name in a parent's objects.
 pub(crate) fn is_row_of_key(row: &Row, parent: KeyParent, name: &str) -> bool
     ensures { result ≡ is_row_of_key parent name.now (row_of row.now) }
 {

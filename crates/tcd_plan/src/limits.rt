@@ -54,8 +54,8 @@ pub fn has_even_vectors(value: &Value) -> bool
     json_word_at(value, "biv") % 2 == 0 && json_word_at(value, "btv") % 2 == 0
 }
 
-/// Returns the first pair of ranges that share a byte, numbered over rom, ram, peripherals and the
-/// save areas.
+/// Returns the refusal for the first pair of ranges that share a byte, numbered over rom, ram,
+/// peripherals and the save areas; or None.
 pub fn plan_range_overlap(value: &Value) -> Option<PlanErr>
     requires { HasShortPlanArrays (view value.now) }
     ensures { result ≡ plan_range_overlap (unchecked_plan_of (view value.now)) }
@@ -76,7 +76,7 @@ fn are_ranges_within_limits(objects: &[Value]) -> bool
     objects.len() <= 16 && total_len(objects) <= 1 << 22
 }
 
-/// Returns the number of bytes in all ranges together.
+/// Returns the number of bytes in all ranges that these objects of a plan's document give.
 fn total_len(objects: &[Value]) -> u64
     requires { length objects.now ≤ 16 }
     ensures { result ≡ sum_by (λ r. r.len) (map plan_range_of (map view objects.now)) }
@@ -118,7 +118,7 @@ fn first_overlap(ranges: &[Range]) -> Option<PlanErr>
     None
 }
 
-/// Returns the place of the first of the others that shares a byte with a range.
+/// Returns the index of the first of the others that shares a byte with a range, or None.
 fn first_overlapping_range(range: Range, others: &[Range]) -> Option<usize>
     ensures value { result ≡ position (λ other. not (are_ranges_disjoint range other)) others.now }
     ensures within { IfSome result (λ k. k < length others.now) }

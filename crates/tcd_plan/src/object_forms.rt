@@ -13,8 +13,8 @@ use crate::key_table::{KeyParent, ValueForm};
 use serde_json::Value;
 use std::slice;
 
-/// Returns the objects of a document that a parent names, whose values are then tested for their
-/// forms. An array with an element that is no object has none.
+/// Returns the objects that a plan's document has for a parent of keys. An array with an element
+/// that is no object has none.
 pub fn plan_objects_of(parent: KeyParent, value: &Value) -> &[Value]
     ensures { map view result.now ≡ plan_objects_of parent (view value.now) }
 {
@@ -29,7 +29,7 @@ pub fn plan_objects_of(parent: KeyParent, value: &Value) -> &[Value]
     }
 }
 
-/// Returns true if the value of a key in an object has the form.
+/// Returns true if the value of the key `name` in an object has the form.
 pub fn has_value_form(form: ValueForm, name: &str, object: &Value) -> bool
     ensures { result ≡ has_value_form form name.now (view object.now) }
 {
@@ -54,8 +54,8 @@ pub fn has_value_form(form: ValueForm, name: &str, object: &Value) -> bool
     }
 }
 
-/// Returns the objects of a document in the array at a key, so that their values can be tested;
-/// none unless the value is an array of objects alone.
+/// Returns the elements of the array at a key of a document; an empty slice unless the value is an
+/// array of objects alone.
 fn array_objects_at<'a>(value: &'a Value, name: &str) -> &'a [Value]
     ensures { map view result.now ≡ array_objects_at name.now (view value.now) }
 {
@@ -65,8 +65,8 @@ fn array_objects_at<'a>(value: &'a Value, name: &str) -> &'a [Value]
     }
 }
 
-/// Returns the object of a document at one key, as a list of one, so that its values can be tested;
-/// the list is empty if no object is there.
+/// Returns the object at a key of a document as a slice of one; an empty slice if no object is
+/// there.
 fn single_object_at<'a>(value: &'a Value, name: &str) -> &'a [Value]
     ensures { map view result.now ≡ single_object_at name.now (view value.now) }
 {
@@ -106,8 +106,8 @@ fn are_irqs(places: &[Value]) -> bool
     true
 }
 
-/// Tests the form of an object's value: returns true if the elements of `traps` are only `sys` and
-/// `aln`, each at most once.
+/// Returns true if the value of `traps` has its form: the elements are only `sys` and `aln`, each
+/// at most once.
 fn are_traps(places: &[Value]) -> bool
     ensures { result ≡ are_traps (map view places.now) }
 {

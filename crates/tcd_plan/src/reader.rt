@@ -17,7 +17,7 @@ use serde_json::{Error, Value};
 use std::alloc::Global;
 
 impl Plan {
-    /// Reads a plan from the bytes of a file. Only the reader of JSON allocates.
+    /// Reads a plan from a file's bytes, or gives the first refusal. Only reading JSON allocates.
     pub fn read(alloc: Global, bytes: &[u8]) -> Result<Plan, PlanErr>
         requires { length bytes.now ≤ 2 ^ 30 }
         ensures answer { IsPlanResult bytes.now result }
@@ -52,8 +52,8 @@ fn plan_of(value: &Value) -> Result<Plan, PlanErr>
     }
 }
 
-/// Returns why the reader of plans refuses a document, if it does: the first refusal that applies,
-/// in the order of the refusals' numbers.
+/// Returns the first refusal of a plan's document that applies, in the order of their numbers, or
+/// None.
 #[tactic(auto, unfolding(crate::specs::PlanReader::plan_refusal))]
 fn plan_refusal(value: &Value) -> Option<PlanErr>
     ensures { result ≡ plan_refusal (view value.now) }
@@ -82,7 +82,7 @@ fn plan_refusal(value: &Value) -> Option<PlanErr>
     plan_range_overlap(value)
 }
 
-/// Reads the whole plan from a document that isn't refused.
+/// Returns the plan in a document that isn't refused, and tests nothing again.
 #[tactic(auto, unfolding(crate::specs::PlanReader::unchecked_plan_of))]
 fn unchecked_plan_of(value: &Value) -> Plan
     requires { plan_refusal (view value.now) ≡ None }

@@ -45,8 +45,8 @@ pub data Reading : Type 1 where
   answer : (Report → Type 0) → Reading
   input : (A : Type 0) → FormSeen A → List ℕ → (A → Reading) → Reading
 
--- the input files of these names are read in order, each in the form for its place, and then the
--- rest is read
+-- the input files of these names, numbered from `place` on, each in the form of its number; all
+-- their values are given to `next`
 abbrev pub input_files : (A : Type 0) → (ℕ → FormSeen A) → ℕ → List (List ℕ) → (List A → Reading) → Reading
 input_files A form place [] next = next []
 input_files A form place (name ∷ names) next = input A (form place) name (λ x. input_files A form (place + 1) names (λ xs. next (x ∷ xs)))
@@ -64,8 +64,7 @@ abbrev pub HoldsNeededInputs : Reading → Option FileMap → Type 0
 HoldsNeededInputs (answer IsReport) held = Unit {0}
 HoldsNeededInputs (input A form name next) held = HasFileOfName held name × ((x : A) → HoldsInput form held name x → HoldsNeededInputs (next x) held)
 
--- the files are steady and hold each input that the command needs, so reading its inputs never
--- fails
+-- no read of the command's inputs fails: the files are steady and hold each input that it needs
 pub record HasAllInputs (reading : Reading) (files : FilesSeen) : Type 0 where
   pub steady : IsTrue files.steady
   pub hold : HoldsNeededInputs reading files.held

@@ -19,7 +19,8 @@ IsReportOutcome IsReport MayFail (Err (stop.BadInput line)) = IsReport (text_rep
 IsReportOutcome IsReport MayFail (Err stop.Unread) = MayFail
 IsReportOutcome IsReport MayFail (Err stop.NoMemory) = Unit {0}
 
--- an input that isn't in its form stops a command, with one of these lines
+-- a command stops: with one of these lines for a bad input, on a failed read if that can happen, or
+-- out of memory
 abbrev pub IsBadInputStop : (List ℕ → Type 0) → Type 0 → Stop → Type 0
 IsBadInputStop IsLine MayFail (stop.BadInput line) = IsLine line.items
 IsBadInputStop IsLine MayFail stop.Unread = MayFail

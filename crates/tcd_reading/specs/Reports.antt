@@ -20,7 +20,7 @@ pub record Report : Type 0 where
 abbrev pub IsReportStatus : Status → Type 0
 IsReportStatus s = (s ≡ Done) ⊎ ((s ≡ Refused) ⊎ (s ≡ BadInput))
 
--- a command's report that writes nothing: a status and a text to print
+-- a command's report that writes no file: a status and a text to print
 abbrev pub text_report : Status → List ℕ → Report
 text_report status text = record { status = status; text = text; writes = [] }
 

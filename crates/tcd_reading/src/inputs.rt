@@ -58,8 +58,8 @@ pub fn read_input<I: Form, F: Files>(
     }
 }
 
-// Returns why a command stops at an input file that wasn't read: the file is too long, reading
-// failed, or memory ran out.
+// Returns the stop of a command at an input file that wasn't read: too long, failed, or out of
+// memory.
 fn stop_for_file_error<I: Form>(form: &I, alloc: Global, e: FileErr) -> Stop
     ensures { IsBadInputStop (λ t. (e ≡ FileErr.TooLong) × (t ≡ (I.form form.now).too_long_line))
         (e ≡ FileErr.Failed) result }

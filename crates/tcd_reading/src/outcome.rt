@@ -157,8 +157,8 @@ pub fn finish_outcome<F: Files, S: Sink>(
     }
 }
 
-/// Returns the stop of a command at an input that isn't in its form, with the printed line, or the
-/// stop for lack of memory.
+/// Returns the stop of a command at an input that isn't in its form, with the line to print. If
+/// `line` is an error, the stop is for lack of memory.
 pub fn bad_input_stop(line: Result<Vec<u8>, NoMemory>) -> Stop
     ensures stops { IsBadInputStop (λ t. IsOkAnd line (λ l. t ≡ l.items)) ⊥ result }
     ensures sure { IsOk line → result ≢ Stop.NoMemory }

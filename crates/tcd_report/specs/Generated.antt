@@ -14,7 +14,7 @@ use Rattle.tc_isa.specs.Spelling.{spelling}
 use Rattle.elf_image.specs.Images.{ImageData, SegmentData}
 
 -- ---- instructions
--- the bytes of the instruction with this name and these fields c, s1, s2, n and k
+-- the bytes of the instruction of this name and these fields c, s1, s2, n, k; none without a row
 unfoldable pub generated_code : List ℕ → Fields → List ℕ
 generated_code name f = option_map_or (λ r. spelling r f) (find (λ r. bytes_eq r.name name) table_rows) []
 

@@ -67,12 +67,12 @@ abbrev pub graph_line : Key → ℕ → Arrow → List ℕ
 graph_line key p a = line_front key p ++ arrow_end a
 
 -- ---- the arrows of a point
--- for the graph's `to` lines: the address in the frame that a duty leads to, as a list
+-- the address in the frame that a duty leads to, as a list, for the graph's `to` lines; else none
 abbrev pub jump_target_of_duty : Duty → List ℕ
 jump_target_of_duty (jump q t) = q ∷ []
 jump_target_of_duty _ = []
 
--- for the graph's lines: the entry of the frame that a duty asks to enter, as a list
+-- for the graph's lines: the entry of the frame that a duty asks to enter; none for other duties
 abbrev pub entry_of_duty : Duty → List ℕ
 entry_of_duty (enter k t) = k.entry ∷ []
 entry_of_duty _ = []
@@ -106,7 +106,7 @@ abbrev pub unique_addresses : List ℕ → List ℕ
 unique_addresses [] = []
 unique_addresses (x ∷ xs) = x ∷ filter (λ y. not (y == x)) (unique_addresses xs)
 
--- the arrow of a point's own return in the graph, if the instruction is one
+-- the arrow `ret` or `rfe` of a point, as a list: empty unless the instruction is a return
 abbrev pub return_arrow_of : Shape → List Arrow
 return_arrow_of shape.Ret = goes ret ∷ []
 return_arrow_of shape.Rfe = goes rfe ∷ []
@@ -235,7 +235,7 @@ pub record AreEdges (cert : CertData) (ds : List Owed) (w : Edges) : Type 0 wher
 abbrev pub lines_to : List ℕ → List ℕ → List ℕ → List ℕ
 lines_to front word targets = flat_map (λ q. front ++ line_end_to word q) targets
 
--- the text of a point's lines in the graph with this front, except that of its own return
+-- the text of a point's lines in the graph with this front, except one of `ret` or `rfe`
 abbrev pub edge_lines_text : List ℕ → Edges → List ℕ
 edge_lines_text front w =
     lines_to front (codes "to ") w.to.items
@@ -245,7 +245,7 @@ edge_lines_text front w =
     ++ (lines_to front (codes "aln ") w.aln.items
     ++ lines_to front (codes "irq ") w.irq.entries.items))))
 
--- the text of the graph's line of a point's own return, if the instruction is one
+-- the text of the graph's line that ends with `ret` or `rfe`, if the instruction is a return
 abbrev pub return_line_text : List ℕ → Shape → List ℕ
 return_line_text front Ret = front ++ (codes "ret" ++ 10 ∷ [])
 return_line_text front Rfe = front ++ (codes "rfe" ++ 10 ∷ [])

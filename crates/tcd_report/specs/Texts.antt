@@ -7,8 +7,8 @@ unfoldable pub use Rattle.depth_cert.specs.Keys.{key_kind_text}
 use Rattle.depth_cert.specs.declared.keys.Key.{Key}
 use Rattle.std.specs.List.{flat_map}
 
--- the text of a frame's key in graph and report: its kind, its entry, its priority, and whether the
--- interrupt stack is in use
+-- the name of a frame in graph and report, the text of its key: kind, entry, priority, and whether
+-- the interrupt stack is in use
 unfoldable pub frame_name : Key → List ℕ
 frame_name key = key_kind_text key.kind ++ (hex_word key.entry ++ (codes " prio " ++ (decimal key.prio ++ (codes " is " ++ ((if key.is then 49 else 48) ∷ [])))))
 

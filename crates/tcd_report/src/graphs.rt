@@ -21,10 +21,10 @@ pub(crate) mod handlers;
 pub(crate) mod lines;
 pub(crate) mod successors;
 
-/// The graph of an accepted certificate: one line for each way on from each point, in the order of
-/// keys and addresses. The lines of a point are in this order: jumps and calls by ascending
-/// address, returns of callees, system call, misaligned access, interrupts by ascending priority,
-/// its own return. No line is there twice, and each ends with a line feed.
+/// Returns the graph of an accepted certificate as text: one line for each way on from a point, in
+/// the order of keys and addresses. A point has, in order: jumps and calls by ascending address,
+/// returns of callees, system call, misaligned access, interrupts by ascending priority, its
+/// return. No line is there twice, and each ends with a line feed.
 pub fn graph(alloc: Global, image: &Image, plan: &Plan, cert: &Cert) -> Result<String, NoMemory>
     requires { Accepts image.now plan.now cert.now }
     ensures { IfOk result (λ text. IsGraph image.now plan.now cert.now (string_bytes text)) }

@@ -19,9 +19,9 @@ pub(crate) mod heights;
 pub(crate) mod longest_by_priority;
 pub(crate) mod report_text;
 
-/// The report of an accepted certificate: one compact JSON object with its keys in byte order, and
-/// a line feed. It has the CSAs, the longest call chain of each priority, the certified need, the
-/// nodes with their needs and numbers of points, and the CSAs that are kept in reserve.
+/// Returns the report of an accepted certificate: one compact JSON object with its keys in byte
+/// order, and a line feed. It has the CSAs, the reserve, the longest call chain of each priority,
+/// the certified need, and the nodes with needs and numbers of points.
 pub fn report(alloc: Global, image: &Image, plan: &Plan, cert: &Cert) -> Result<String, NoMemory>
     requires { Accepts image.now plan.now cert.now }
     ensures { IfOk result (λ text. IsReport image.now plan.now cert.now (string_bytes text)) }

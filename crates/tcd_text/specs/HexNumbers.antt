@@ -5,12 +5,11 @@ use Rattle.std.specs.List.{list_all}
 use Rattle.std.specs.Str.Parse.{digits_value}
 use Rattle.std.specs.Char.{digit_value}
 
--- whether a byte can stand in a hex number, as an upper-case hex digit in ASCII: 0 to 9, A to F
+-- a byte is an upper-case hex digit in ASCII: 0 to 9, A to F
 abbrev pub is_upper_hex : ℕ → Bool
 is_upper_hex c = nat_lt (digit_value c) 16 && nat_lt c 97
 
--- the number that eight upper-case hex digits spell, the highest first: this is how texts of the
--- project write addresses and words
+-- the number that eight upper-case hex digits spell, the highest first; None for any other bytes
 abbrev pub hex_number_of : List ℕ → Option ℕ
 hex_number_of ds = then_some (length ds == 8 && list_all is_upper_hex ds) (digits_value 16 ds)
 

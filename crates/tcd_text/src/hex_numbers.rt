@@ -73,8 +73,8 @@ pub fn append_hex_word(text: &mut String, word: u32) -> Result<(), NoMemory>
     append_ascii(text, &hex_word(word))
 }
 
-/// Returns the number that up to eight upper-case hex digits spell, or `None` if another byte is
-/// among them.
+/// Returns the number that at most eight upper-case hex digits spell, 0 for no digit, or `None` if
+/// another byte is among them.
 fn upper_hex_digits_value(digits: &[u8]) -> Option<u32>
     requires { length digits.now ≤ 8 }
     ensures { result ≡ then_some (list_all is_upper_hex digits.now) (digits_value 16 digits.now) }

@@ -5,8 +5,8 @@ ghost use Rattle.tcd_text.specs.Lines.{text_lines};
 
 use crate::text_parts::{cut_text_after, cut_text_before};
 
-/// Returns the place where the first line of a text ends: its first line feed, or the length of the
-/// text.
+/// Returns the index at which the first line of a text ends: that of its first line feed, or the
+/// length of the text.
 pub(crate) fn line_end(text: &[u8]) -> usize
     ensures end { result ≡ position_or_len (λ c. c == 10) text.now }
     ensures within { result ≤ length text.now }
@@ -29,7 +29,7 @@ pub fn cut_line(text: &[u8]) -> (&[u8], &[u8])
     (cut_text_before(text, end), cut_text_after(text, end))
 }
 
-/// Returns the place of the first line feed of a text, or `None` if there is none.
+/// Returns the index of the first line feed of a text, or `None` if there is none.
 fn find_line_feed(text: &[u8]) -> Option<usize>
     ensures value { result ≡ position (λ c. c == 10) text.now }
     ensures within { IfSome result (λ i. i < length text.now) }

@@ -14,8 +14,7 @@ pub enum Words<'a> {
     More,
 }
 
-/// Returns the place where the first word of a line ends: its first blank, or `None` if the line is
-/// one word.
+/// Returns the index of the first blank of a line, where its first word ends, or `None`.
 pub(crate) fn find_blank(text: &[u8]) -> Option<usize>
     ensures value { result ≡ position is_word_separator text.now }
     ensures within { IfSome result (λ i. i < length text.now) }

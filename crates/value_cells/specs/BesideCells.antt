@@ -21,7 +21,7 @@ unfoldable pub memory_without_cells : List Cell → Memory → Memory
 memory_without_cells [] mem = mem
 memory_without_cells (c ∷ cs) mem = memory_without_word (memory_without_cells cs mem) c.at
 
--- the byte in memory, if it is a cell's; else the input's
+-- the byte in memory, if the flag t says that it is a cell's; else the input's byte b
 abbrev pub cell_byte_or_input : Bool → Option ℕ → ℕ → ℕ
 cell_byte_or_input t o b = if t then unwrap_or o b else b
 

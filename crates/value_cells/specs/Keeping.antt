@@ -29,7 +29,7 @@ pub record AccessKeepsCell (v : Val) (size x : ℕ) (c : Cell) : Type 0 where
   pub at : x ≡ c.at
   pub bounds : (w : ℕ) → IsMember w v → (c.lo ≤ w) × (w ≤ c.hi)
 
--- the access from x keeps each cell that it touches
+-- the store of the value v from x keeps each of these cells whose bytes it touches
 abbrev pub KeepsEachCell : Val → ℕ → ℕ → List Cell → Type 0
 KeepsEachCell v size x cells = All (λ c. TouchesCell x size c → AccessKeepsCell v size x c) cells
 
@@ -54,11 +54,11 @@ pub data FailsRule16At (image : ImageData) (plan : PlanData) (cells : List Cell)
       (node : NodeData) (point : Point) → Contains cert.nodes node → Contains node.points point → (PointKeepsCells (limits_of_cert plan cert) image plan cells point → ⊥)
       → FailsRule16At image plan cells cert node.key point.addr
 
--- the number of a place where K16 can fail: places are ordered by key, then by address
+-- the number by which places where K16 can fail are ordered: by key, then by address
 abbrev pub rule_16_place_number : Key → ℕ → ℕ
 rule_16_place_number k p = number_of_key k * 2 ^ 32 + p
 
--- K16 fails there, and at no lesser key or address
+-- K16 fails at this key and address, and at no lesser key or address
 pub record IsFirstRule16Fault (image : ImageData) (plan : PlanData) (cells : List Cell) (cert : CertData) (k : Key) (p : ℕ) : Type 0 where
   pub breaks : FailsRule16At image plan cells cert k p
   pub least : (j : Key) (x : ℕ) → FailsRule16At image plan cells cert j x → rule_16_place_number k p ≤ rule_16_place_number j x

@@ -66,7 +66,7 @@ impl Cells {
         self.list.as_slice()
     }
 
-    // Returns a list without cells, for a plan that matters to the contract alone.
+    // Returns an empty list of cells for this plan, on which only the contract depends.
     fn new(plan: &Plan) -> Cells
         ensures none { result ≡ [] }
         ensures cells { AreCells plan.now result }
@@ -77,7 +77,8 @@ impl Cells {
         }
     }
 
-    // Adds the cell of line `number`, or returns its error.
+    // Adds the cell that line `number` of a text names. An empty line adds none; else the error is
+    // the line's.
     fn add_line(&mut self, plan: &Plan, number: u32, line: &[u8]) -> Result<(), CellsErr>
         requires { AreCells plan.now self.old }
         ensures ok { OnOk result (AreCellsAfterLine plan.now self.old line.now self.new) }

@@ -50,8 +50,8 @@ pub fn cells_fault(image: &Image, plan: &Plan, cells: &Cells, cert: &Cert) -> Op
     None
 }
 
-/// Returns the first address of a node's points at which K16, the rule on cells, fails, or None if
-/// the rule holds at all of them.
+/// Returns the first address of a node's points at which K16, the rule on cells, fails, or `None`
+/// if the rule holds at each.
 fn first_cell_fault_in_node<'a>(
     rule: &CellsRule,
     codes: &mut KnownCodes,

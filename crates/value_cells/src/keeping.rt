@@ -45,8 +45,8 @@ fn keeps_cell(at: &Val, size: u8, stored: &Val, cell: &Cell) -> bool
     is_cell_kept_at(x, at, fits, cell.at)
 }
 
-/// Returns whether a store to exactly the cell's word keeps its bounds: it is of a whole word, and
-/// all words of the stored value are in the bounds.
+/// Returns whether a store at exactly the cell's address keeps the bounds: its `size` is 4, and all
+/// words of `stored` are within them.
 fn fits_cell(size: u8, stored: &Val, cell: &Cell) -> bool
     requires { IsWellFormed stored.now }
     ensures { IsTrue result ↔ FitsCell stored.now size cell.now }
@@ -54,8 +54,8 @@ fn fits_cell(size: u8, stored: &Val, cell: &Cell) -> bool
     size == 4 && is_within_cell_bounds(stored, cell.lo, cell.hi)
 }
 
-/// Returns whether a store keeps a cell if begun at `x`: `x` is none of its possible addresses, or
-/// is the cell's, and the store fits.
+/// Returns whether a store at `x` keeps the cell at the address `cell`: `x` is no member of `at`;
+/// or `fits`, and `x` is `cell`.
 fn is_cell_kept_at(x: u32, at: &Val, fits: bool, cell: u32) -> bool
     requires { IsWellFormed at.now }
     ensures { IsTrue result ↔ IsCellKeptAt at.now fits cell x }

@@ -4,17 +4,16 @@ ghost use Rattle.value_cells.specs.Laws.{PlanWithCellsIsPlan, RamIsWithoutCells,
 ghost use Rattle.value_cells.specs.Rule16Growth.{CellFaultsAreMonotone, LesserCertKeepsCells};
 ghost use Rattle.value_cells.specs.CellListText.{CellTextHasOneResult};
 
-/// The plan with cells is a plan. The machine without the cells' bytes, whose inputs are the cells'
-/// words, takes the same steps as the machine with them. So if the rules accept a certificate under
-/// that plan, and it keeps the cells, the image is safe under the plan itself, and each cell's word
-/// stays in its bounds.
+/// The plan with cells is a plan. A machine without the cells' bytes, whose inputs are the cells'
+/// words, takes the same steps as the machine with them. So a certificate accepted under the plan
+/// with cells that keeps them makes the image safe under the plan itself, with all cells in bounds.
 pub fn cells_keep_their_bounds()
     ensures plan { PlanWithCellsIsPlan }
     ensures steps { StepsMatchWithoutCells }
     ensures bounds { AcceptedIsSafeWithCells }
 {}
 
-/// In plain words: the ram that is left without cells, and what safe with cells means. A text has
+/// What the definitions of cells mean: the ram without cells, and safe runs with cells. A text has
 /// one list of cells, or one error.
 pub fn cell_guard_laws()
     ensures ram { RamIsWithoutCells }

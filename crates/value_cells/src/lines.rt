@@ -5,8 +5,8 @@ ghost use Rattle.value_cells.specs.CellListText.{cell_of_line, IsCellOfLine};
 use crate::Cell;
 use tcd_text::{Words, hex_number, words_in};
 
-/// Returns the cell of a line, or nothing if the line has another form: four words, an address
-/// that is a multiple of 4, and bounds in order.
+/// Returns the cell of the line `cell AT LO HI`, or `None` for another form, an unaligned address,
+/// or bounds out of order.
 #[tactic(auto, using(crate::proofs::LineForms::more), unfolding(crate::specs::CellListText::cell_of_words, crate::specs::CellListText::cell_of_numbers))]
 pub(crate) fn parse_cell_line(line: &[u8]) -> Option<Cell>
     ensures cell { result ≡ cell_of_line line.now }

@@ -57,7 +57,7 @@ pub fn with_cells(plan: &Plan, cells: &Cells) -> Plan
     }
 }
 
-/// Returns the ranges without the word at an address.
+/// Returns these ranges of ram without the four bytes of the cell at an address.
 fn ranges_without_cell(ranges: &[Range], at: u32) -> ArrayVec<Range, 16>
     requires few { length ranges.now ≤ 16 }
     requires fit { All (λ r. r.at + r.len ≤ 2 ^ 32) ranges.now }

@@ -12,7 +12,8 @@ pub record Limits : Type 0 where
 abbrev pub limits_of : Inside → Limits
 limits_of b = record { thresholds = b.thresholds.items; most_words = b.most_words; most_locals = b.most_locals }
 
--- what holds of all limits
+-- the bounds of all limits: a Set can have from 64 to 128 words at most, and a state at most 8
+-- saved lower contexts
 pub record AreLimits (b : Limits) : Type 0 where
   pub wide : 64 ≤ b.most_words
   pub narrow : b.most_words ≤ 128

@@ -4,7 +4,7 @@ use Rattle.value_domain.specs.declared.values.Val.{Val}
 use Rattle.value_domain.specs.Limits.{Limits}
 use Rattle.value_domain.specs.Values.{cover}
 
--- the meet of abstract values by its words: their cover, or none if there are no words
+-- the cover of these words, the common members of values that meet; none if there are no words
 abbrev pub cover_if_any : Limits → List ℕ → Option Val
 cover_if_any b [] = None
 cover_if_any b (x ∷ xs) = Some (cover b (x ∷ xs))

@@ -13,12 +13,12 @@ AreWellFormed vs = (r : ℕ) → r < length vs → IsWellFormed (slice_index_or 
 abbrev pub AreInLattice : Limits → List Val → Type 0
 AreInLattice b vs = (r : ℕ) → r < length vs → IsInLattice b (slice_index_or vs r any_val)
 
--- each value is below the one at its place in the other list
+-- each abstract value is below the one at its place in the other list, in the lattice
 abbrev pub AreBelow : List Val → List Val → Type 0
 AreBelow vs ws = (r : ℕ) → r < length vs → IsBelow (slice_index_or vs r any_val) (slice_index_or ws r any_val)
 
--- equally many flags of saved lower contexts, and each of the first list implies the one at its
--- place in the second
+-- two lists of flags are equally long, and each flag of the first implies the one at its place in
+-- the second
 abbrev pub FlagsImply : List Bool → List Bool → Type 0
 FlagsImply [] [] = Unit {0}
 FlagsImply [] (y ∷ ys) = ⊥
@@ -29,8 +29,8 @@ FlagsImply (x ∷ xs) (y ∷ ys) = (IsTrue x → IsTrue y) × FlagsImply xs ys
 abbrev pub CoversContext : State → State → Type 0
 CoversContext upper s = (IsTrue s.ie → IsTrue upper.ie) × (upper.ccpn ≤ s.ccpn) × (IsTrue upper.lower → IsTrue s.lower)
 
--- the upper state covers a state: by the values of registers, the context, and the flags of saved
--- lower contexts
+-- the upper state covers the state s: each machine that s allows, upper allows too, by registers,
+-- context and flags of saved lower contexts
 pub record Covers (upper s : State) : Type 0 where
   pub regs : AreBelow s.regs upper.regs
   pub context : CoversContext upper s
@@ -63,7 +63,7 @@ state_join_of b s t = record {
 abbrev pub state_join_if_any : Limits → State → State → Option State
 state_join_if_any b s t = if length s.locals.items == length t.locals.items then Some (state_join_of b s t) else None
 
--- the place i among a state's 27 register values is that of a lower register: D0..D7 or A2..A7
+-- slot i of a state's 27 register values is that of a lower register: D0..D7 or A2..A7
 abbrev pub is_lower_slot : ℕ → Bool
 is_lower_slot i = nat_lt i 8 || (nat_le 16 i && nat_lt i 22)
 

@@ -11,7 +11,7 @@ unfoldable pub powers_of_two : ℕ → List ℕ
 powers_of_two zero = []
 powers_of_two (suc n) = powers_of_two n ++ 2 ^ n ∷ []
 
--- the first address of each range, and the one after its last
+-- thresholds that ranges give: the first address of each range, and the one after its last
 abbrev pub range_ends : List Range → List ℕ
 range_ends [] = []
 range_ends (r ∷ rs) = r.at ∷ (r.at + r.len) ∷ range_ends rs
@@ -30,7 +30,7 @@ pub record HasNearestThresholds (ts : List ℕ) (x : ℕ) : Type 0 where
 abbrev pub ThresholdsAreNearest : Type 0
 ThresholdsAreNearest = (plan : PlanData) (x : ℕ) → x < 2 ^ 32 → HasNearestThresholds (thresholds_of plan) x
 
--- a list of thresholds, as the limits hold them, has the numbers of another, in ascending order
+-- the first list has the thresholds of the second in ascending order
 pub record AreSortedThresholds (ascending xs : List ℕ) : Type 0 where
   pub ordered : IsNonDecreasing ascending
   pub within : Within ascending xs

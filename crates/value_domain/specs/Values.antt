@@ -7,13 +7,12 @@ use Rattle.value_domain.specs.Limits.{Limits}
 use Rattle.value_domain.specs.Floors.{floor, threshold_above}
 use Rattle.std.specs.List.{list_any}
 
--- a word is one of a value's members
+-- a word is one of the members of an abstract value
 abbrev pub IsMember : ℕ → Val → Type 0
 IsMember x (Set ws) = Among x ws
 IsMember x (Span lo last step) = (lo ≤ x) × (x ≤ last) × (step ≤ alignment_log2 x)
 
--- the first member of a Span, which is the first multiple of 2 ^ step from lo on, divided by 2 ^
--- step
+-- the first multiple of 2 ^ step from lo on, the least member of a Span, divided by 2 ^ step
 abbrev pub first_member_quotient : ℕ → ℕ → ℕ
 first_member_quotient lo step = (lo + (2 ^ step - 1)) / 2 ^ step
 
@@ -53,7 +52,7 @@ pub record IsInLattice (b : Limits) (v : Val) : Type 0 where
   pub well : IsWellFormed v
   pub own : cover b (members v) ≡ v
 
--- each member of one value is a member of the other
+-- the abstract value v is below w in the lattice: each member of v is a member of w
 abbrev pub IsBelow : Val → Val → Type 0
 IsBelow v w = (x : ℕ) → IsMember x v → IsMember x w
 
@@ -66,7 +65,7 @@ abbrev pub words_of : Val → Option (List ℕ)
 words_of (Set ws) = Some ws
 words_of (Span lo last step) = None
 
--- the Span has all words
+-- the Span with these ends and this step has all words
 abbrev pub is_span_of_all_words : ℕ → ℕ → ℕ → Bool
 is_span_of_all_words lo last step = lo == 0 && last == 4294967295 && step == 0
 
@@ -74,11 +73,11 @@ is_span_of_all_words lo last step = lo == 0 && last == 4294967295 && step == 0
 abbrev pub word_val : ℕ → Val
 word_val w = Set (w ∷ [])
 
--- an abstract value's least member
+-- the least member of an abstract value
 abbrev pub least_member : Val → ℕ
 least_member v = least (members v)
 
--- an abstract value's greatest member
+-- the greatest member of an abstract value
 abbrev pub greatest_member : Val → ℕ
 greatest_member v = greatest (members v)
 
@@ -86,7 +85,7 @@ greatest_member v = greatest (members v)
 abbrev pub step_of_value : Val → ℕ
 step_of_value v = step_of_set (members v)
 
--- the least value that holds the members of both
+-- the join of two abstract values: the least value that holds the members of both
 abbrev pub join_of : Limits → Val → Val → Val
 join_of b v w = cover b (members v ++ members w)
 
@@ -94,7 +93,7 @@ join_of b v w = cover b (members v ++ members w)
 abbrev pub is_in_span : ℕ → ℕ → ℕ → ℕ → Bool
 is_in_span lo last step x = nat_le lo x && nat_le x last && nat_le step (alignment_log2 x)
 
--- the test of a value's member
+-- the test that a word is a member of an abstract value
 abbrev pub is_member : ℕ → Val → Bool
 is_member x (Set ws) = list_any (λ w. x == w) ws
 is_member x (Span lo last step) = is_in_span lo last step x

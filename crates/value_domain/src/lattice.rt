@@ -26,8 +26,8 @@ pub struct Extent {
     pub step: u8,
 }
 
-/// Returns the extent of a Set's words: the least, the greatest, and the step. The lattice compares
-/// and joins abstract values by extents.
+/// Returns the extent of a Set's ascending words: the least, the greatest, and the step up to 2
+/// such that 2^`step` divides all.
 pub(crate) fn extent_of_set(words: &[u32]) -> Extent
     requires { AreSetWords words.now }
     ensures { IsExtent words.now result.least result.greatest result.step }
@@ -39,8 +39,8 @@ pub(crate) fn extent_of_set(words: &[u32]) -> Extent
     }
 }
 
-/// Returns the extent of a Span: its least and its greatest member, and its step. The lattice
-/// compares and joins abstract values by extents.
+/// Returns the extent of a Span: its least and its greatest member, which may be inside
+/// `lo..=last`, and its step.
 pub(crate) fn extent_of_span(lo: u32, last: u32, step: u8) -> Extent
     requires { IsWellFormed (Span lo last step) }
     ensures { IsExtent (multiples_in_range lo last step) result.least result.greatest result.step }
@@ -53,8 +53,8 @@ pub(crate) fn extent_of_span(lo: u32, last: u32, step: u8) -> Extent
     }
 }
 
-/// Overwrites an abstract value with the Span of this step between thresholds: from the one at or
-/// below `least` to before the one above `greatest`.
+/// Overwrites `out` with the Span of this step between thresholds: from the one at or below `least`
+/// to before the one above `greatest`.
 pub fn write_span(b: &Bounds, least: u32, greatest: u32, step: u8, out: &mut Val)
     ensures { out.new
         ≡ Span (floor b.now.thresholds least) (threshold_above b.now.thresholds greatest - 1) step }
@@ -112,7 +112,7 @@ pub fn extent_with_words(e: &Extent, words: &[u32]) -> Extent
     }
 }
 
-/// Returns the least abstract value that holds the words.
+/// Returns the least abstract value that holds these words, of which there is at least one.
 pub fn cover_words(b: &Bounds, words: &[u32]) -> Val
     requires { 1 ≤ length words.now }
     ensures cover { result ≡ cover b.now words.now }
@@ -185,7 +185,8 @@ pub fn is_extent_in_span(e: &Extent, lo: u32, last: u32, step: u8) -> bool
     lo <= e.least && e.greatest <= last && step <= e.step
 }
 
-/// Returns true if a value is in the lattice of a plan's thresholds and a format's limits.
+/// Returns true if a value is in the lattice of these limits: a Set of no more words than allowed,
+/// or a Span between thresholds.
 pub fn is_value(b: &Bounds, v: &Val) -> bool
     ensures { IsTrue result ↔ IsInLattice b.now v.now }
 {
@@ -234,8 +235,8 @@ pub fn extent_of(v: &Val) -> Extent
     }
 }
 
-/// Returns the first place from `k` on in a Set's ascending words whose word is at least `x`; the
-/// number of words if none is.
+/// Returns the first index from `k` on in ascending words whose word is at least `x`; the number of
+/// words if there is none.
 pub(crate) fn lower_bound_from(words: &[u32], k: usize, x: u32) -> usize
     requires start { k ≤ length words.now }
     ensures start { k ≤ result }
@@ -290,7 +291,7 @@ fn insert_or_widen(b: &Bounds, v: &mut Val, x: u32)
     write_span_with_word(b, &e, x, v);
 }
 
-/// Overwrites a value with the Span that holds a value of this extent and one more word.
+/// Overwrites `out` with the Span between thresholds for a value of extent `e` and the word `x`.
 fn write_span_with_word(b: &Bounds, e: &Extent, x: u32, out: &mut Val)
     ensures { out.new
         ≡ Span (floor b.now.thresholds (min x e.now.least))
@@ -362,8 +363,8 @@ fn join_set_with_set(b: &Bounds, v: &mut Val, words: &Words)
     }
 }
 
-/// Overwrites an abstract value with the least one that holds an ascending list of words: their Set
-/// if few, else a Span.
+/// Overwrites `out` with the least value that holds these ascending words: their Set if a Set can
+/// have so many, else a Span.
 fn write_ascending(b: &Bounds, words: &[u32], out: &mut Val)
     requires some { 1 ≤ length words.now }
     requires rising { IsAscending words.now }
@@ -390,8 +391,8 @@ fn is_below_span(v: &Val, lo: u32, last: u32, step: u8) -> bool
     is_extent_in_span(&e, lo, last, step)
 }
 
-/// Returns true if a Set is below another in the lattice: each of its words is one of the other's.
-/// Both lists ascend and are walked once.
+/// Returns true if the Set `own` is below the Set `words` in the lattice: all its words are among
+/// them. Both lists ascend and are walked once.
 fn is_set_below_set(own: &[u32], words: &[u32]) -> bool
     requires own { IsAscending own.now }
     requires words { IsAscending words.now }
@@ -425,7 +426,8 @@ fn is_span_below_set(lo: u32, last: u32, step: u8, words: &[u32]) -> bool
     true
 }
 
-/// Returns true if this Span is in the lattice of a plan's thresholds and a format's limits.
+/// Returns true if this Span is in the lattice of these limits: between thresholds, and of more
+/// members than a Set can have.
 fn is_span_value(b: &Bounds, lo: u32, last: u32, step: u8) -> bool
     ensures { IsTrue result ↔ IsInLattice b.now (Span lo last step) }
 {
@@ -443,8 +445,8 @@ fn is_span_value(b: &Bounds, lo: u32, last: u32, step: u8) -> bool
     lo == b.floor(e.least) && u64::from(last) + 1 == b.threshold_above(e.greatest)
 }
 
-/// Overwrites a value with the cover of a range of more words than a Set can have: the lattice's
-/// least value that holds them, which is a Span.
+/// Overwrites `out` with the Span that is the least value with the multiples of `2 ^ step` in
+/// `first..=last`, more than a Set can have.
 fn write_cover_as_span(b: &Bounds, first: u32, last: u32, step: u8, out: &mut Val)
     requires step { step ≤ 2 }
     requires many { b.now.most_words < span_len first last step }
@@ -455,8 +457,8 @@ fn write_cover_as_span(b: &Bounds, first: u32, last: u32, step: u8, out: &mut Va
     write_span(b, e.least, e.greatest, e.step, out);
 }
 
-/// Overwrites a value with the cover of a range of at most 128 words: the lattice's least value
-/// that holds them. The words are listed first.
+/// Overwrites `out` with the least value that holds the multiples of `2 ^ step` in `first..=last`,
+/// which are at most 128. The words are listed first.
 #[inline(never)]
 fn write_cover_as_set(b: &Bounds, first: u32, last: u32, step: u8, out: &mut Val)
     requires step { step ≤ 2 }

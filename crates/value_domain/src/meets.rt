@@ -7,8 +7,8 @@ use crate::lattice::{join_word, write_cover};
 use crate::values::{is_member, is_word_in_span, set_word, span_len};
 use crate::{Bounds, Val};
 
-/// Overwrites `out` with the meet of an abstract value and a Span: the cover of their common
-/// members. Returns false if there are none; then `out` may be any value.
+/// Overwrites `out` with the meet of a value and a Span: the cover of their common members. Returns
+/// false if there are none; then `out` may be any value.
 pub fn write_span_meet(b: &Bounds, v: &Val, lo: u32, last: u32, step: u8, out: &mut Val) -> bool
     requires value { IsInLattice b.now v.now }
     requires step { step ≤ 2 }
@@ -26,8 +26,8 @@ pub fn write_span_meet(b: &Bounds, v: &Val, lo: u32, last: u32, step: u8, out: &
     }
 }
 
-/// Overwrites `out` with the meet of an abstract value and a Set: the cover of the words that are
-/// members of `v`. Returns false if there are none; then `out` may be any value.
+/// Overwrites `out` with the meet of a Set's words and a value: the cover of those that are members
+/// of `v`. Returns false if there are none.
 pub fn write_meet_with_set(b: &Bounds, words: &[u32], v: &Val, out: &mut Val) -> bool
     requires { IsWellFormed v.now }
     ensures kept { value_if_found result out.new
@@ -44,8 +44,8 @@ pub fn write_meet_with_set(b: &Bounds, words: &[u32], v: &Val, out: &mut Val) ->
     found
 }
 
-/// Overwrites `out` with the meet of a Set and a Span: the cover of the words that are in the Span.
-/// Returns false if there are none; then `out` may be any value.
+/// Overwrites `out` with the cover of those of a Set's words that are in a Span. Returns false if
+/// there are none; then `out` may be any value.
 fn write_meet_of_set(b: &Bounds, words: &[u32], lo: u32, last: u32, step: u8, out: &mut Val) -> bool
     ensures meet { value_if_found result out.new
         ≡ cover_if_any b.now (filter (is_in_span lo last step) words.now) }
@@ -75,8 +75,8 @@ fn write_meet_of_spans(b: &Bounds, lo: u32, last: u32, step: u8, out: &mut Val) 
     true
 }
 
-/// Joins a found word into a meet of abstract values. If nothing was found before, the meet becomes
-/// the Set of the word alone.
+/// Joins the word `x` into the meet `out` of two values. If `found` is false, no word was before,
+/// and the meet becomes its Set.
 fn add_word_to_meet(b: &Bounds, found: bool, out: &mut Val, x: u32)
     requires { IfSome (value_if_found found out.old) (IsInLattice b.now) }
     ensures more { (xs : List ℕ) → value_if_found found out.old ≡ cover_if_any b.now xs

@@ -51,8 +51,8 @@ fn copy_regs(regs: &[Val; 27]) -> [Val; 27]
     copy
 }
 
-/// Returns true if the abstract state `upper` covers `s`: each machine that `s` allows, `upper`
-/// allows too.
+/// Returns true if the abstract state `upper` covers `s`: each machine state that `s` allows,
+/// `upper` allows too.
 pub fn covers(upper: &State, s: &State) -> bool
     requires upper { AreWellFormed upper.now.regs }
     requires state { AreWellFormed s.now.regs }
@@ -67,7 +67,7 @@ pub fn covers(upper: &State, s: &State) -> bool
     are_regs_below(&s.regs, &upper.regs)
 }
 
-/// Returns true if the context of an abstract state (IE, least CCPN, `lower`) covers this one.
+/// Returns true if the context of `upper` covers this one: IE that may be on, least CCPN, `lower`.
 pub fn covers_context(upper: &State, ie: bool, ccpn: u8, lower: bool) -> bool
     ensures { IsTrue result
         ↔ ((IsTrue ie → IsTrue upper.now.ie) × (upper.now.ccpn ≤ ccpn)
@@ -76,8 +76,8 @@ pub fn covers_context(upper: &State, ie: bool, ccpn: u8, lower: bool) -> bool
     flag_implies(ie, upper.ie) && upper.ccpn <= ccpn && flag_implies(upper.lower, lower)
 }
 
-/// Returns true if two states have equally many saved lower contexts, and each flag of `flags`
-/// implies the one at its place in `others`.
+/// Returns true if both lists are equally long, and each flag of `flags` implies the one with its
+/// index in `others`.
 pub fn flags_imply(flags: &[bool], others: &[bool]) -> bool
     ensures { IsTrue result ↔ FlagsImply flags.now others.now }
 {
@@ -138,7 +138,7 @@ pub fn join_locals(s: &[bool], t: &[bool]) -> ArrayVec<bool, 8>
     out
 }
 
-/// Returns true if each register's abstract value in one state is below that in the other state.
+/// Returns true if each register's abstract value in `low` is below that in `high`.
 fn are_regs_below(low: &[Val; 27], high: &[Val; 27]) -> bool
     requires low { AreWellFormed low.now }
     requires high { AreWellFormed high.now }
@@ -152,7 +152,7 @@ fn are_regs_below(low: &[Val; 27], high: &[Val; 27]) -> bool
     true
 }
 
-/// Returns true if one flag of an abstract state implies the other.
+/// Returns true if `a` implies `b`, two flags of abstract states such as IE.
 fn flag_implies(a: bool, b: bool) -> bool
     ensures { IsTrue result ↔ (IsTrue a → IsTrue b) }
 {

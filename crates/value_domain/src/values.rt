@@ -39,7 +39,7 @@ impl Words {
         Words { words }
     }
 
-    /// Returns the list of these words, or `None` if they don't ascend or aren't 1 to 128.
+    /// Returns the list of these words, or `None` if they don't strictly ascend or aren't 1 to 128.
     pub fn of(words: &[u32]) -> Option<Words>
         ensures some { IsSome result
             ↔ ((1 ≤ length words.now) × (length words.now ≤ 128) × IsStrictlyIncreasing words.now) }
@@ -52,7 +52,7 @@ impl Words {
         Some(Words { words: copy })
     }
 
-    /// Returns the list of these words, which is known to be valid.
+    /// Returns the list of these words, which are 1 to 128 ascending ones.
     pub(crate) fn from_slice(words: &[u32]) -> Words
         requires { AreSetWords words.now }
         ensures { result ≡ words.now }
@@ -102,7 +102,7 @@ impl Words {
         self.words.push(x);
     }
 
-    /// Inserts a word at its place among a Set's ascending words, which have room for one more.
+    /// Inserts a word at its index among a Set's ascending words, which are at most 127.
     pub fn insert(&mut self, x: u32)
         requires room { length self.old < 128 }
         requires absent { ¬ Among x self.old }
@@ -125,7 +125,7 @@ fn are_ascending(words: &[u32]) -> bool
     true
 }
 
-/// Returns the number of a value's ascending words that are below `x`: the place of `x` if it is a
+/// Returns the number of a Set's ascending words that are below `x`, which is the index of `x` if a
 /// member.
 fn count_words_below(words: &[u32], x: u32) -> usize
     requires { IsAscending words.now }
@@ -225,7 +225,7 @@ impl Val {
     }
 }
 
-/// Overwrites `out` with a copy of a value. If both are of one kind, only its parts are written.
+/// Overwrites `out` with a copy of a value. For equal kinds, only the words or ends are written.
 pub fn copy_to(v: &Val, out: &mut Val)
     ensures { out.new ≡ v.now }
 {
@@ -353,7 +353,7 @@ pub(crate) fn are_values_equal(v: &Val, w: &Val) -> bool
     }
 }
 
-/// Returns true if a Span holds all words of 32 bits.
+/// Returns true if the Span with these ends and this step holds all words of 32 bits.
 pub(crate) fn is_span_of_all_words(lo: u32, last: u32, step: u8) -> bool
     ensures { IsTrue result ↔ ((lo ≡ 0) × (last ≡ 4294967295) × (step ≡ 0)) }
 {

@@ -21,20 +21,20 @@ abbrev pub state_if_possible : Bool → State → Option State
 state_if_possible true s = Some s
 state_if_possible false s = None
 
--- on a side of a branch, the state whose register is narrowed to this value; none if no member is
+-- on a side of a branch, the state with this value in the narrowed register x; none if no member is
 -- possible
 abbrev pub state_with_narrowed_register : State → ℕ → Option Val → Option State
 state_with_narrowed_register s x None = None
 state_with_narrowed_register s x (Some z) = Some (with_reg_value s x z)
 
--- on a side of a branch, the state whose two operands are narrowed to these values; none if one has
--- no possible member
+-- on a side of a branch, the state with these values in both narrowed operands; none if one has no
+-- possible member
 abbrev pub state_with_narrowed_operands : State → ℕ → Arg → Option Val → Option Val → Option State
 state_with_narrowed_operands s x y None w = None
 state_with_narrowed_operands s x y (Some v) None = None
 state_with_narrowed_operands s x y (Some v) (Some w) = Some (with_arg_value (with_reg_value s x v) y w)
 
--- the state on a side of the condition, if the side is possible
+-- the state on a side of a branch, its operands narrowed; none if the side isn't possible
 abbrev pub state_on_side : Limits → PlanData → Cond → ℕ → Arg → State → Bool → Option State
 state_on_side b p cond x y s side =
     if is_same_register x y
@@ -43,17 +43,17 @@ state_on_side b p cond x y s side =
     (cover_if_any b (kept_left_words cond side (members (reg_of p s x)) (members (arg_of p s y))))
     (cover_if_any b (kept_right_words cond side (members (reg_of p s x)) (members (arg_of p s y))))
 
--- a loop instruction decrements its counter register by 1, on both sides of its branch
+-- the state, if any, with the counter register x decremented by 1 if `lowers`, as for loop
 abbrev pub with_decremented_counter : Limits → PlanData → ℕ → Bool → Option State → Option State
 with_decremented_counter b p x lowers None = None
 with_decremented_counter b p x lowers (Some s) = Some (if lowers then state_after_reg_write s x (operation_value b Sub (reg_of p s x) (word_val 1)) else s)
 
--- the state on a side of a branch, if the side is possible
+-- the state after a branch that is taken (true) or isn't; none if impossible, or no branch
 unfoldable pub refine_of : Limits → PlanData → Shape → State → Bool → Option State
 refine_of b p (Branch cond x y by lowers) s side = with_decremented_counter b p x lowers (state_on_side b p cond x y s side)
 refine_of b p _ s side = None
 
--- a branch that compares a word with itself goes to this side
+-- a branch that compares a word with itself goes to this side: to its target if the side is true
 unfoldable pub is_side_taken_by_equal_words : Cond → Bool → Bool
 is_side_taken_by_equal_words cond.Eq side = side
 is_side_taken_by_equal_words cond.Ne side = not side

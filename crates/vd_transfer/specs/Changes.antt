@@ -17,12 +17,12 @@ base_values Same regs = regs
 base_values Forgotten regs = with_lower_unknown_from 0 regs
 base_values Any regs = replicate 27 any_val
 
--- the values with one at a place, if there is a place
+-- the values with v in this slot; all as they are without a slot
 abbrev pub with_value_in_slot : List Val → Val → Option ℕ → List Val
 with_value_in_slot vs v None = vs
 with_value_in_slot vs v (Some i) = slice_set vs i v
 
--- the values with what is put at its place
+-- the values of a state after one write of a change
 abbrev pub with_write : List Val → RegisterWrite → List Val
 with_write vs write = with_value_in_slot vs write.value write.at
 
@@ -36,11 +36,11 @@ state_after s c = record {
   locals = c.locals;
 }
 
--- nothing is put
+-- the write of a change that changes nothing: a value for no slot
 abbrev pub no_write : RegisterWrite
 no_write = record { at = None; value = any_val }
 
--- the put of a register's value, if a state has one for it
+-- the write of a register's value, to its slot in a state if there is one
 abbrev pub register_write : ℕ → Val → RegisterWrite
 register_write r v = record { at = register_slot r; value = v }
 
@@ -57,6 +57,6 @@ identity_change_of s = record {
   locals = s.locals;
 }
 
--- the identity change of a state, with the values of another change at no place
+-- the identity change of a state, with the values of another change's writes, for no slot
 abbrev pub identity_keeping_values : Change → State → Change
 identity_keeping_values c s = record (identity_change_of s) { first = record c.first { at = None }; second = record c.second { at = None }; third = record c.third { at = None } }

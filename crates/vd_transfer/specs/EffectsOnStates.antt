@@ -19,7 +19,7 @@ abbrev pub state_with_increased_base : Limits → PlanData → State → Arg →
 state_with_increased_base b p s (Reg r) offset after = if after then state_after_reg_write s r (operation_value b Add (reg_of p s r) (word_val offset)) else s
 state_with_increased_base b p s (Word w) offset after = s
 
--- the address of an access: the base, or base plus offset
+-- the addresses of an access: base plus offset, or the base alone with post-increment
 abbrev pub access_of : Limits → PlanData → State → Arg → ℕ → Bool → Val
 access_of b p s base offset after = if after then arg_of p s base else operation_value b Add (arg_of p s base) (word_val offset)
 
@@ -28,8 +28,8 @@ access_of b p s base offset after = if after then arg_of p s base else operation
 abbrev pub state_after_lower_save : State → State
 state_after_lower_save s = record s { locals = record { items = s.locals.items ++ s.lower ∷ [] } }
 
--- the effect of a restored lower context on a state's values: those from place i on, with those of
--- lower registers unknown
+-- a state's values from slot i on, with those of lower registers unknown, as after a lower context
+-- is restored
 unfoldable pub with_lower_unknown_from : ℕ → List Val → List Val
 with_lower_unknown_from i [] = []
 with_lower_unknown_from i (v ∷ vs) = (if is_lower_slot i then any_val else v) ∷ with_lower_unknown_from (i + 1) vs
@@ -43,8 +43,8 @@ state_after_lower_restore s = record s {
   locals = record { items = take (length s.locals.items - 1) s.locals.items };
 }
 
--- the state after an instruction that stays in its frame and isn't a branch or a jump; a load
--- writes the value that was loaded
+-- the state after an instruction that isn't a branch and goes on to the next one; a load writes the
+-- value that was loaded
 unfoldable pub transfer_of : Limits → PlanData → Shape → State → Val → State
 transfer_of b p (Compute op dst x y) s loaded = state_after_reg_write s dst (operation_value b op (arg_of p s x) (arg_of p s y))
 transfer_of b p (Scaled dst base index n) s loaded = state_after_reg_write s dst (operation_value b Add (reg_of p s base) (operation_value b Sh (reg_of p s index) (word_val n)))
@@ -65,21 +65,21 @@ transfer_of b p (Mfcr dst number) s loaded = state_after_reg_write s dst any_val
 transfer_of b p (Mtcr src number) s loaded = s
 transfer_of b p Nothing s loaded = s
 
--- the addresses that an instruction, a load or a store, computes from the registers of a state
+-- the addresses that a load or a store may access in a state; any word for other instructions
 unfoldable pub address_of_access : Limits → PlanData → Shape → State → Val
 address_of_access b p (Load dst base offset size signed after) s = access_of b p s base offset after
 address_of_access b p (Store src base offset size after) s = access_of b p s base offset after
 address_of_access b p _ s = any_val
 
--- an instruction's effect on a state is defined: there is room for a local if it saves a lower
--- context, and a local if it restores one
+-- a state has room for another saved lower context if the instruction saves one, and has one if the
+-- instruction restores one
 abbrev pub LocalsFitInstruction : Limits → Shape → State → Type 0
 LocalsFitInstruction b Svlcx s = length s.locals.items < b.most_locals
 LocalsFitInstruction b (Bisr c) s = length s.locals.items < b.most_locals
 LocalsFitInstruction b Rslcx s = 1 ≤ length s.locals.items
 LocalsFitInstruction b _ s = Unit {0}
 
--- what was loaded is a value of the limits, if an instruction of this shape writes it
+-- what was loaded is a value in the lattice of these limits, if the instruction is a load
 abbrev pub LoadedIsInLattice : Limits → Shape → Val → Type 0
 LoadedIsInLattice b (Load dst base offset size signed after) loaded = IsInLattice b loaded
 LoadedIsInLattice b _ loaded = Unit {0}

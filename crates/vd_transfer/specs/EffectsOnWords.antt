@@ -6,7 +6,7 @@ use Rattle.tc_isa.specs.declared.shapes.Shape.{Shape}
 use Rattle.tc_isa.specs.declared.shapes.Shape.TheVariants.{Compute, Scaled, Load, Store, Branch, Bisr, Mfcr, Enable, Disable}
 use Rattle.tc_isa.specs.Arithmetic.{alu_of}
 
--- the words with another in register r
+-- the words of registers, by number, with the word w in register r
 abbrev pub words_with_register : (ℕ → ℕ) → ℕ → ℕ → ℕ → ℕ
 words_with_register word r w q = if q == r then w else word q
 
@@ -15,7 +15,7 @@ abbrev pub operand_word : (ℕ → ℕ) → Arg → ℕ
 operand_word word (Reg r) = word r
 operand_word word (Word w) = w
 
--- the address that a load or a store computes from the words of registers
+-- the address that a load or store computes from words of registers: the base alone if `after`
 abbrev pub accessed_address : (ℕ → ℕ) → Arg → ℕ → Bool → ℕ
 accessed_address word base offset after = if after then operand_word word base else (operand_word word base + offset) % 2 ^ 32
 
@@ -25,7 +25,7 @@ abbrev pub words_with_increased_base : (ℕ → ℕ) → Arg → ℕ → Bool �
 words_with_increased_base word (Reg r) offset after = if after then words_with_register word r ((word r + offset) % 2 ^ 32) else word
 words_with_increased_base word (Word w) offset after = word
 
--- the words after an instruction that read this word from memory or a peripheral; saving and
+-- the words of registers after an instruction; a load or mfcr writes the word `input`; saving and
 -- restoring contexts is defined elsewhere
 unfoldable pub words_after : Shape → ℕ → (ℕ → ℕ) → ℕ → ℕ
 words_after (Compute op dst x y) input word = words_with_register word dst (alu_of op (operand_word word x) (operand_word word y))

@@ -22,7 +22,7 @@ interval first last step = record { first = first; last = last; step = step }
 abbrev pub all_multiples : ℕ → StridedInterval
 all_multiples s = interval 0 (2 ^ 32 - 1) s
 
--- the words that are multiples of 2 ^ s
+-- all words that are multiples of 2 ^ s
 abbrev pub words_of_all_multiples : ℕ → List ℕ
 words_of_all_multiples s = interval_words (all_multiples s)
 
@@ -58,7 +58,7 @@ arithmetic_shift_interval a b p n = if nat_lt n 32 || nat_lt b (2 ^ 31) then log
 abbrev pub IntervalShift : Type 0
 IntervalShift = ℕ → ℕ → ℕ → ℕ → StridedInterval
 
--- the interval of shifts by the count, if the count's value is one word; else all words
+-- the interval of a..=b of step p, shifted by the count if that is one word; else of all words
 abbrev pub shifted_interval : IntervalShift → ℕ → ℕ → ℕ → Val → StridedInterval
 shifted_interval shift a b p (Set (y ∷ [])) = shift a b p (y % 64)
 shifted_interval shift a b p (Set []) = all_multiples 0
@@ -92,6 +92,6 @@ result_interval Sha e f w = shifted_interval arithmetic_shift_interval e.least e
 abbrev pub extent_of_value : Val → Extent
 extent_of_value v = record { least = least_member v; greatest = greatest_member v; step = step_of_value v }
 
--- a word is in an interval that refinement by a condition keeps
+-- the word x is one of the interval i, from i.lo up to i.last
 abbrev pub IsInInterval : Interval → ℕ → Type 0
 IsInInterval i x = (i.lo ≤ x) × (x ≤ i.last)

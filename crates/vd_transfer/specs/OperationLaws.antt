@@ -7,7 +7,7 @@ use Rattle.vd_transfer.specs.Operations.{operation_value}
 use Rattle.std.specs.Prelude.{ℕ}
 use Rattle.tc_isa.specs.Arithmetic.{alu_of}
 
--- smaller operands give a smaller value
+-- operations are monotone: smaller operands give a smaller abstract value
 abbrev pub OperationsAreMonotone : Type 0
 OperationsAreMonotone =
     (b : Limits) (op : Op) (v w v2 w2 : Val) → AreLimits b → IsInLattice b v → IsInLattice b w → IsInLattice b v2 → IsInLattice b w2

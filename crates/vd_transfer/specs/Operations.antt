@@ -33,8 +33,8 @@ is_comparison GeU = true
 is_comparison Sh = false
 is_comparison Sha = false
 
--- the words that cover the results of an operation on a Span: 0 and 1 for a comparison, else an
--- interval by the extents
+-- the words that cover the results of an operation on a Span: 0 and 1 for a comparison (true), else
+-- an interval by the extents
 abbrev pub comparison_or_interval_words : Bool → Op → Val → Val → List ℕ
 comparison_or_interval_words true op v w = 0 ∷ 1 ∷ []
 comparison_or_interval_words false op v w = interval_words (result_interval op (extent_of_value v) (extent_of_value w) w)
@@ -49,18 +49,17 @@ unfoldable pub results_of_pairs : Op → List ℕ → List ℕ → List ℕ
 results_of_pairs op [] ys = []
 results_of_pairs op (x ∷ xs) ys = map (alu_of op x) ys ++ results_of_pairs op xs ys
 
--- the words that the value of an operation covers: the results of all pairs for two Sets, else what
--- the extents give
+-- words that include all results of an operation on members: the results of all pairs for two Sets,
+-- else what the extents give
 unfoldable pub possible_results : Op → Val → Val → List ℕ
 possible_results op (Set xs) (Set ys) = results_of_pairs op xs ys
 possible_results op (Set xs) (Span lo last s) = results_by_extents op (Set xs) (Span lo last s)
 possible_results op (Span lo last s) w = results_by_extents op (Span lo last s) w
 
--- the value of an operation: the least one that holds its results
+-- the abstract value of an operation: the cover of its possible results
 abbrev pub operation_value : Limits → Op → Val → Val → Val
 operation_value b op v w = cover b (possible_results op v w)
 
--- each of these results of an operation, which were added lately, is a member of the operation's
--- value
+-- each word of the list, such as a table of recent results, is a member of the value
 abbrev pub HasMembers : Val → List ℕ → Type 0
 HasMembers v ms = (k : ℕ) → k < length ms → IsMember (slice_index ms k) v

@@ -8,7 +8,7 @@ use Rattle.vd_transfer.specs.declared.refinement.Relation.{Relation}
 use Rattle.vd_transfer.specs.Relations.{is_related, related_words}
 use Rattle.vd_transfer.specs.Signs.{signed_related_words}
 
--- the condition of a refinement goes to a side for two words
+-- a branch that compares the words x and y goes to this side: to its target if the side is true
 abbrev pub is_side_taken : Cond → Bool → ℕ → ℕ → Bool
 is_side_taken cond side x y = if side then taken_of cond x y else not (taken_of cond x y)
 
@@ -27,8 +27,8 @@ kept_right_words cond side vs ws = filter (λ y. list_any (λ x. is_side_taken c
 unfoldable pub kept_self_compared_words : Cond → Bool → List ℕ → List ℕ
 kept_self_compared_words cond side zs = filter (λ z. is_side_taken cond side z z) zs
 
--- Refinement keeps each word for which the relation holds, and it grows with both sets: by the
--- unsigned order of words, and by the signed one.
+-- Refinement by this relation keeps each word of vs that is in the relation to some word of ws, and
+-- grows with both lists. The order of words is unsigned or signed.
 pub record HasSoundMonotoneRefinement (rel : Relation) : Type 0 where
   pub sound : (vs ws : List ℕ) (x y : ℕ) → Among x vs → Among y ws → is_related rel x y ≡ true → Among x (related_words rel vs ws)
   pub monotone : (vs ws vs2 ws2 : List ℕ) → Within vs vs2 → Within ws ws2 → Within (related_words rel vs ws) (related_words rel vs2 ws2)

@@ -11,7 +11,7 @@ use Rattle.value_domain.specs.Values.{any_val, word_val}
 use Rattle.tc_isa.specs.declared.shapes.Shape.{Shape}
 use Rattle.tc_isa.specs.declared.shapes.Shape.TheVariants.{Compute, Scaled, Load, Store, Branch, Mfcr, Mtcr}
 
--- the place of a register among the 27 values of a state, if there is one
+-- the slot of a register, its index among the 27 values of a state, if there is one
 unfoldable pub register_slot : ℕ → Option ℕ
 register_slot r =
     if nat_lt r 16 then Some r
@@ -38,12 +38,12 @@ abbrev pub arg_of : PlanData → State → Arg → Val
 arg_of p s (Reg r) = reg_of p s r
 arg_of p s (Word w) = word_val w
 
--- the state with a value at a register's place, if it has one
+-- the state with a value in this slot; unchanged without a slot
 abbrev pub with_slot_value : State → Val → Option ℕ → State
 with_slot_value s v (Some i) = record s { regs = slice_set s.regs i v }
 with_slot_value s v None = s
 
--- the state with a register's value, if it has one
+-- the state with a value in register r; unchanged if states have no slot for r
 abbrev pub with_reg_value : State → ℕ → Val → State
 with_reg_value s r v = with_slot_value s v (register_slot r)
 
@@ -52,20 +52,20 @@ with_reg_value s r v = with_slot_value s v (register_slot r)
 abbrev pub is_lower_register : ℕ → Bool
 is_lower_register r = nat_lt r 8 || (nat_le 18 r && nat_le r 23)
 
--- the state after an instruction wrote a register
+-- the state after an instruction wrote register r; a lower one clears `lower`
 abbrev pub state_after_reg_write : State → ℕ → Val → State
 state_after_reg_write s r v = record (with_reg_value s r v) { lower = s.lower && not (is_lower_register r) }
 
--- the register is one that states have a value for: it is none of A0, A1, A8, A9 and A11
+-- states have a value for the register: the number is none of A0, A1, A8, A9 and A11
 abbrev pub RegisterHasValue : ℕ → Type 0
 RegisterHasValue r = IsSome (register_slot r)
 
--- the state with the register that an operand names set to a value; a constant sets none
+-- the state with a value in the register that an operand names; unchanged for a constant
 abbrev pub with_arg_value : State → Arg → Val → State
 with_arg_value s (Reg r) v = with_reg_value s r v
 with_arg_value s (Word w) v = s
 
--- the place of an operand's value in a state
+-- the slot of an operand's register in a state; none for a constant, or without a slot
 abbrev pub arg_slot : Arg → Option ℕ
 arg_slot (Reg r) = register_slot r
 arg_slot (Word w) = None
@@ -75,8 +75,7 @@ abbrev pub IncreasesNoFixedRegister : Arg → Bool → Type 0
 IncreasesNoFixedRegister (Reg r) after = IsTrue after → RegisterHasValue r
 IncreasesNoFixedRegister (Word w) after = Unit {0}
 
--- each register that the instruction names and writes has a value in a state, and the instruction
--- isn't MTCR
+-- states have a value for each register that the instruction writes, and the instruction isn't MTCR
 abbrev pub WritesNoFixedRegister : Shape → Type 0
 WritesNoFixedRegister (Compute op dst x y) = RegisterHasValue dst
 WritesNoFixedRegister (Scaled dst base index n) = RegisterHasValue dst
@@ -87,11 +86,11 @@ WritesNoFixedRegister (Mfcr dst number) = RegisterHasValue dst
 WritesNoFixedRegister (Mtcr src number) = ⊥
 WritesNoFixedRegister _ = Unit {0}
 
--- the operand is this register of a state
+-- the operand y of a comparison is the register x itself
 abbrev pub is_same_register : ℕ → Arg → Bool
 is_same_register x (Reg y) = x == y
 is_same_register x (Word w) = false
 
--- the value of the register A10, the stack pointer, in a state: it is at place 22
+-- the value of the register A10, the stack pointer, in a state: in slot 22
 abbrev pub a10_of : State → Val
 a10_of s = slice_index_or s.regs 22 any_val

@@ -6,7 +6,7 @@ use Rattle.vd_transfer.specs.declared.refinement.Relation.{Relation}
 use Rattle.vd_transfer.specs.declared.refinement.Relation.TheVariants.{Same, Other, Less, AtLeast, More, AtMost}
 use Rattle.std.specs.List.{list_any}
 
--- a condition as a relation: the one that its operands are in on this side
+-- the relation that a branch's operands are in if the branch is taken (the side is true) or isn't
 unfoldable pub relation_on_side : Cond → Bool → Relation
 relation_on_side cond.Eq side = if side then Same else Other
 relation_on_side cond.Ne side = if side then Other else Same

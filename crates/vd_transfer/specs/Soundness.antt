@@ -18,16 +18,16 @@ use Rattle.vd_transfer.specs.EffectsOnWords.{ie_after, operand_word, accessed_ad
 use Rattle.vd_transfer.specs.Branches.{refine_of}
 use Rattle.vd_transfer.specs.Holding.{Holds}
 
--- what the laws of soundness suppose: limits, a plan, and a state whose 27 registers have values of
--- the lattice
+-- the premises of the laws of soundness: limits, a plan, and a state whose 27 registers have values
+-- in the lattice
 pub record MeetSoundnessPremises (b : Limits) (p : PlanData) (s : State) : Type 0 where
   pub limits : AreLimits b
   pub plan : IsPlan p
   pub regs : length s.regs ≡ 27
   pub values : AreInLattice b s.regs
 
--- a premise of the law that effects are sound: the instruction stays in its frame, is followed by
--- the next one, and restores nothing
+-- the instruction goes on to the next one and restores no context: a premise of the law that
+-- effects are sound
 abbrev pub IsStraightLine : Shape → Type 0
 IsStraightLine (Branch cond x y by lowers) = ⊥
 IsStraightLine (Jump to) = ⊥
@@ -38,7 +38,7 @@ IsStraightLine (Syscall tin) = ⊥
 IsStraightLine Rslcx = ⊥
 IsStraightLine _ = Unit {0}
 
--- a load reads a member of the value that was loaded
+-- if the instruction is a load, the word that was read is a member of the value that was loaded
 abbrev pub LoadedIsMember : Shape → ℕ → Val → Type 0
 LoadedIsMember (Load dst base offset size signed after) input loaded = IsMember input loaded
 LoadedIsMember _ input loaded = Unit {0}

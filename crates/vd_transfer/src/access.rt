@@ -34,8 +34,8 @@ impl Addressing {
     }
 }
 
-/// Overwrites an abstract value with the addresses that a load or store of this shape may access in
-/// a state.
+/// Overwrites `out` with the addresses that a load or store of this shape may access in a state;
+/// with any word for other shapes.
 #[tactic(auto, unfolding(crate::specs::EffectsOnStates::address_of_access))]
 pub fn write_address_by_shape(b: &Bounds, plan: &Plan, shape: Shape, s: &State, out: &mut Val)
     requires shape { IsShape shape }
@@ -61,8 +61,8 @@ pub fn write_address_by_shape(b: &Bounds, plan: &Plan, shape: Shape, s: &State, 
     }
 }
 
-/// Returns the addresses that a load or store of this shape may access in a state, as an abstract
-/// value.
+/// Returns the addresses that a load or store of this shape may access in a state, as one abstract
+/// value; any word for other shapes.
 #[inline(always)]
 pub fn address_by_shape(b: &Bounds, plan: &Plan, shape: Shape, s: &State) -> Val
     requires shape { IsShape shape }
@@ -75,7 +75,8 @@ pub fn address_by_shape(b: &Bounds, plan: &Plan, shape: Shape, s: &State) -> Val
     out
 }
 
-/// Overwrites an abstract value with the addresses of a load or store by its base and offset.
+/// Overwrites `out` with the addresses of an access by its addressing mode: base plus offset, or
+/// the base alone with post-increment.
 fn write_address_by_mode(b: &Bounds, plan: &Plan, s: &State, at: Addressing, out: &mut Val)
     requires base { IsArg at.base }
     requires values { AreInLattice b.now s.now.regs }

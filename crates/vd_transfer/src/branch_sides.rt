@@ -32,7 +32,7 @@ pub(crate) struct Comparison {
     pub(crate) y: Arg,
 }
 
-/// Returns the relation that the operands of a branch are in if its condition goes to this side.
+/// Returns the relation that a branch's operands are in on this side (true: the branch is taken).
 #[tactic(auto, unfolding(crate::specs::Relations::relation_on_side))]
 pub(crate) fn relation_on_side(cond: Cond, side: bool) -> Relation
     ensures { result ≡ relation_on_side cond side }
@@ -69,7 +69,7 @@ pub(crate) fn relation_on_side(cond: Cond, side: bool) -> Relation
     }
 }
 
-/// Returns true if a branch that compares a word with itself goes to this side.
+/// Returns true if a branch that compares a word with itself goes to this side (true: taken).
 #[tactic(auto, unfolding(crate::specs::Branches::is_side_taken_by_equal_words))]
 fn is_side_taken_by_equal_words(cond: Cond, side: bool) -> bool
     ensures { result ≡ is_side_taken_by_equal_words cond side }
@@ -80,7 +80,8 @@ fn is_side_taken_by_equal_words(cond: Cond, side: bool) -> bool
     }
 }
 
-/// Returns true if a branch that compares the words `x` and `y` goes to this side.
+/// Returns true if a branch that compares `x` and `y` goes to this side (true: the branch is
+/// taken).
 fn is_side_taken(cond: Cond, side: bool, x: u32, y: u32) -> bool
     ensures { result ≡ is_side_taken cond side x y }
 {
@@ -93,8 +94,8 @@ fn is_side_taken(cond: Cond, side: bool, x: u32, y: u32) -> bool
 
 // The functions below write the change of a side into the caller's `Change`, whatever it held.
 
-/// Writes the change on a side of a branch: the left register keeps the members that are possible
-/// there. Returns false if there are none.
+/// Writes into `c` the change on a side of a branch: of `v`, its left register's value, only
+/// members possible against `w` stay. Returns false if there are none.
 pub(crate) fn narrow_left_register(
     b: &Bounds,
     test: Comparison,
@@ -120,8 +121,8 @@ pub(crate) fn narrow_left_register(
     true
 }
 
-/// Writes into `c` how a branch changes a state on one of its sides, whatever `c` held. Returns
-/// false if the side isn't possible.
+/// Writes into `c` how a branch changes a state, if taken (`side` is true) or if not. Returns false
+/// if the side isn't possible or the shape is no branch.
 #[tactic(auto, unfolding(crate::specs::Branches::refine_of))]
 pub fn write_branch_change(
     b: &Bounds,
@@ -152,8 +153,8 @@ pub fn write_branch_change(
     }
 }
 
-/// Writes into `c` how a branch with this comparison changes a state on a side; a loop also
-/// decrements its counter. Returns false if the side isn't possible.
+/// Writes into `c` how a branch with this comparison changes a state on a side, and decrements a
+/// loop's counter. Returns false if the side isn't possible.
 fn write_comparison_change(
     b: &Bounds,
     plan: &Plan,
@@ -177,7 +178,7 @@ fn write_comparison_change(
 }
 
 /// Writes into `c` how a branch's comparison narrows its operands on a side. Returns false if the
-/// side isn't possible. Two constants stay as they are.
+/// side isn't possible. Two single words stay as they are.
 fn narrow_operands(b: &Bounds, plan: &Plan, test: Comparison, s: &State, c: &mut Change) -> bool
     requires operands { (test.x < 32) × IsArg test.y }
     requires values { AreInLattice b.now s.now.regs }
@@ -204,8 +205,8 @@ fn narrow_operands(b: &Bounds, plan: &Plan, test: Comparison, s: &State, c: &mut
     }
 }
 
-/// Decrements the counter register of a loop instruction by 1 in a changed state, if the branch is
-/// one.
+/// Adds to a branch's change the decrement of its counter register `x` by 1 if the branch is a
+/// `loop` instruction, as `lowers` says.
 fn decrement_if_loop(b: &Bounds, plan: &Plan, x: u8, lowers: bool, s: &State, c: &mut Change)
     requires register { x < 32 }
     requires values { AreInLattice b.now (state_after s.now c.old).regs }
@@ -219,8 +220,8 @@ fn decrement_if_loop(b: &Bounds, plan: &Plan, x: u8, lowers: bool, s: &State, c:
     }
 }
 
-/// Narrows the operands of a branch on a side, by the state's own values if there are any. Returns
-/// false if the side isn't possible.
+/// Narrows the operands of a branch on a side by their abstract values. One that the state has
+/// isn't copied. Returns false if the side isn't possible.
 fn narrow_by_values(
     b: &Bounds,
     plan: &Plan,
@@ -252,8 +253,8 @@ fn narrow_by_values(
     }
 }
 
-/// Narrows the register that a branch compares with a constant to the members possible on a side.
-/// Returns false if there are none.
+/// Narrows `v`, the value of the register that a branch compares with the constant `z`, to the
+/// members possible on a side. Returns false if there are none.
 fn narrow_against_constant(
     b: &Bounds,
     test: Comparison,
@@ -280,8 +281,8 @@ fn narrow_against_constant(
     true
 }
 
-/// Narrows operands whose values have to be built. Returns false if the side isn't possible. It is
-/// a function of its own, so that its callers need no stack for the values.
+/// Narrows a branch's operands whose values aren't in the state. Returns false if the side isn't
+/// possible. A function of its own, so that callers need no stack for values.
 #[inline(never)]
 fn narrow_built_operands(
     b: &Bounds,
@@ -306,7 +307,7 @@ fn narrow_built_operands(
     refine_both_operands(b, test, s, &v, &build_arg(b, plan, s, test.y), c)
 }
 
-/// Decrements the counter register of a loop instruction by 1 in a changed state.
+/// Adds to a change `c` of `s` the decrement of the register `x` by 1, as its third write.
 #[inline(never)]
 fn decrement_register(b: &Bounds, plan: &Plan, x: u8, s: &State, c: &mut Change)
     requires register { x < 32 }

@@ -16,7 +16,7 @@ use tc_isa::{Inst, shape};
 use tcd_plan::Plan;
 use value_domain::{Bounds, State, Val, copy_locals};
 
-/// Returns the addresses that a load or a store may access in a state, as one abstract value.
+/// Returns the addresses that a load or store may access, as one abstract value; else any word.
 pub fn address(b: &Bounds, plan: &Plan, inst: &Inst, s: &State) -> Val
     requires { AreInLattice b.now s.now.regs }
     ensures address { result ≡ address_of_access b.now plan.now (shape_of inst.now) s.now }
@@ -25,8 +25,8 @@ pub fn address(b: &Bounds, plan: &Plan, inst: &Inst, s: &State) -> Val
     address_by_shape(b, plan, shape(inst), s)
 }
 
-/// Builds the whole state after a branch, on one of the branch's sides, or returns `None` if that
-/// side isn't possible.
+/// Returns the whole state after a branch that is taken (`side` is true) or isn't, or `None` if
+/// that side isn't possible.
 pub fn refine(b: &Bounds, plan: &Plan, inst: &Inst, s: &State, side: bool) -> Option<State>
     requires { AreInLattice b.now s.now.regs }
     ensures refine { result ≡ refine_of b.now plan.now (shape_of inst.now) s.now side }
@@ -40,8 +40,8 @@ pub fn refine(b: &Bounds, plan: &Plan, inst: &Inst, s: &State, side: bool) -> Op
     }
 }
 
-/// Builds the whole state after an instruction that stays in its frame and isn't a branch or a
-/// jump; only a load uses `loaded`. A local that it saves has room, one that it restores is there.
+/// Returns the whole state after an instruction that isn't a branch and goes on to the next one.
+/// Only a load uses `loaded`, the abstract value that is read.
 pub fn transfer(b: &Bounds, plan: &Plan, inst: &Inst, s: &State, loaded: &Val) -> State
     requires values { AreInLattice b.now s.now.regs }
     requires loaded { IsInLattice b.now loaded.now }
@@ -55,7 +55,7 @@ pub fn transfer(b: &Bounds, plan: &Plan, inst: &Inst, s: &State, loaded: &Val) -
     state_after_change(s, &c)
 }
 
-/// Builds the whole state that a change makes of another.
+/// Returns the whole state that the change `c` makes of the state `s`.
 pub fn state_after_change(s: &State, c: &Change) -> State
     ensures { result ≡ state_after s.now c.now }
 {
@@ -68,7 +68,7 @@ pub fn state_after_change(s: &State, c: &Change) -> State
     }
 }
 
-/// Builds the 27 register values of a whole state, which a change makes of another state.
+/// Returns the 27 register values of the state that the change `c` makes of the state `s`.
 fn regs_after_change(s: &State, c: &Change) -> [Val; 27]
     ensures { result ≡ (state_after s.now c.now).regs }
 {

@@ -41,7 +41,7 @@ pub struct Change {
     pub locals: ArrayVec<bool, 8>,
 }
 
-/// Returns a put of a change that changes nothing: a value for no place of a state.
+/// Returns the write of a change that changes nothing: a value for no slot of a state.
 #[inline(always)]
 pub(crate) fn no_write() -> RegisterWrite
     ensures { result ≡ no_write }
@@ -52,8 +52,8 @@ pub(crate) fn no_write() -> RegisterWrite
     }
 }
 
-/// Returns the put that a change needs to write a register's abstract value. If a state has no
-/// place for the register, nothing changes.
+/// Returns the write of a register's abstract value, for a change. If states have no slot for the
+/// register, nothing changes.
 #[inline(always)]
 pub fn register_write(r: u8, v: Val) -> RegisterWrite
     ensures { result ≡ register_write r v }
@@ -86,7 +86,7 @@ impl Change {
     ghost use Rattle.std.specs.Prelude.{◌≡◌};
     ghost use Rattle.vd_transfer.specs.Changes.{identity_keeping_values, state_after};
 
-    /// Overwrites a change with the identity, which keeps a whole abstract state.
+    /// Makes a change the identity, which keeps the state `s`. Its three writes keep their values.
     pub fn set_to_identity(&mut self, s: &State)
         ensures kept { self.new ≡ identity_keeping_values self.old s.now }
         ensures same { state_after s.now self.new ≡ s.now }
@@ -102,8 +102,8 @@ impl Change {
     }
 }
 
-/// Sets the destination of a change's put: a register's place in a state. For a lower register,
-/// clears the mark that those are the entry's.
+/// Directs a write of a change to the slot of the register `r`. For a lower register clears `mark`,
+/// which says that the lower registers are those of the entry.
 #[inline(always)]
 pub(crate) fn set_write_slot(write: &mut RegisterWrite, mark: &mut bool, r: u8)
     ensures slot { write.new ≡ record write.old { at = register_slot r } }
@@ -114,8 +114,8 @@ pub(crate) fn set_write_slot(write: &mut RegisterWrite, mark: &mut bool, r: u8)
     *mark = *mark && !lower;
 }
 
-/// Sets the destination of a change's third and last put: a register, whose value the put has
-/// already.
+/// Directs the third write of a change, which has its value already, to the slot of the register
+/// `r`.
 #[inline(always)]
 pub(crate) fn set_third_write_slot(b: &Bounds, s: &State, c: &mut Change, r: u8)
     requires values { AreInLattice b.now (state_after s.now c.old).regs }

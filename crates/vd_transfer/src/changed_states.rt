@@ -10,8 +10,8 @@ use crate::registers::{fixed_register_value, is_lower_slot, register_slot};
 use tcd_plan::Plan;
 use value_domain::{Bounds, State, Val};
 
-/// Returns the value at a place of a state after a change, which isn't built. `any`, which holds
-/// all words, is returned for what is unknown.
+/// Returns the value in slot `i` of the state after a change, without building that state. `any`,
+/// the value of all words, is returned for what is unknown.
 #[inline(always)]
 pub fn changed_value<'a>(s: &'a State, c: &'a Change, any: &'a Val, i: usize) -> &'a Val
     requires place { i < 27 }
@@ -31,7 +31,7 @@ pub fn changed_value<'a>(s: &'a State, c: &'a Change, any: &'a Val, i: usize) ->
     base_value_in_slot(s, c.base, any, i)
 }
 
-/// Returns the value of a register after a change of a state, which isn't built.
+/// Returns a register's abstract value after a change of a state, without building that state.
 pub(crate) fn changed_reg(b: &Bounds, plan: &Plan, s: &State, c: &Change, r: u8) -> Val
     requires register { r < 32 }
     requires values { AreInLattice b.now (state_after s.now c.now).regs }
@@ -46,7 +46,7 @@ pub(crate) fn changed_reg(b: &Bounds, plan: &Plan, s: &State, c: &Change, r: u8)
     }
 }
 
-/// Returns true if this put of a change writes the value at this place of a state.
+/// Returns true if this write of a change goes to slot `i` of a state.
 #[inline(always)]
 fn is_write_to_slot(write: &RegisterWrite, i: usize) -> bool
     ensures { IsTrue result ↔ (write.now.at ≡ Some i) }
@@ -57,8 +57,8 @@ fn is_write_to_slot(write: &RegisterWrite, i: usize) -> bool
     }
 }
 
-/// Returns the value at a place of a state before the puts of a change: the state's own, or `any`
-/// if forgotten.
+/// Returns the value in slot `i` that a change starts from, before its writes: the state's own, or
+/// `any` if the register becomes unknown.
 #[inline(always)]
 fn base_value_in_slot<'a>(s: &'a State, base: Base, any: &'a Val, i: usize) -> &'a Val
     requires place { i < 27 }

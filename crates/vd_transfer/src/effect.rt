@@ -28,8 +28,8 @@ pub(crate) struct ScaledAddress {
 
 // Each function below writes into the caller's `Change`, which isn't moved.
 
-/// Writes the change of a state by an instruction that computes an operation of two operands into a
-/// register.
+/// Writes into `c` the change of a state by an instruction that computes an operation on two
+/// operands: the result goes to the register `dst`.
 pub(crate) fn write_operation_change(
     b: &Bounds,
     plan: &Plan,
@@ -51,8 +51,8 @@ pub(crate) fn write_operation_change(
     evaluate_operation(b, plan, s, of, &mut c.second.value);
 }
 
-/// Writes the change of a state by an instruction that computes a scaled address: the base plus a
-/// shifted index goes to a register.
+/// Writes into `c` the change of a state by `addsc.a`: a base plus a shifted index goes to the
+/// register `dst`.
 #[inline(never)]
 pub(crate) fn write_scaled_address_change(
     b: &Bounds,
@@ -87,8 +87,8 @@ pub(crate) fn write_scaled_address_change(
     );
 }
 
-/// Writes the effect of a store, or of a load before its result, on a state: the base register is
-/// increased by the offset, if the access does that.
+/// Writes into `c` the change of a state by post-increment of a load or store: the offset is added
+/// to its base. Without post-increment nothing changes.
 pub(crate) fn write_base_change(b: &Bounds, plan: &Plan, s: &State, at: Addressing, c: &mut Change)
     requires base { IsArg at.base }
     requires values { AreInLattice b.now s.now.regs }
@@ -112,8 +112,8 @@ pub(crate) fn write_base_change(b: &Bounds, plan: &Plan, s: &State, at: Addressi
     }
 }
 
-/// Writes the change of a state by a load: the loaded value, the third put of `c`, goes to a
-/// register. The base may be increased.
+/// Writes into `c` the change of a state by a load: the value of its third write goes to the
+/// register `dst`, after any post-increment.
 pub(crate) fn write_load_change(
     b: &Bounds,
     plan: &Plan,
@@ -134,8 +134,8 @@ pub(crate) fn write_load_change(
     set_third_write_slot(b, s, c, dst);
 }
 
-/// Writes the change of a state by an instruction whose result is unknown, as MFCR's: the register
-/// may have any word.
+/// Writes into `c` the change of a state by an instruction whose result is unknown, such as MFCR:
+/// the register `dst` may have any word.
 pub(crate) fn write_unknown_result_change(b: &Bounds, s: &State, dst: u8, c: &mut Change)
     requires { AreInLattice b.now s.now.regs }
     ensures write { state_after s.now c.new ≡ state_after_reg_write s.now dst any_val }
@@ -147,8 +147,8 @@ pub(crate) fn write_unknown_result_change(b: &Bounds, s: &State, dst: u8, c: &mu
     write_any(&mut c.second.value);
 }
 
-/// Writes the change of a state by saving a lower context (SVLCX): the mark that its registers are
-/// those of the entry becomes a local.
+/// Writes into `c` the change of a state by SVLCX: the state's flag `lower` is added to those of
+/// its saved lower contexts.
 pub(crate) fn write_lower_save_change(s: &State, c: &mut Change)
     requires { length s.now.locals.items < 8 }
     ensures { state_after s.now c.new ≡ state_after_lower_save s.now }
@@ -157,7 +157,7 @@ pub(crate) fn write_lower_save_change(s: &State, c: &mut Change)
     c.locals.push(s.lower);
 }
 
-/// Writes the change by BISR: it saves a lower context, enables interrupts and sets CCPN.
+/// Writes into `c` the change by BISR: a saved lower context, IE on, and `number` as CCPN.
 pub(crate) fn write_bisr_change(s: &State, number: u8, c: &mut Change)
     requires { length s.now.locals.items < 8 }
     ensures { state_after s.now c.new
@@ -168,8 +168,8 @@ pub(crate) fn write_bisr_change(s: &State, number: u8, c: &mut Change)
     c.ccpn = number;
 }
 
-/// Writes the change of a state by RSLCX, which restores the last saved lower context: the lower
-/// registers become unknown.
+/// Writes into `c` the change of a state by RSLCX: the last saved lower context is restored, and
+/// the lower registers become unknown.
 pub(crate) fn write_lower_restore_change(b: &Bounds, s: &State, c: &mut Change)
     requires some { 1 ≤ length s.now.locals.items }
     requires values { AreInLattice b.now s.now.regs }
@@ -184,7 +184,7 @@ pub(crate) fn write_lower_restore_change(b: &Bounds, s: &State, c: &mut Change)
     c.base = Base::Forgotten;
 }
 
-/// Writes the change of a state by ENABLE or DISABLE: only IE is set.
+/// Writes into `c` the change of a state by ENABLE or DISABLE: only IE is set, to `ie`.
 pub(crate) fn write_ie_change(s: &State, ie: bool, c: &mut Change)
     ensures { state_after s.now c.new ≡ record s.now { ie = ie } }
 {
@@ -192,11 +192,8 @@ pub(crate) fn write_ie_change(s: &State, ie: bool, c: &mut Change)
     c.ie = ie;
 }
 
-/// Writes into `c` what an instruction of this shape changes. The instruction stays in its frame
-/// and isn't a branch or a jump.
-/// A load writes the third value of `c` to its register; all else that `c` held is ignored.
-/// An instruction that saves a lower context needs room for a local, one that restores one needs a
-/// local.
+/// Writes into `c` what an instruction that isn't a branch and goes on to the next one changes. A
+/// load writes the value of the third write in `c` to its register.
 #[tactic(auto, unfolding(crate::specs::EffectsOnStates::transfer_of))]
 pub fn write_instruction_change(b: &Bounds, plan: &Plan, shape: Shape, s: &State, c: &mut Change)
     requires shape { IsShape shape }

@@ -16,8 +16,8 @@ pub fn refinement_laws()
     ensures { RefinementIsSoundAndMonotone }
 {}
 
-/// The laws of effects: they are sound. If a state holds the machine's registers, the changed state
-/// holds them after the instruction; a side that a branch takes is possible.
+/// The laws of soundness: if a state holds the machine's registers, the state after an instruction,
+/// or on a branch's side, holds them afterwards.
 pub fn soundness_laws()
     ensures transfer { TransferIsSound }
     ensures restore { RestoreIsSound }

@@ -20,8 +20,8 @@ pub(crate) struct Operation {
     pub(crate) y: Arg,
 }
 
-/// Returns the place of an operand's value among a state's 27 registers, or `None` for a constant
-/// or a fixed register.
+/// Returns the slot of an operand's register among a state's 27, or `None` for a constant and for
+/// A0, A1, A8, A9 and A11.
 pub(crate) fn operand_slot(a: Arg) -> Option<usize>
     ensures { result ≡ arg_slot a }
 {
@@ -31,8 +31,8 @@ pub(crate) fn operand_slot(a: Arg) -> Option<usize>
     }
 }
 
-/// Returns the abstract value of an operand, borrowed from the state, or `None` if the state has
-/// none: a constant or a fixed register.
+/// Returns the abstract value of an operand, borrowed from the state, or `None` for a constant and
+/// for A0, A1, A8, A9 and A11.
 #[inline(always)]
 pub(crate) fn arg_in_state<'a>(b: &Bounds, plan: &Plan, s: &'a State, a: Arg) -> Option<&'a Val>
     requires operand { IsArg a }
@@ -46,8 +46,8 @@ pub(crate) fn arg_in_state<'a>(b: &Bounds, plan: &Plan, s: &'a State, a: Arg) ->
     }
 }
 
-/// Returns the word of an operand that can have only one: a constant, or a state's register whose
-/// value is a Set of one word.
+/// Returns the word of a constant operand, or of a register whose value in the state is a Set of
+/// one word. For other operands returns `None`.
 #[inline(always)]
 pub fn arg_word(b: &Bounds, plan: &Plan, s: &State, a: Arg) -> Option<u32>
     requires operand { IsArg a }
@@ -65,7 +65,7 @@ pub fn arg_word(b: &Bounds, plan: &Plan, s: &State, a: Arg) -> Option<u32>
     }
 }
 
-/// Returns the abstract value of an operand that is a constant: the Set of one word.
+/// Returns the abstract value of a constant: the Set of one word.
 #[inline(always)]
 pub(crate) fn constant_value(b: &Bounds, w: u32) -> Val
     ensures word { result ≡ word_val w }
@@ -75,8 +75,8 @@ pub(crate) fn constant_value(b: &Bounds, w: u32) -> Val
     Val::one(w)
 }
 
-/// Returns the abstract value of an instruction's operand. This is a function of its own, so that a
-/// caller that needs none built needs no stack for one.
+/// Returns the abstract value of an instruction's operand. A function of its own, so that a caller
+/// that needs none built needs no stack for one.
 #[inline(never)]
 pub(crate) fn build_arg(b: &Bounds, plan: &Plan, s: &State, a: Arg) -> Val
     requires operand { IsArg a }
@@ -90,7 +90,7 @@ pub(crate) fn build_arg(b: &Bounds, plan: &Plan, s: &State, a: Arg) -> Val
     }
 }
 
-/// Overwrites an abstract value with that of an instruction's operand.
+/// Overwrites `out` with the abstract value of an instruction's operand.
 pub(crate) fn write_arg(b: &Bounds, plan: &Plan, s: &State, a: Arg, out: &mut Val)
     requires operand { IsArg a }
     requires values { AreInLattice b.now s.now.regs }
@@ -103,7 +103,7 @@ pub(crate) fn write_arg(b: &Bounds, plan: &Plan, s: &State, a: Arg, out: &mut Va
     }
 }
 
-/// Returns true if the right operand of a comparison is the left register itself.
+/// Returns true if `y`, the right operand of a comparison, is its left register `x` itself.
 pub(crate) fn is_same_register(x: u8, y: Arg) -> bool
     ensures { result ≡ is_same_register x y }
 {
@@ -113,7 +113,7 @@ pub(crate) fn is_same_register(x: u8, y: Arg) -> bool
     }
 }
 
-/// Overwrites an abstract value with the Set of one word, as a constant operand has.
+/// Overwrites `out` with the Set of one word, the abstract value of a constant.
 #[inline(always)]
 pub(crate) fn write_constant(b: &Bounds, x: u32, out: &mut Val)
     ensures word { out.new ≡ word_val x }
@@ -123,8 +123,8 @@ pub(crate) fn write_constant(b: &Bounds, x: u32, out: &mut Val)
     set_word(out, x);
 }
 
-/// Overwrites an abstract value with that of an operand that has to be built. This is a function of
-/// its own, so that its callers need no stack for a value.
+/// Overwrites `out` with the value of an operand that isn't in the state. A function of its own, so
+/// that its callers need no stack for a value.
 #[inline(never)]
 fn write_built_arg(b: &Bounds, plan: &Plan, s: &State, a: Arg, out: &mut Val)
     requires operand { IsArg a }

@@ -16,8 +16,8 @@ use value_domain::{
     write_cover_words, write_span,
 };
 
-/// Overwrites `out` with the abstract value of an operation: the least one that holds the results
-/// on the members of `v` and `w`.
+/// Overwrites `out` with the abstract value of an operation on `v` and `w`: the cover of all
+/// results for two Sets, else of an interval.
 pub fn write_operation_value(b: &Bounds, op: Op, v: &Val, w: &Val, out: &mut Val)
     requires left { IsInLattice b.now v.now }
     requires right { IsInLattice b.now w.now }
@@ -33,8 +33,8 @@ pub fn write_operation_value(b: &Bounds, op: Op, v: &Val, w: &Val, out: &mut Val
     }
 }
 
-/// Overwrites `out` with the abstract value of an operation on an instruction's operands. Single
-/// words are computed directly; a value that the state has isn't copied.
+/// Overwrites `out` with the abstract value of an operation on a state's operands. Single words are
+/// computed directly; a value that the state has isn't copied.
 pub(crate) fn evaluate_operation(b: &Bounds, plan: &Plan, s: &State, of: Operation, out: &mut Val)
     requires operands { IsArg of.x × IsArg of.y }
     requires values { AreInLattice b.now s.now.regs }
@@ -63,8 +63,8 @@ pub(crate) fn is_comparison(op: Op) -> bool
     }
 }
 
-/// Writes the abstract value of an operation on two Sets: the cover of the results of all pairs of
-/// words. Few pairs are computed one by one.
+/// Overwrites `out` with the abstract value of an operation on two Sets: the cover of the results
+/// of all pairs of words.
 fn write_results_of_pairs(b: &Bounds, op: Op, xs: &[u32], ys: &[u32], out: &mut Val)
     requires left { 1 ≤ length xs.now }
     requires right { 1 ≤ length ys.now }
@@ -84,8 +84,8 @@ fn write_results_of_pairs(b: &Bounds, op: Op, xs: &[u32], ys: &[u32], out: &mut 
     write_results_of_many_pairs(b, op, xs, ys, out);
 }
 
-/// Writes the abstract value of an operation on a Span: the cover of an interval that both
-/// operands' extents give, or of 0 and 1.
+/// Overwrites `out` with an operation's value if an operand is a Span: `w` for a move, else the
+/// cover of 0, 1 or an interval.
 fn write_results_by_extents(b: &Bounds, op: Op, v: &Val, w: &Val, out: &mut Val)
     requires left { IsInLattice b.now v.now }
     requires right { IsInLattice b.now w.now }
@@ -106,8 +106,8 @@ fn write_results_by_extents(b: &Bounds, op: Op, v: &Val, w: &Val, out: &mut Val)
     }
 }
 
-/// Writes the abstract value of an operation on two small Sets: the results of all pairs of words
-/// are joined one by one.
+/// Overwrites `out` with the abstract value of an operation on two small Sets: the results of all
+/// pairs of words are joined one by one.
 fn write_results_of_few_pairs(b: &Bounds, op: Op, xs: &[u32], ys: &[u32], out: &mut Val)
     requires left { 1 ≤ length xs.now }
     requires right { 1 ≤ length ys.now }
@@ -121,8 +121,8 @@ fn write_results_of_few_pairs(b: &Bounds, op: Op, xs: &[u32], ys: &[u32], out: &
     }
 }
 
-/// Writes the abstract value of an operation on two large Sets, row by row. A Set looks up each
-/// result, a Span only needs their extent. A table keeps the results that were added lately.
+/// Overwrites `out` with the abstract value of an operation on two large Sets. Results are joined
+/// while `out` is a Set; of the others only the extent is.
 #[inline(never)]
 fn write_results_of_many_pairs(b: &Bounds, op: Op, xs: &[u32], ys: &[u32], out: &mut Val)
     requires left { 1 ≤ length xs.now }
@@ -149,7 +149,7 @@ fn write_results_of_many_pairs(b: &Bounds, op: Op, xs: &[u32], ys: &[u32], out: 
     }
 }
 
-/// Joins the results of an operation on a word with each of the others into an abstract value.
+/// Joins the results of an operation on `x` with each word of `ys` into an abstract value.
 fn join_results_of_word(b: &Bounds, v: &mut Val, op: Op, x: u32, ys: &[u32])
     requires { IsInLattice b.now v.old }
     ensures cover { v.new ≡ cover b.now (members v.old ++ map (alu_of op x) ys.now) }
@@ -160,8 +160,8 @@ fn join_results_of_word(b: &Bounds, v: &mut Val, op: Op, x: u32, ys: &[u32])
     }
 }
 
-/// Fills a row with the results of an operation on a word and each of the others. Each operation
-/// has a loop of its own.
+/// Fills `row` with the results of an operation on `x` and each word of `ys`. Each operation has a
+/// loop of its own.
 fn fill_result_row(op: Op, x: u32, ys: &[u32], row: &mut [u32])
     requires { length row.old ≡ length ys.now }
     ensures { row.new ≡ map (alu_of op x) ys.now }
@@ -189,8 +189,8 @@ fn fill_result_row(op: Op, x: u32, ys: &[u32], row: &mut [u32])
     }
 }
 
-/// Joins results of an operation into a Set, eight at a time, except eight that were joined
-/// together lately. `met` keeps words joined lately, `eights` words joined eight at a time.
+/// Joins results of an operation into a value by eights, except those in the tables of recent
+/// results: `eights` of eights, `met` of single words.
 fn join_result_row(
     b: &Bounds,
     v: &mut Val,
@@ -225,7 +225,7 @@ fn join_result_row(
 }
 
 /// Joins the results of an operation on all pairs of words into a Span, by the extent of all
-/// results.
+/// results. `row` is scratch space.
 fn widen_by_results(b: &Bounds, v: &mut Val, op: Op, xs: &[u32], ys: &[u32], row: &mut [u32])
     requires span { IsNone (words_of v.old) }
     requires value { IsInLattice b.now v.old }
@@ -242,7 +242,8 @@ fn widen_by_results(b: &Bounds, v: &mut Val, op: Op, xs: &[u32], ys: &[u32], row
     write_span(b, e.least, e.greatest, e.step, v);
 }
 
-/// Fills the row with the results of this operation on a word and each of the others.
+/// Fills `row` with the results of an operation on `x` and each of `ys`, inlined once per
+/// operation.
 #[inline(always)]
 fn fill_result_row_inlined(op: Op, x: u32, ys: &[u32], row: &mut [u32])
     requires { length row.old ≡ length ys.now }
@@ -261,8 +262,8 @@ fn recent_result_slot(z: u32) -> usize
     (z.wrapping_mul(0x9683_8B77) >> 23) as usize
 }
 
-/// Joins eight results of an operation into an abstract value, and notes that they were added
-/// together. This is a function of its own, so that its callers need no stack.
+/// Joins eight results of an operation into an abstract value, and keeps them in `eights` from `k`
+/// on. A function of its own, so that callers need no stack.
 #[inline(never)]
 fn join_eight_results(
     b: &Bounds,
@@ -288,7 +289,8 @@ fn join_eight_results(
     }
 }
 
-/// Joins a result of an operation into an abstract value, unless the result was added lately.
+/// Joins a result `z` of an operation into an abstract value and into `met`, the table of recent
+/// results, unless `met` has `z` already.
 #[inline(always)]
 fn join_result(b: &Bounds, v: &mut Val, met: &mut [u32; 512], z: u32)
     requires value { IsInLattice b.now v.old }
@@ -305,7 +307,7 @@ fn join_result(b: &Bounds, v: &mut Val, met: &mut [u32; 512], z: u32)
     met[k] = z;
 }
 
-/// Writes the abstract value of an operation on an instruction's operands. A value that the state
+/// Evaluates an operation as `evaluate_operation` does, from abstract values. One that the state
 /// has isn't copied; any other is built first.
 fn evaluate_on_state_values(b: &Bounds, plan: &Plan, s: &State, of: Operation, out: &mut Val)
     requires operands { IsArg of.x × IsArg of.y }
@@ -323,8 +325,8 @@ fn evaluate_on_state_values(b: &Bounds, plan: &Plan, s: &State, of: Operation, o
     }
 }
 
-/// Writes the abstract value of an operation, as `operate` does, if the right operand has to be
-/// built. `v` is the left one.
+/// Evaluates an operation as `evaluate_operation` does, on the left value `v`, if the state doesn't
+/// have the value of the right operand.
 #[inline(never)]
 fn evaluate_built_right(b: &Bounds, plan: &Plan, s: &State, of: Operation, v: &Val, out: &mut Val)
     requires operand { IsArg of.y }
@@ -336,8 +338,8 @@ fn evaluate_built_right(b: &Bounds, plan: &Plan, s: &State, of: Operation, v: &V
     write_operation_value(b, of.op, v, &build_arg(b, plan, s, of.y), out);
 }
 
-/// Writes the abstract value of an operation, as `operate` does, if the left operand has to be
-/// built.
+/// Evaluates an operation as `evaluate_operation` does, if the state doesn't have the value of the
+/// left operand.
 #[inline(never)]
 fn evaluate_built_left(b: &Bounds, plan: &Plan, s: &State, of: Operation, out: &mut Val)
     requires operands { IsArg of.x × IsArg of.y }

@@ -38,8 +38,8 @@ pub struct Interval {
 
 pub(crate) const NONE: Interval = Interval { lo: 1, last: 0 };
 
-/// Returns two intervals that together have the words in a relation to some word from `low` to
-/// `high`, to which refinement narrows an operand.
+/// Returns two intervals that hold the words in a relation to some word from `low` to `high`. Only
+/// for Same do they hold others too.
 #[tactic(auto, unfolding(crate::specs::Relations::MayBeRelated))]
 pub(crate) fn related_intervals(rel: Relation, low: u32, high: u32) -> (Interval, Interval)
     ensures { (x : ℕ) → x < 2 ^ 32 → (IsInInterval result.0 x ⊎ IsInInterval result.1 x)
@@ -70,8 +70,8 @@ pub fn refine_by_relation(b: &Bounds, rel: Relation, v: &Val, w: &Val, out: &mut
     }
 }
 
-/// Joins the members of `v` in an interval into a refined value. If nothing was found before, the
-/// value becomes their cover. Returns false if nothing is found, before or now.
+/// Joins the members of `v` in an interval into `out`, or if `found` is false overwrites `out` with
+/// their cover. Returns false if there are none, before or now.
 pub(crate) fn join_members_in_interval(
     b: &Bounds,
     v: &Val,
@@ -120,8 +120,8 @@ pub(crate) fn refine_left_operand(
     }
 }
 
-/// Refines both operands of a branch on a side to the members that are possible there. Returns
-/// false if an operand has none.
+/// Writes into `c` the values of a branch's operands on a side, `v` and `w` without the members
+/// impossible there. Returns false if one has no others.
 pub(crate) fn refine_both_operands(
     b: &Bounds,
     test: Comparison,
@@ -150,7 +150,7 @@ pub(crate) fn refine_both_operands(
     true
 }
 
-/// Returns the interval of the words below `high`, those in the relation Less to `high`.
+/// Returns the interval of the words below `high`, which is empty if `high` is 0.
 fn words_below(high: u32) -> Interval
     ensures { (x : ℕ) → IsInInterval result x ↔ (x < high) }
 {
@@ -164,7 +164,7 @@ fn words_below(high: u32) -> Interval
     }
 }
 
-/// Returns the interval of the words from `low` on, those in the relation AtLeast to `low`.
+/// Returns the interval of the words from `low` to the greatest word, 2^32 - 1.
 fn words_from(low: u32) -> Interval
     ensures { (x : ℕ) → x < 2 ^ 32 → IsInInterval result x ↔ (low ≤ x) }
 {
@@ -174,7 +174,7 @@ fn words_from(low: u32) -> Interval
     }
 }
 
-/// Returns the interval of the words above `low`, those in the relation More to `low`.
+/// Returns the interval of the words above `low`, which is empty if `low` is the greatest word.
 fn words_above(low: u32) -> Interval
     ensures { (x : ℕ) → x < 2 ^ 32 → IsInInterval result x ↔ (low < x) }
 {
@@ -188,8 +188,8 @@ fn words_above(low: u32) -> Interval
     }
 }
 
-/// Refines by equality: overwrites `out` with the cover of the members of both values. Returns
-/// false if there are none.
+/// Refines by equality: overwrites `out` with the cover of the common members of both values.
+/// Returns false if there are none.
 fn refine_to_common_members(b: &Bounds, v: &Val, w: &Val, out: &mut Val) -> bool
     requires left { IsInLattice b.now v.now }
     requires right { IsInLattice b.now w.now }
@@ -219,8 +219,8 @@ fn refine_by_intervals(b: &Bounds, rel: Relation, v: &Val, w: &Val, out: &mut Va
     join_members_in_interval(b, v, second, found, out)
 }
 
-/// Joins the members of `v` in an interval into a refined value. This is a function of its own, so
-/// that its callers need no stack for a value.
+/// Joins the members of `v` in an interval into `out`, which is a value already. A function of its
+/// own, so that its callers need no stack.
 #[inline(never)]
 fn join_meet_with_interval(b: &Bounds, v: &Val, i: Interval, out: &mut Val)
     requires value { IsInLattice b.now v.now }

@@ -10,8 +10,8 @@ use value_domain::{A10_SLOT, Bounds, State, Val};
 /// The number of A10, the stack pointer, among registers.
 pub const A10: u8 = 26;
 
-/// Returns the place of a register among the 27 values of a state, or `None` for A0, A1, A8, A9 and
-/// A11.
+/// Returns the slot of a register, its index among the 27 values of a state, or `None` for A0, A1,
+/// A8, A9 and A11.
 #[tactic(auto, unfolding(crate::specs::Registers::register_slot))]
 #[inline(always)]
 pub(crate) fn register_slot(r: u8) -> Option<usize>
@@ -62,8 +62,8 @@ pub fn reg(plan: &Plan, s: &State, r: u8) -> Val
     }
 }
 
-/// Returns the abstract value of a register that states have no place for: the plan's word for A0,
-/// A1, A8 and A9, any for A11.
+/// Returns the abstract value of a register without a slot in states: the plan's word for A0, A1,
+/// A8 and A9, any word for A11.
 #[inline(always)]
 pub(crate) fn fixed_register_value(plan: &Plan, r: u8) -> Val
     ensures { result ≡ fixed_register_value plan.now r }
@@ -83,8 +83,8 @@ pub(crate) fn fixed_register_value(plan: &Plan, r: u8) -> Val
     Val::one(plan.globals[i])
 }
 
-/// Returns a register's abstract value, as `reg` does; the value is in the lattice if all values of
-/// the state are.
+/// Returns a register's abstract value, as `reg` does, and promises that the value is in the
+/// lattice.
 #[inline(always)]
 pub(crate) fn reg_in_lattice(b: &Bounds, plan: &Plan, s: &State, r: u8) -> Val
     requires register { r < 32 }
@@ -97,8 +97,8 @@ pub(crate) fn reg_in_lattice(b: &Bounds, plan: &Plan, s: &State, r: u8) -> Val
     reg(plan, s, r)
 }
 
-/// Returns a register's abstract value, borrowed from the state, or `None` if the state has no
-/// place for the register.
+/// Returns a register's abstract value, borrowed from the state, or `None` for A0, A1, A8, A9 and
+/// A11, which have no slot.
 #[inline(always)]
 pub(crate) fn reg_in_state<'a>(b: &Bounds, plan: &Plan, s: &'a State, r: u8) -> Option<&'a Val>
     requires register { r < 32 }
@@ -114,8 +114,7 @@ pub(crate) fn reg_in_state<'a>(b: &Bounds, plan: &Plan, s: &'a State, r: u8) -> 
     }
 }
 
-/// Returns true if the place `i` among the values of a state is that of a lower register: D0..D7 or
-/// A2..A7.
+/// Returns true if slot `i` of a state is that of a lower register: D0..D7 or A2..A7.
 pub fn is_lower_slot(i: usize) -> bool
     ensures { result ≡ is_lower_slot i }
 {

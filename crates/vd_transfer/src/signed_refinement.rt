@@ -34,7 +34,7 @@ pub fn refine_by_signed_relation(b: &Bounds, rel: Relation, v: &Val, w: &Val, ou
     join_members_in_interval(b, v, fourth, three, out)
 }
 
-/// Returns a word's place in the signed order of all words: 80000000 is at 0, 0 is at 2^31.
+/// Returns a word's rank in the signed order: 0 for 80000000, 2^31 for 0, 2^32 - 1 for 7FFFFFFF.
 pub(crate) fn signed_rank(x: u32) -> u32
     ensures { result ≡ signed_rank x }
 {
@@ -63,7 +63,8 @@ fn signed_range(v: &Val) -> (u32, u32)
     }
 }
 
-/// Returns the words whose positions in the signed order are in an interval, as two intervals.
+/// Returns two intervals of the words whose ranks in the signed order are in `i`: of negative
+/// words, and of others. Either may be empty.
 fn words_in_signed_interval(i: Interval) -> (Interval, Interval)
     ensures { (x : ℕ) → x < 2 ^ 32 → (IsInInterval result.0 x ⊎ IsInInterval result.1 x)
         ↔ IsInInterval i (signed_rank x) }

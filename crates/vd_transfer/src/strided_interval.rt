@@ -22,8 +22,8 @@ const ANY: StridedInterval = StridedInterval {
     step: 0,
 };
 
-/// Returns the strided interval that covers the results of an operation, by the extents of its
-/// operands. A shift goes by the count `w`.
+/// Returns the strided interval that covers an operation's results, by the extents `e` and `f` of
+/// its operands. A shift counts by the right operand `w`.
 #[tactic(auto, unfolding(crate::specs::Intervals::result_interval))]
 pub(crate) fn result_interval(op: Op, e: &Extent, f: &Extent, w: &Val) -> StridedInterval
     requires left { e.now.least ≤ e.now.greatest }
@@ -115,8 +115,8 @@ fn difference_interval(e: &Extent, f: &Extent) -> StridedInterval
     }
 }
 
-/// Returns the strided interval of an extent shifted by the six bits `n`, filled with zeros, as SH
-/// does.
+/// Returns the strided interval that covers words of extent `e` shifted by SH: left by `n` if below
+/// 32, else right by 64 - `n`.
 #[tactic(auto, unfolding(crate::specs::Intervals::logical_shift_interval))]
 fn logical_shift_interval(e: &Extent, n: u8) -> StridedInterval
     requires count { n < 64 }
@@ -150,8 +150,8 @@ fn logical_shift_interval(e: &Extent, n: u8) -> StridedInterval
     }
 }
 
-/// Returns the strided interval of an extent shifted by the six bits `n`, filled with the sign bit,
-/// as SHA does.
+/// Returns the strided interval that covers words of extent `e` shifted by SHA, which fills with
+/// the sign bit. `n` is the count's six bits.
 #[tactic(auto, unfolding(crate::specs::Intervals::arithmetic_shift_interval))]
 fn arithmetic_shift_interval(e: &Extent, n: u8) -> StridedInterval
     requires count { n < 64 }

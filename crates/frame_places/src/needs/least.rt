@@ -24,7 +24,8 @@ fn raise_needs_by_rows(needs: &mut [u32], rows: &[NeedRow], cap: u32) -> bool
     changed
 }
 
-/// Raises the needs of frames, pass by pass over the rows, until no need changes.
+/// Raises the needs of frames, pass by pass over the rows, until no need changes. A need above the
+/// cap stays at `cap + 1`.
 fn raise_needs_until_met(needs: &mut [u32], rows: &[NeedRow], cap: u32)
     requires cap { cap < 2 ^ 16 }
     requires nodes { length needs.old < 2 ^ 16 }
@@ -37,8 +38,8 @@ fn raise_needs_until_met(needs: &mut [u32], rows: &[NeedRow], cap: u32)
     while raise_needs_by_rows(needs, rows, cap) {}
 }
 
-/// Raises the need of a row's frame to what the row asks for, if lower, and returns whether the
-/// need changed.
+/// Raises the need of a row's frame to what the row asks for, at most `cap + 1`. Returns whether
+/// the need changed.
 fn raise_need_by_row(needs: &mut [u32], row: &NeedRow, cap: u32) -> bool
     requires cap { cap < 2 ^ 16 }
     requires nodes { length needs.old < 2 ^ 16 }
@@ -60,8 +61,8 @@ fn raise_need_by_row(needs: &mut [u32], row: &NeedRow, cap: u32) -> bool
 /// that they enter.
 const FEW: u32 = 4;
 
-/// Returns the least needs, by numbers of frames, that meet all rows, or `None` if some need has to
-/// be above the cap.
+/// Returns the least needs of `nodes` frames, by their numbers, that meet all rows, or `None` if
+/// some need has to be above the cap.
 pub fn least_needs(
     alloc: Global,
     nodes: usize,

@@ -6,7 +6,7 @@ use crate::needs::reach::{FrameEdge, predecessors};
 use indexmap::IndexMap;
 use std::alloc::{AllocError, Global};
 
-/// Returns a topological rank for each node of the graph of entries: below the ranks of nodes
+/// Returns a topological rank for each node of the graph of entries: less than those of nodes
 /// entered, or 0 if a cycle is reached.
 pub fn node_ranks(
     alloc: Global,
@@ -62,8 +62,8 @@ pub(crate) fn are_ranks_rising(ranks: &[usize], edges: &[FrameEdge]) -> bool
     true
 }
 
-/// Counts a ranked node off the nodes that its predecessors enter, and queues each predecessor with
-/// none left: a step of a topological sort.
+/// Counts a ranked node off the unranked nodes that each predecessor enters (`left`), and queues
+/// predecessors with none left: a step of topological sorting.
 fn queue_freed_predecessors(
     sources: &IndexMap<usize, Vec<usize>>,
     node: usize,

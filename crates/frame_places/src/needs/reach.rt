@@ -57,8 +57,8 @@ pub fn has_marked_node(marks: &[bool], nodes: &[usize]) -> bool
     false
 }
 
-/// Returns the first node, by these orders, on a cycle of the graph of entries, or `None`, as when
-/// ranks rise along all edges.
+/// Returns the first node, by the numbers `orders`, on a cycle of the graph of entries. `None` if
+/// no node is, as when ranks rise along all edges.
 pub fn first_recursive_node(
     alloc: Global,
     orders: &[u64],
@@ -93,7 +93,7 @@ fn add_edges(
     Ok(())
 }
 
-/// Returns the predecessors of each node of the graph of entries: the nodes that enter the node.
+/// Returns a map from each node of the graph of entries to the nodes that enter the node.
 pub(crate) fn predecessors(
     alloc: Global,
     edges: &[FrameEdge],
@@ -145,8 +145,8 @@ fn add_predecessor(
     Ok(())
 }
 
-/// Marks all nodes of the graph of entries from which a queued node is reached, and empties the
-/// queue.
+/// Marks all nodes of the graph of entries from which a node of the queue `work` is reached, and
+/// empties the queue.
 fn finish_marking(
     marks: &mut [bool],
     work: &mut Vec<usize>,
@@ -163,7 +163,7 @@ fn finish_marking(
     Ok(())
 }
 
-/// Marks these nodes of the graph of entries, and queues those that weren't marked.
+/// Marks these nodes of the graph of entries, and queues those that weren't marked before.
 fn mark_and_queue_nodes(
     marks: &mut [bool],
     work: &mut Vec<usize>,
@@ -178,7 +178,7 @@ fn mark_and_queue_nodes(
     Ok(())
 }
 
-/// Marks a node of the graph of entries, and queues the node if there was no mark.
+/// Marks a node of the graph of entries, and queues the node unless marked before.
 fn mark_and_queue_node(
     marks: &mut [bool],
     work: &mut Vec<usize>,
@@ -205,8 +205,8 @@ fn is_marked_node(marks: &[bool], node: usize) -> bool
     }
 }
 
-/// Returns the first recursive node, by these orders, among the nodes up to `node`; `first` is that
-/// of the nodes before.
+/// Returns the first recursive node, by the numbers `orders`, among the nodes up to `node`. `first`
+/// is the first of the nodes before.
 fn first_recursive_node_up_to(
     alloc: Global,
     orders: &[u64],

@@ -41,8 +41,8 @@ pub data InputRequirement : Type 0 where
   are_linked_sources : (layout_name : List ℕ) (names : List (List ℕ)) → InputRequirement
   is_cert_per_task : (plan_name tasks_name : List ℕ) (names : List (List ℕ)) → InputRequirement
 
--- this is required of each of these input files, which have places from this one on, and then the
--- rest
+-- the requirements that `ask` makes of each of these input files, numbered from this place on, and
+-- then the rest
 abbrev pub require_each : (ℕ → List ℕ → InputRequirement) → ℕ → List (List ℕ) → List InputRequirement → List InputRequirement
 require_each ask place [] rest = rest
 require_each ask place (name ∷ names) rest = ask place name ∷ require_each ask (place + 1) names rest
@@ -131,8 +131,8 @@ abbrev pub IsFirstBadInput : FileMap → List InputRequirement → List ℕ → 
 IsFirstBadInput m [] line = ⊥
 IsFirstBadInput m (ask ∷ asks) line = IsBadInputWithLine m ask line ⊎ (IsGoodInput m ask × IsFirstBadInput m asks line)
 
--- A command finds its input bad: the line is on the first of what it asks that isn't so, and all
--- that was held stays.
+-- A command finds its input bad: the printed line is on the first requirement that isn't met, and
+-- each name holds what it held.
 pub record BadInputOf (asks : List InputRequirement) (before after : FileMap) (printed : List ℕ) : Type 0 where
   pub first : IsFirstBadInput before asks printed
   pub stays : after ≡ before

@@ -10,8 +10,8 @@ use tcd_forms::{PlanFile, copy_printed_line, bootgen_line};
 use tcd_plan::Plan;
 use tcd_reading::{Outcome, read_input, report_with_file};
 
-/// The command `bootgen`: reads a plan, and returns the outcome with the source of its boot
-/// sequence to write.
+/// The command `bootgen`: reads a plan, and returns the outcome with its boot sequence to write as
+/// a source. The sequence is at `at` and jumps to `entry`.
 #[inline(never)]
 pub(crate) fn generate_boot_source<F: Files>(
     alloc: Global,
@@ -35,8 +35,8 @@ pub(crate) fn generate_boot_source<F: Files>(
     bootgen_report(alloc, &board, entry, at, source)
 }
 
-// Returns the report of `bootgen`: the source of the plan's boot sequence, to write under this
-// name.
+// Returns the report of `bootgen`: the plan's boot sequence, at `at` with a jump to `entry`, to
+// write as the source of this name.
 fn bootgen_report(alloc: Global, plan: &Plan, entry: u32, at: u32, source: &str) -> Outcome
     requires { at + 224 ≤ 2 ^ 32 }
     ensures { IsReportOutcome (WritesBootSource entry at source.now plan.now) ⊥ result }

@@ -39,8 +39,8 @@ pub(crate) fn certify_cells<F: Files>(
     make_cells_cert(alloc, cert, &image, &board, &words)
 }
 
-// Makes the least certificate of format 2 under the plan with cells. Reports the file to write, or
-// the rule that refuses it.
+// Makes the least certificate of format 2 under the plan with cells. Reports the file of this name
+// to write, or the rule that fails.
 fn make_cells_cert(alloc: Global, name: &str, image: &Image, plan: &Plan, cells: &Cells) -> Outcome
     requires { AreCells plan.now cells.now }
     ensures { IsReportOutcome (IsCellcertReport name.now image.now plan.now cells.now) ⊥ result }

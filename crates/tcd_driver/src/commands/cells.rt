@@ -41,8 +41,8 @@ pub(crate) fn check_cells<F: Files>(
     cells_verdict(alloc, &image, &board, &words, &proof)
 }
 
-// Checks a certificate under the plan with cells, and whether it keeps the cells. Reports the
-// verdict.
+// Checks a certificate under the plan with cells, and whether stores keep the cells in their bounds
+// (K16). Reports the verdict.
 fn cells_verdict(alloc: Global, image: &Image, plan: &Plan, cells: &Cells, cert: &Cert) -> Outcome
     requires { AreCells plan.now cells.now }
     ensures { IsReportOutcome (IsCellsVerdict image.now plan.now cells.now cert.now) ⊥ result }

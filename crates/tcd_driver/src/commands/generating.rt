@@ -32,8 +32,8 @@ pub(crate) fn certify_generated_image(alloc: Global, functions: u32) -> Outcome
     }
 }
 
-/// Makes the least certificate of format 1 of a generated image, and reports the numbers of its
-/// nodes and points.
+/// Makes the least certificate of format 1 of the generated image with this number of functions.
+/// Reports its nodes, points and need, or why none is accepted.
 fn report_generated_image(alloc: Global, functions: u32, image: &Image, plan: &Plan) -> Outcome
     ensures { IsReportOutcome (IsGenReport functions image.now plan.now) ⊥ result }
 {
@@ -47,7 +47,7 @@ fn report_generated_image(alloc: Global, functions: u32, image: &Image, plan: &P
     }
 }
 
-/// Asserts that reading the plan that `gen` generated fails only because memory ran out. Does
+/// Asserts that the error of reading the generated plan is `NoMemory`, the only one possible. Does
 /// nothing else.
 fn assert_plan_out_of_memory(e: PlanErr)
     requires { e ≡ plan_error.NoMemory }

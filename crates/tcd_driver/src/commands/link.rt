@@ -38,7 +38,8 @@ pub(crate) fn link_files<F: Files>(
     link_object_files(alloc, image, &places, objects, files)
 }
 
-// Reads the object files that `link` names, and links the objects by this layout.
+// Reads the object files that `link` names, links the objects by this layout, and reports the image
+// to write under this name.
 fn link_object_files<F: Files>(
     alloc: Global,
     name: &str,

@@ -51,8 +51,8 @@ pub(crate) fn certify_tasks<F: Files>(
     }
 }
 
-// Makes the certificate of each task for `taskcert`. Reports the files to write, or why the tasks
-// are refused.
+// Makes the certificate of each task for `taskcert`. Reports the files of these names to write, or
+// why the tasks are refused.
 fn taskcert_report(
     alloc: Global,
     image: &Image,
@@ -122,8 +122,8 @@ fn make_each_task_cert(
     Ok((writes, sum))
 }
 
-// Makes the least certificate of format 2 for task `u`'s view, and checks that it keeps the tasks
-// apart (K17).
+// Builds task `u`'s view of the image and the plan, and makes its certificate. Returns the
+// certificate with its need, or why there is none.
 fn make_task_cert(
     alloc: Global,
     image: &Image,
@@ -156,8 +156,8 @@ fn add_task_cert_file(
     Ok(())
 }
 
-/// Makes the least certificate of format 2 for a task's view of the image, and checks that it keeps
-/// the tasks apart (K17).
+/// Makes the least certificate of format 2 for a task's view. Returns the certificate with its
+/// need, or why none keeps the tasks apart (K17) or is accepted.
 fn make_task_view_cert(
     alloc: Global,
     view: &Image,

@@ -67,8 +67,8 @@ pub(crate) fn check_tasks<F: Files>(
     read_task_certs(alloc, &image, &board, &list, certs, files)
 }
 
-/// Returns the need that counts for a task in the sum that `tasks` and `taskcert` print: at least
-/// two areas, with which each task except the first starts.
+/// Returns the need of task `u` that counts in the sum of `tasks` and `taskcert`. That is `need`
+/// for the first task, and at least 2 for each other.
 pub(crate) fn counted_task_need(u: usize, need: u32) -> u32
     ensures { result ≡ (if u == 0 then need else max need 2) }
 {
@@ -83,8 +83,8 @@ pub(crate) fn report_wrong_cert_count(alloc: Global) -> Outcome
     Ok(Report::of(alloc, Status::BadInput, line))
 }
 
-// Reads the certificate of each task and reports the verdict of `tasks`, or that there are more or
-// fewer names than tasks.
+// Reports bad input if there are more or fewer names than tasks. Else reads each task's certificate
+// and reports the verdict of `tasks`.
 fn read_task_certs<F: Files>(
     alloc: Global,
     image: &Image,
@@ -105,7 +105,7 @@ fn read_task_certs<F: Files>(
     }
 }
 
-/// Reads the certificate of each task, and reports the verdict of `tasks`.
+/// Reads the certificates of these names, one for each task, and reports the verdict of `tasks`.
 fn verdict_on_cert_files<F: Files>(
     alloc: Global,
     image: &Image,
@@ -171,8 +171,8 @@ fn tasks_verdict(
     }
 }
 
-// Checks each task's certificate for `tasks`: returns the sum of their needs, or the first task
-// whose certificate is refused.
+// Checks each task's certificate. Returns the sum of the needs that count, or the first task whose
+// certificate is refused.
 fn check_each_task_cert(
     alloc: Global,
     image: &Image,
@@ -203,8 +203,8 @@ fn check_each_task_cert(
     Ok(Tally::Sum(sum))
 }
 
-// Checks a certificate for task `u`'s view by the rules of all certificates, then whether the tasks
-// are kept apart (K17).
+// Checks a certificate for task `u`'s view, and whether the tasks are kept apart (K17). Returns its
+// need, or the first rule that fails.
 fn check_task_cert(
     alloc: Global,
     image: &Image,

@@ -6,7 +6,7 @@ use Rattle.cfg_recover.specs.Entries.{possible_irqs_of, irq_key}
 use Rattle.tcd_report.specs.declared.graphs.handlers.Handlers.{Handlers}
 use Rattle.tcd_report.specs.Graphs.{unique_addresses, lines_to}
 
--- the graph's `irq` lines of handlers with these entries, all with the same front, of this length
+-- these are the graph's `irq` lines of handlers with these entries, with one front of this length
 pub record AreHandlerLines (size : ℕ) (entries lines : List ℕ) : Type 0 where
   pub front : List ℕ
   pub sized : length front ≡ size

@@ -15,17 +15,17 @@ pub record IsGreatestHeight (P : ℕ → Type 0) (n : ℕ) : Type 0 where
   pub reached : (n ≡ 0) ⊎ P n
   pub most : (m : ℕ) → P m → m ≤ n
 
--- n is the greatest number that belongs to an element of a list, or 0 if there is none
+-- n is the greatest number that an element of a list has, or 0 if there is none
 abbrev pub IsGreatestHeightInList : {A : Type 0} → (A → ℕ → Type 0) → List A → ℕ → Type 0
 IsGreatestHeightInList {A = A} Has xs n = IsGreatestHeight (λ m. (x : A) × (Contains xs x × Has x m)) n
 
--- the number is the length of the longest call chain through a callee: the height of its key in the
--- map, plus 1
+-- m is the length of the longest call chain through the callee with key k: its height in the map,
+-- plus 1
 abbrev pub IsHeightThroughCallee : {S : Type 0} → HashMap Key ℕ S → Key → ℕ → Type 0
 IsHeightThroughCallee heights k m = (h : ℕ) × ((get key_eq heights k ≡ Some h) × (m ≡ suc h))
 
--- the number is the height in the map, plus 1, of the key of a function that the instruction at a
--- point calls
+-- m is the length of the longest call chain through a function that a point calls: its height in
+-- the map, plus 1
 abbrev pub IsHeightThroughCall : {S : Type 0} → ImageData → PlanData → CertData → HashMap Key ℕ S → Key → Point → ℕ → Type 0
 IsHeightThroughCall image plan cert heights key point m = (k : Key) × (CallsAt image plan cert key point k × IsHeightThroughCallee heights k m)
 

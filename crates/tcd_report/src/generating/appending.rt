@@ -22,7 +22,7 @@ pub(crate) fn append_zeros(out: &mut Vec<u8>, count: usize) -> Result<(), NoMemo
     Ok(())
 }
 
-/// Appends the instruction at one address of a generated image that calls a later address.
+/// Appends to a generated image the call at address `at`, whose target is the later address `to`.
 pub(crate) fn append_call(out: &mut Vec<u8>, at: u32, to: u32) -> Result<(), NoMemory>
     requires forward { at ≤ to }
     requires near { to < at + 2 ^ 24 }

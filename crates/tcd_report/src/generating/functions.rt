@@ -6,7 +6,7 @@ use crate::generating::appending::{append_call, append_segment_bytes, append_zer
 use std::alloc::Global;
 use tcd_base::NoMemory;
 
-/// The bytes of all functions, each but the last with zeros up to the next one.
+/// Returns the bytes of all n functions, each but the last with zeros up to the next one.
 pub(crate) fn generated_functions(alloc: Global, n: u32) -> Result<Vec<u8>, NoMemory>
     requires some { 1 ≤ n }
     requires few { n ≤ 500 }
@@ -48,7 +48,7 @@ pub(crate) fn generated_main_code() -> [u8; 32]
     ]
 }
 
-// Appends the handler of interrupt p: `bisr16 p`, a call of the last function, `rslcx`, `rfe16`.
+// Appends the handler of interrupt p: `bisr16 p`, a call of function n - 1, `rslcx`, `rfe16`.
 #[tactic(auto, using(crate::proofs::ImageLemmas::Instructions::handler_bytes))]
 pub(crate) fn append_handler(out: &mut Vec<u8>, n: u32, p: u8) -> Result<(), NoMemory>
     requires some { 1 ≤ n }
@@ -81,7 +81,7 @@ fn append_function(out: &mut Vec<u8>, n: u32, i: u32) -> Result<(), NoMemory>
     append_segment_bytes(out, &[0x00, 0x90])
 }
 
-// Appends to a generated image of n functions a call of function i, or nothing if i isn't below n.
+// Appends a call of function i at address `at`; nothing if i isn't below n, the number of all.
 fn append_call_if_any(out: &mut Vec<u8>, n: u32, at: u32, i: u32) -> Result<(), NoMemory>
     requires few { n ≤ 500 }
     requires low { 0x80008000 ≤ at }

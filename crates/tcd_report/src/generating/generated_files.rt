@@ -21,10 +21,10 @@ pub struct Generated {
     pub plan: Vec<u8>,
 }
 
-/// The files of the generated image of n functions and of its plan. The image has a main program,
-/// the handlers of sixteen nested interrupts, and the functions. The main program makes system
-/// calls, and calls functions of a table by the numbers that a peripheral gives. The functions call
-/// each other as the places of a binary heap. The time is linear in n.
+/// Makes the files of the generated image of n functions and of its plan. The image has a main
+/// program, the handlers of sixteen nested interrupts, and the functions. The main program makes
+/// system calls, and calls functions of a table by the numbers that a peripheral gives. Function i
+/// calls the functions 2i + 1 and 2i + 2. The time is linear in n.
 pub fn generate(alloc: Global, n: u32) -> Result<Generated, NoMemory>
     requires some { 1 ≤ n }
     requires few { n ≤ 500 }
@@ -46,7 +46,7 @@ pub fn generate(alloc: Global, n: u32) -> Result<Generated, NoMemory>
     Ok(Generated { elf, plan })
 }
 
-/// Returns the image of n functions that is generated with its plan: all segments, from the main
+/// Returns the image of n functions that is generated with its plan: five segments, from the main
 /// program to the functions.
 #[tactic(auto, using(crate::proofs::ImageLemmas::Instructions::system_bytes))]
 pub fn image_of_functions(alloc: Global, n: u32) -> Result<Image, NoMemory>

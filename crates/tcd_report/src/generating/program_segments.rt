@@ -7,8 +7,8 @@ use crate::generating::functions::{append_handler, generated_function_address};
 use std::alloc::Global;
 use tcd_base::{NoMemory, put_u32};
 
-/// Returns the bytes of the segment of a generated image that has the handlers of the interrupts
-/// 10, 20 .. 160, and zeros up to the next handler.
+/// Returns the bytes of the handlers of the interrupts 10, 20 .. 160 in a generated image of n
+/// functions, with zeros up to the next handler.
 pub(crate) fn generated_vectors(alloc: Global, n: u32) -> Result<Vec<u8>, NoMemory>
     requires some { 1 ≤ n }
     requires few { n ≤ 500 }
@@ -23,8 +23,8 @@ pub(crate) fn generated_vectors(alloc: Global, n: u32) -> Result<Vec<u8>, NoMemo
     Ok(out)
 }
 
-/// Returns the segment of the table of a generated image: the addresses of sixteen functions, from
-/// which the main program takes one.
+/// Returns the bytes of the table of a generated image of n functions: the addresses of sixteen
+/// functions, from which the main program takes one.
 pub(crate) fn generated_function_table(alloc: Global, n: u32) -> Result<Vec<u8>, NoMemory>
     requires some { 1 ≤ n }
     requires few { n ≤ 500 }

@@ -33,8 +33,8 @@ pub(crate) struct Edges {
     pub(crate) keys: Vec<Key>,
 }
 
-/// Finds the edges of a point in the graph: the addresses where its instruction goes on, by the
-/// words of their lines.
+/// Sets `ways` to the edges of a point in the graph: the addresses where its instruction goes on,
+/// by the words of their lines.
 pub(crate) fn find_edges(
     ways: &mut Edges,
     judged: &Judged,

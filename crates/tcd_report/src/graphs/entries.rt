@@ -12,7 +12,7 @@ use tc_isa::Shape;
 use tcd_base::NoMemory;
 use value_domain::State;
 
-/// Fills the list, instead of what it held, with the entries of the frames of this kind.
+/// Replaces what the list held by the entries of the frames of this kind, for the graph's lines.
 pub(crate) fn set_kind_entries(all: &mut Vec<u32>, keys: &[Key], kind: u8) -> Result<(), NoMemory>
     ensures { OnOk result (all.new.items ≡ entries_of_kind kind keys.now) }
 {
@@ -25,8 +25,8 @@ pub(crate) fn set_kind_entries(all: &mut Vec<u32>, keys: &[Key], kind: u8) -> Re
     Ok(())
 }
 
-/// Fills the list, instead of what it held, with the entry of the frame that the instruction enters
-/// if its access may be misaligned, else with nothing.
+/// Replaces what the list held by the entry of the handler of misaligned accesses, if the
+/// instruction's access may be misaligned, else by nothing.
 pub(crate) fn set_misaligned_entry(
     all: &mut Vec<u32>,
     judged: &Judged,

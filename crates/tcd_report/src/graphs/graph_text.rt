@@ -34,7 +34,7 @@ pub(crate) struct Drawing {
     pub(crate) ways: Edges,
 }
 
-/// Returns the graph as text before its first node: without lines.
+/// Returns a graph without lines, to which the lines of nodes are then appended.
 pub(crate) fn empty_graph_text(alloc: Global) -> Drawing
     ensures text { string_bytes result.text ≡ [] }
     ensures handlers { (plan : PlanData) → KnowsHandlers plan result.ways.irq }
@@ -80,7 +80,7 @@ pub(crate) fn append_node_lines<'a>(
     Ok(())
 }
 
-// Appends the lines of a point to the text of the graph.
+// Appends the lines of the point at `addr` with state `s` to the text of the graph.
 fn append_point_lines(
     graph: &mut Drawing,
     judged: &Judged,

@@ -44,8 +44,8 @@ pub(crate) fn no_handlers(alloc: Global) -> Handlers
     }
 }
 
-/// Finds the handlers of the interrupts that may come in a state, for the graph's `irq` lines, each
-/// entry once. `room` may be overwritten.
+/// Sets `known` to the handlers of the interrupts that may come in a state, for the graph's `irq`
+/// lines, each entry once. `room` may be overwritten.
 pub(crate) fn find_handlers(
     known: &mut Handlers,
     room: &mut Vec<u32>,
@@ -71,7 +71,7 @@ pub(crate) fn find_handlers(
     Ok(())
 }
 
-// Fills the list with the entries of the handlers of these interrupts, instead of what it held.
+// Replaces what the list held by the entries of the handlers of these interrupts.
 fn set_handler_entries(all: &mut Vec<u32>, plan: &Plan, irqs: &[u8]) -> Result<(), NoMemory>
     ensures { OnOk result (all.new.items ≡ irq_entry_vectors plan.now irqs.now) }
 {
@@ -82,8 +82,8 @@ fn set_handler_entries(all: &mut Vec<u32>, plan: &Plan, irqs: &[u8]) -> Result<(
     Ok(())
 }
 
-/// Gives the graph's `irq` lines of known handlers this front. A front as long as the one before is
-/// written over that one.
+/// Sets the front of the graph's `irq` lines of known handlers. A front as long as the one before
+/// is written over that one.
 pub(crate) fn set_handler_line_front(known: &mut Handlers, front: &str) -> Result<(), NoMemory>
     requires { AreHandlerLines known.old.front known.old.entries.items known.old.lines.items }
     ensures lines { OnOk result (known.new.lines.items
@@ -124,7 +124,7 @@ fn write_handler_fronts(lines: &mut [u8], front: &[u8], entries: &[u32])
     }
 }
 
-/// Writes the front of one handler's line at its place in the lines of the handlers.
+/// Writes a front into the graph's `irq` lines at index `at`, where a line begins.
 fn write_handler_front(lines: &mut [u8], at: usize, front: &[u8])
     requires { at + length front.now ≤ length lines.old }
     ensures { lines.new ≡ with_handler_front lines.old at front.now }
@@ -158,8 +158,8 @@ pub(crate) fn append_handler_lines(
     append_ascii(text, &known.lines)
 }
 
-/// Gives a fact about the entries of handlers on the graph's `irq` lines: each is below 2^32, as
-/// its type says. It does nothing else.
+/// Establishes that entries of handlers on the graph's `irq` lines are below 2^32, as their type
+/// says. Changes nothing.
 pub(crate) fn handler_entries_fit_words(addresses: &[u32])
     ensures { (k : ℕ) → slice_index addresses.now k < 2 ^ 32 }
 {}

@@ -12,7 +12,7 @@ use tc_isa::Shape;
 use tcd_base::NoMemory;
 use tcd_text::{append_ascii, append_hex_word, append_str, hex_word};
 
-/// Makes the front of all lines of a node in the graph: its key.
+/// Sets the front of all lines of a node in the graph: its key, a colon and a blank.
 pub(crate) fn set_node_line_front(front: &mut String, key: &Key) -> Result<(), NoMemory>
     ensures front { OnOk result (string_bytes front.new ≡ key_front key.now) }
     ensures ascii { OnOk result (IsAscii (key_front key.now)) }
@@ -25,7 +25,7 @@ pub(crate) fn set_node_line_front(front: &mut String, key: &Key) -> Result<(), N
     append_str(front, ": ")
 }
 
-/// Makes the front of all lines of a point in the graph: that of its node, and the address.
+/// Sets the front of all lines of a point in the graph: that of its node, and the address.
 pub(crate) fn set_point_line_front(
     front: &mut String,
     key_front: &str,
@@ -40,7 +40,7 @@ pub(crate) fn set_point_line_front(
     append_str(front, " ")
 }
 
-/// Appends the lines of a point to the graph, except that of its own return.
+/// Appends the lines of a point to the graph, except the one that ends with `ret` or `rfe`.
 pub(crate) fn append_edges(text: &mut String, front: &str, ways: &Edges) -> Result<(), NoMemory>
     requires ascii { IsAscii front.now }
     requires handlers { let irq = ways.now.irq in
@@ -56,7 +56,7 @@ pub(crate) fn append_edges(text: &mut String, front: &str, ways: &Edges) -> Resu
     append_handler_lines(text, front, &ways.irq)
 }
 
-/// Appends to the graph the line of a point's own return, which ends with `ret` or `rfe`, if its
+/// Appends to the graph the line of a point that ends with `ret` or `rfe`, if the point's
 /// instruction is a return.
 pub(crate) fn append_ret_line(text: &mut String, front: &str, shape: Shape) -> Result<(), NoMemory>
     ensures { OnOk result (string_bytes text.new

@@ -18,8 +18,8 @@ use tcd_plan::Plan;
 use value_domain::State;
 use vd_transfer::{write_branch_change, identity_change};
 
-/// Appends the successors of a point in its frame, for the graph: addresses, except those after a
-/// call or a system call.
+/// Appends the addresses where a point goes on in its frame by a jump, a branch or the next
+/// instruction. After a call, a system call or a return there are none.
 pub(crate) fn push_successors(
     all: &mut Vec<u32>,
     judged: &Judged,
@@ -49,7 +49,7 @@ pub(crate) fn push_successors(
     }
 }
 
-/// Appends a point's successors by a jump. A function of its own, as it has room for their list.
+/// Appends the targets of a point's jump. Not inlined, so that their list takes stack only here.
 #[inline(never)]
 fn push_jump_targets(
     all: &mut Vec<u32>,
@@ -67,8 +67,8 @@ fn push_jump_targets(
     Ok(())
 }
 
-/// Fills the list, instead of what it held, with the address after a call or a system call, once
-/// for each of the entered frames whose node has an exit.
+/// Replaces what the list held by address `back`, after a call or a system call, once for each
+/// entered frame whose node has an exit.
 pub(crate) fn set_return_addresses(
     all: &mut Vec<u32>,
     cert: &Cert,
@@ -84,7 +84,7 @@ pub(crate) fn set_return_addresses(
     Ok(())
 }
 
-// Appends the successor by one side of a branch to those in the graph, if that side is possible.
+// Appends `to`, the successor on one side of a branch in the graph, if that side is possible.
 fn push_branch_successor(
     all: &mut Vec<u32>,
     judged: &Judged,
@@ -104,7 +104,7 @@ fn push_branch_successor(
     Ok(())
 }
 
-// Whether a side of a branch is possible. A function of its own, as it has room for a change.
+// Returns true if a branch may go this way. Not inlined, so that a change takes stack only here.
 #[inline(never)]
 fn is_branch_side_possible(judged: &Judged, shape: Shape, s: &State, taken: bool) -> bool
     requires shape { IsShape shape }
@@ -116,7 +116,7 @@ fn is_branch_side_possible(judged: &Judged, shape: Shape, s: &State, taken: bool
     write_branch_change(judged.bounds, judged.plan, shape, s, taken, &mut c)
 }
 
-// Appends the address after a call, a successor in the graph, if the node of the entered frame's
+// Appends address `back`, where a caller goes on in the graph, if the node of the entered frame's
 // key has an exit.
 fn push_return_addr(all: &mut Vec<u32>, cert: &Cert, key: &Key, back: u32) -> Result<(), NoMemory>
     ensures { OnOk result

@@ -50,7 +50,7 @@ pub(crate) fn heights(alloc: Global, judged: &Judged) -> Result<HashMap<Key, u32
     Ok(heights)
 }
 
-// Returns the height of a node: the length of the longest call chain that begins there.
+// Returns the height of a node: 0, or the greatest height of a function that it calls, plus 1.
 fn height_of_node<'a>(
     judged: &Judged,
     heights: &HashMap<Key, u32>,
@@ -74,7 +74,7 @@ fn height_of_node<'a>(
     most
 }
 
-// The length of the longest call chain that begins with the instruction at a point.
+// Returns the length of the longest call chain that begins at a point, or 0 without a call.
 fn height_at_point(
     judged: &Judged,
     heights: &HashMap<Key, u32>,
@@ -114,9 +114,8 @@ fn height_ranks(alloc: Global, cert: &Cert) -> Result<Vec<(u16, Key)>, NoMemory>
     Ok(ranks)
 }
 
-// The length of the longest call chain that begins with a call: the greatest height of a function
-// that it may enter, plus 1, or 0 if none has a height. A function of its own, as it has room for a
-// list of functions.
+// Returns the length of the longest call chain that begins with a call, or 0 if no function that
+// may be called has a height. Not inlined, so that a list of functions takes stack only here.
 #[inline(never)]
 fn height_of_call(
     plan: &Plan,
@@ -140,7 +139,7 @@ fn height_of_call(
     most
 }
 
-// The length of the longest call chain that begins with a call of this function.
+// Returns the height of a called function plus 1, or 0 if the map has no height for it.
 fn height_of_callee(heights: &HashMap<Key, u32>, key: &Key, target: u32) -> u32
     requires { AreHeightsBounded heights.now }
     ensures { IsGreatestHeight

@@ -20,8 +20,8 @@ pub(crate) struct LongestCalls {
     pub(crate) prio: u16,
 }
 
-/// Returns the length of the longest call chain of each interrupt priority that has nodes, for the
-/// report.
+/// Returns the length of the longest call chain of each interrupt priority that has nodes, by the
+/// heights of the nodes.
 pub(crate) fn longest_calls_by_priority(
     alloc: Global,
     cert: &Cert,
@@ -48,7 +48,7 @@ pub(crate) fn longest_calls_by_priority(
     Ok(rows)
 }
 
-/// The longest call chains of the priorities below a number, by ascending priority.
+/// Returns the known longest call chains of the priorities below `count`, by ascending priority.
 pub(crate) fn longest_calls_below(
     alloc: Global,
     known: &HashMap<u16, u32>,
