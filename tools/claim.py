@@ -52,10 +52,11 @@ OTHER_FIELDS = "  -- the fields of other commands are left out here"
 #: What part 2 begins with: which certificates are accepted, and which files are taken as what.
 LATER = (
     "image_of_file", "GivesPlan",
-    "Accepts", "IsAcceptedWithNeed", "IsAcceptedForTask", "IsLeastOfItsFormat", "NoneAccepted",
-    "KeepsCells", "KeepsRule17", "CertData", "certificate_of", "bytes_of_object", "bytes_of_cert",
-    "bytes_of_routine", "assembled_code", "CannotFail", "MayPrintText", "IsDecidedStatus",
-    "refusal_of", "plan_refusal", "image_refusal", "reloc_value_refusal", "ImageErr", "PlanErr",
+    "Accepts", "IsAcceptedWithNeed", "IsAcceptedForTask", "IsLeastOfItsFormat", "IsNoCertAccepted",
+    "CertKeepsCells", "KeepsRule17", "CertData", "certificate_of", "bytes_of_object",
+    "bytes_of_cert", "bytes_of_instructions", "assembled_code", "CallCannotFail", "MayPrintText",
+    "IsDecidedStatus", "refusal_of", "plan_refusal", "image_refusal", "reloc_value_refusal",
+    "ImageErr", "PlanErr",
 )
 #: What a page names and doesn't follow: the ends that aren't Done.
 OTHER_ENDS = re.compile(r"RefusalBy\w+|BadInputOf|AreInputsPresent|InputRequirement")
@@ -76,20 +77,20 @@ class Table:
 
 TABLES = (
     Table(
-        ("listed", "meanings"),
+        ("table_rows", "meanings"),
         (
             r'    row \(codes "(.*?)"\) (?:\(codes "|\[)(.*?)(?:"\)|\]) (.*) ∷',
             r'    line \(codes "(.*?)"\) (.*) ∷',
         ),
         "{0[1]:9} {0[2]:18} {0[3]:16} {1[2]}",
-        "listed: name, operands, form, op1, op2; meanings: shape",
+        "table_rows: name, operands, form, op1, op2; meanings: shape",
         ("row", "line"),
     ),
     Table(
-        ("word_by_form", "bounds"),
-        (r"word_by_form (\w+) op1 op2 f = (.*)", r"bounds (\w+) = fields (.*)"),
+        ("word_by_form", "field_bounds"),
+        (r"word_by_form (\w+) op1 op2 f = (.*)", r"field_bounds (\w+) = fields (.*)"),
         "{0[1]:4} {1[2]:22} {0[2]}",
-        "form; bounds: c, s1, s2, n, k; word_by_form: the number of op1, op2 and f",
+        "form; field_bounds: c, s1, s2, n, k; word_by_form: the number of op1, op2 and f",
     ),
 )
 

@@ -19,7 +19,7 @@ import sys
 
 CRATES = os.path.join(os.path.dirname(os.path.abspath(__file__)), "..", "crates")
 
-# the fields that a form has (tc_isa/specs/Forms.antt, `bounds`)
+# the fields that a form has (tc_isa/specs/Forms.antt, `field_bounds`)
 FORMS = {
     "Rlc": "c s1 k", "Rr": "c s1 s2 n", "Rc": "c s1 k", "Bol": "s1 s2 k", "Bo": "s1 s2 k", "Brr": "s1 s2 k", "Brc": "s1 s2 k",
     "B": "k", "Abs": "s1 k", "Sys": "", "Sr": "s1", "Sc": "k", "Sb": "k", "Sbr": "s2 k", "Src": "s1 k", "Srr": "s1 s2",
@@ -60,7 +60,7 @@ def fields_of(row):
 def listed(all_rows):
     text = lambda t: f'(codes "{t}")' if t else "[]"
     lines = [f"    row {text(n)} {text(o)} {f} 0x{a:02x} 0x{b:02x} ∷" for n, o, f, a, b in all_rows]
-    return "listed =\n" + "\n".join(lines) + "\n    []\n"
+    return "table_rows =\n" + "\n".join(lines) + "\n    []\n"
 
 
 def items(name, kind, values, count=None):
@@ -110,7 +110,7 @@ def index_of_names(all_rows):
 
 def replace_item(text, name, new):
     """The text with the item of this name written anew."""
-    end = r"\n    \[\]\n" if name == "listed =" else r";\n" if "COUNT" in name else r"\n\];\n" if "static" in name else r"\Z"
+    end = r"\n    \[\]\n" if name == "table_rows =" else r";\n" if "COUNT" in name else r"\n\];\n" if "static" in name else r"\Z"
     found = re.search(rf"^{re.escape(name)}.*?{end}", text, flags=re.M | re.S)
     if not found:
         sys.exit(f"no {name}")
@@ -201,7 +201,7 @@ def main():
     uses = ["_".join(f.upper() for f in fields_of(r)) or "NONE" for r in all_rows]
     wants = ["&[" + ", ".join(f"Want::{OPERANDS[t][1]}" for t in operands(r)) + "]" for r in all_rows]
     tables = {
-        "tc_isa/specs/Rows.antt": {"listed =": listed(all_rows)},
+        "tc_isa/specs/Rows.antt": {"table_rows =": listed(all_rows)},
         "tc_isa/src/table.rt": {"pub const ROW_COUNT": f"pub const ROW_COUNT: usize = {len(all_rows)};\n"},
         "tc_isa/src/row_uses.rt": {"static USES": by_rows("static USES", "Uses", all_rows, uses)},
         "tc_encode/src/index.rt": index(all_rows),

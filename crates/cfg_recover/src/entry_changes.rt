@@ -11,7 +11,7 @@ use arrayvec::ArrayVec;
 use depth_cert::Key;
 use tcd_plan::Plan;
 use value_domain::{Bounds, State, Val};
-use vd_transfer::{A10, Base, Change, identity_change, register_write, reg};
+use vd_transfer::{A10, Base, Change, identity_change, reg, register_write};
 
 /// The number of D15, which has a trap's identification number at the entry of its handler.
 const D15: u8 = 15;

@@ -8,7 +8,7 @@ ghost use Rattle.cfg_recover.specs.FlowDuties.{duties_of_entry, rule_of_entry, d
 
 use crate::decoded_inst::InstAt;
 use crate::entered::may_be_misaligned;
-use crate::entry_changes::{call_entry_change, aln_entry_change, sys_entry_change};
+use crate::entry_changes::{aln_entry_change, call_entry_change, sys_entry_change};
 use crate::flow_targets::{one_target, targets};
 use crate::keys::{ALN_VECTOR, SYS_VECTOR};
 use crate::{Enter, Leave};

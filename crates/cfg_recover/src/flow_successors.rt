@@ -22,7 +22,8 @@ use tc_isa::{Inst, Shape, shape};
 use tcd_plan::Plan;
 use value_domain::{Bounds, State, Val, write_any};
 use vd_transfer::{
-    Base, Change, write_instruction_change, identity_change, refine, state_after_change, write_address_by_shape,
+    Base, Change, identity_change, refine, state_after_change, write_address_by_shape,
+    write_instruction_change,
 };
 
 /// Returns the jumps of a point's Flow to successors in the same frame (K4); none after a call, a

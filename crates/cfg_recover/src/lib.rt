@@ -22,7 +22,9 @@ mod start;
 pub use after_return::after;
 pub use code_cache::KnownCodes;
 pub use entered::{may_be_misaligned, push_entered_keys};
-pub use entry_changes::{call_entry_change, handler_entry_change, aln_entry_change, sys_entry_change};
+pub use entry_changes::{
+    aln_entry_change, call_entry_change, handler_entry_change, sys_entry_change,
+};
 pub use flow_interrupts::possible_irqs;
 pub use flow_point::flow;
 pub use flow_successors::write_successor_change;
@@ -30,7 +32,7 @@ pub use flow_targets::{direct_target, targets};
 pub use flow_types::{Enter, Flow, Jump, Leave};
 pub use keys::{aln_key, entered_key, irq_key, sys_key};
 pub use laws::{fault_laws, frame_laws, move_laws, refusal_laws};
-pub use local_rules::{Located, check_local_rules, check_decoded, broken_rule_unless};
+pub use local_rules::{Located, broken_rule_unless, check_decoded, check_local_rules};
 pub use operation_cache::OperationCache;
-pub use rom_code::{code_at, are_bytes_in_rom};
+pub use rom_code::{are_bytes_in_rom, code_at};
 pub use start::{start_key, start_state};

@@ -25,8 +25,9 @@ use crate::rules::{
 };
 use crate::successor_rules::rule_broken_by_successors;
 use cfg_recover::{
-    Located, aln_key, call_entry_change, direct_target, entered_key, handler_entry_change, possible_irqs, irq_key,
-    may_be_misaligned, aln_entry_change, broken_rule_unless, sys_key, sys_entry_change, targets,
+    Located, aln_entry_change, aln_key, broken_rule_unless, call_entry_change, direct_target,
+    entered_key, handler_entry_change, irq_key, may_be_misaligned, possible_irqs, sys_entry_change,
+    sys_key, targets,
 };
 use depth_cert::{CALL, Key, SYS};
 use packed_cert::Node;
@@ -335,10 +336,7 @@ fn rule_broken_by_entry(
     };
     let into = broken_rule_unless(has_changed_point(&entered, key.entry, s, entry), rule);
     let need = broken_rule_unless(has_need_for_entry(node, s, &entered), SMALL_NEED);
-    let on = broken_rule_unless(
-        is_return_met(node, s, &entered, key.kind, back),
-        NO_POINT,
-    );
+    let on = broken_rule_unless(is_return_met(node, s, &entered, key.kind, back), NO_POINT);
     lesser_broken_rule(lesser_broken_rule(into, need), on)
 }
 

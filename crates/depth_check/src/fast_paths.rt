@@ -19,7 +19,7 @@ ghost use Rattle.cfg_recover.specs.Duties.{owed, jump};
 use crate::node_covers::is_own_state_covered;
 use crate::points::PointCheck;
 use crate::rules::NO_POINT;
-use cfg_recover::{KnownCodes, direct_target, broken_rule_unless};
+use cfg_recover::{KnownCodes, broken_rule_unless, direct_target};
 use elf_image::Image;
 use tc_isa::Shape;
 use tcd_base::is_in_one_range;

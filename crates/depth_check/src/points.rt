@@ -22,7 +22,7 @@ use crate::last_interrupts::LastInterrupts;
 use crate::rules::{SMALL_NEED, has_need_for_point, lesser_broken_rule};
 use arrayvec::ArrayVec;
 use cfg_recover::{
-    KnownCodes, Located, OperationCache, check_decoded, broken_rule_unless, write_successor_change,
+    KnownCodes, Located, OperationCache, broken_rule_unless, check_decoded, write_successor_change,
 };
 use elf_image::Image;
 use packed_cert::{Cert, Node, PointWalk};

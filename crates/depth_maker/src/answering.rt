@@ -150,7 +150,8 @@ fn cert_bytes_with_needs(alloc: Global, source: &Source, version: u8) -> Result<
     requires source { IsRowSource source.now }
     requires version { (version ≡ 1) ⊎ (version ≡ 2) }
     requires limits { HasLimitsOfFormat source.now.ground.now version }
-    ensures ok { IfOk result (λ out. AreClosedCertBytesForInputs source.now.ground.now version out.items) }
+    ensures ok { IfOk result (λ out. AreClosedCertBytesForInputs source.now.ground.now version
+        out.items) }
     ensures err { IfErr result (MakeErrHolds source.now.ground.now) }
 {
     match least_frame_needs(alloc, source)? {

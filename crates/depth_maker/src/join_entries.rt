@@ -20,8 +20,8 @@ use crate::join_place::join_at_place;
 use crate::join_successors::join_return;
 use crate::table::Table;
 use cfg_recover::{
-    Located, aln_key, entered_key, handler_entry_change, possible_irqs, irq_key, aln_entry_change, sys_key,
-    sys_entry_change, targets,
+    Located, aln_entry_change, aln_key, entered_key, handler_entry_change, irq_key, possible_irqs,
+    sys_entry_change, sys_key, targets,
 };
 use depth_cert::{CALL, Key};
 use frame_places::{Refusal, Spot, is_place_queued, register_reader};
@@ -200,7 +200,8 @@ fn join_system_call_duties(
 ) -> Result<(), Refusal>
     requires visited { VisitInvariantHolds v.now table.old }
     requires owes { OwesDuties v.now (system_call_duties v.now tin back) }
-    ensures ok { OnOk result (JoinedBy v.now table.old table.new (system_call_duties v.now tin back)) }
+    ensures ok { OnOk result (JoinedBy v.now table.old table.new
+        (system_call_duties v.now tin back)) }
     ensures err { IfErr result (RefusalIsRight v.now.ground.now) }
 {
     let g = v.ground;

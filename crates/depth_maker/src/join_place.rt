@@ -20,8 +20,8 @@ ghost use Rattle.depth_maker.specs.declared.inputs_and_limits.Ground.{Ground};
 use crate::inputs_and_limits::Visit;
 use crate::table::Table;
 use frame_places::{
-    LOCALS_RULE, Marked, Refusal, Spot, Work, add_or_find_place, record_place, set_and_queue_place,
-    requeue_readers_of,
+    LOCALS_RULE, Marked, Refusal, Spot, Work, add_or_find_place, record_place, requeue_readers_of,
+    set_and_queue_place,
 };
 use indexmap::IndexMap;
 use small_states::{Incoming, SmallKnown, incoming_ccpn};
@@ -37,9 +37,10 @@ pub(crate) fn add_place_if_new(
     value: SmallKnown,
 ) -> Result<Option<usize>, Refusal>
     requires listed { AreQueuedPlacesListed table.old.places (all_work table.old.work) }
-    requires few { AreWithinCertLimits (map place_of_spot table.old.points.items) table.old.frames.items }
-    ensures { (g : Ground) → TableInvariantHoldsForInputs g table.old → FlowsInto g table.old y value
-        → AddsPlaceIfNew g table.old table.new y value result }
+    requires few { AreWithinCertLimits
+        (map place_of_spot table.old.points.items) table.old.frames.items }
+    ensures { (g : Ground) → TableInvariantHoldsForInputs g table.old
+        → FlowsInto g table.old y value → AddsPlaceIfNew g table.old table.new y value result }
 {
     match add_or_find_place(&mut table.places, &mut table.work, y, value)? {
         None => {

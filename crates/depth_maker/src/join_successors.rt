@@ -53,7 +53,8 @@ pub(crate) fn join_successors(
     requires found { IsFaultlessInstruction v.now found.now }
     requires owes { OwesDuties v.now (successor_duties v.now found.now) }
     requires results { IsCorrectCache v.now.ground.now.bounds.now cache.old }
-    ensures ok { OnOk result (JoinedBy v.now table.old table.new (successor_duties v.now found.now)) }
+    ensures ok { OnOk result (JoinedBy v.now table.old table.new
+        (successor_duties v.now found.now)) }
     ensures err { IfErr result (RefusalIsRight v.now.ground.now) }
     ensures results { IsCorrectCache v.now.ground.now.bounds.now cache.new }
 {
@@ -128,9 +129,8 @@ pub(crate) fn join_first_successor(
 pub(crate) fn join_exit(alloc: Global, table: &mut Table, v: &Visit) -> Result<(), Refusal>
     requires visited { VisitInvariantHolds v.now table.old }
     requires owes { OwesDuty v.now (leave (exit_of_state v.now.state.now)) }
-    ensures ok { (rule : ℕ)
-        → OnOk result
-        (JoinedBy v.now table.old table.new (owed rule (leave (exit_of_state v.now.state.now)) ∷ [])) }
+    ensures ok { (rule : ℕ) → OnOk result (JoinedBy v.now table.old table.new
+        (owed rule (leave (exit_of_state v.now.state.now)) ∷ [])) }
     ensures err { IfErr result (RefusalIsRight v.now.ground.now) }
 {
     if is_place_queued(&table.places, table.near) {

@@ -24,6 +24,6 @@ mod visit;
 
 pub use answering::{MakeErr, make};
 pub use laws::{
-    accepted_cert_laws, derived_assignment_laws, duty_monotonicity_laws, effect_monotonicity_laws, least_cert_laws,
-    return_state_laws,
+    accepted_cert_laws, derived_assignment_laws, duty_monotonicity_laws, effect_monotonicity_laws,
+    least_cert_laws, return_state_laws,
 };

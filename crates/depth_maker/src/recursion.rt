@@ -7,8 +7,8 @@ use crate::rows::{KnownPoint, Source, point_row};
 use cfg_recover::start_state;
 use depth_cert::Key;
 use frame_places::{
-    FrameEdge, Spot, address_in_frame, first_recursive_node, frame_number, numbers_of_keys,
-    has_marked_node, reaching_marks,
+    FrameEdge, Spot, address_in_frame, first_recursive_node, frame_number, has_marked_node,
+    numbers_of_keys, reaching_marks,
 };
 use small_states::ScratchState;
 use std::alloc::{AllocError, Global};

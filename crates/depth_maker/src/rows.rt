@@ -14,7 +14,9 @@ use crate::interrupt_handlers::{Handler, append_handlers_if_enabled};
 use crate::table::Table;
 use cfg_recover::{Located, check_local_rules, start_state};
 use depth_cert::Key;
-use frame_places::{Marked, NeedRow, Spot, frame_number_near, entered_frame_numbers, is_plain_mark};
+use frame_places::{
+    Marked, NeedRow, Spot, entered_frame_numbers, frame_number_near, is_plain_mark,
+};
 use indexmap::IndexMap;
 use small_states::{Outline, ScratchState, SmallKnown};
 use std::alloc::{AllocError, Global};

@@ -10,8 +10,7 @@ ghost use Rattle.depth_maker.specs.SpotsAsPlaces.{spots_of_entries};
 use crate::rows::Source;
 use depth_cert::{Key, put_u16, write_key, write_no_exit};
 use frame_places::{
-    PointEntry, Spot, frame_number, sorted_frames, place_address, sorted_points,
-    points_of_frame,
+    PointEntry, Spot, frame_number, place_address, points_of_frame, sorted_frames, sorted_points,
 };
 use std::alloc::Global;
 use tcd_base::{NoMemory, put_u32};
@@ -57,8 +56,8 @@ fn append_table_points(
 ) -> Result<(), NoMemory>
     requires source { IsRowSource source.now }
     requires points { AreTablePointEntries source.now key points.now }
-    ensures { OnOk result (AppendsTablePoints source.now key (spots_of_entries source.now points.now)
-        out.old.items out.new.items) }
+    ensures { OnOk result (AppendsTablePoints source.now key
+        (spots_of_entries source.now points.now) out.old.items out.new.items) }
 {
     for p in points {
         append_table_point(out, source, key, p)?;

@@ -73,12 +73,7 @@ pub(crate) fn visit_place(
 /// Writes to `c` the change from the visited point's state to the state after its instruction,
 /// which may be in `cache`.
 #[inline(always)]
-pub(crate) fn write_step_change(
-    v: &Visit,
-    shape: Shape,
-    c: &mut Change,
-    cache: &mut OperationCache,
-)
+pub(crate) fn write_step_change(v: &Visit, shape: Shape, c: &mut Change, cache: &mut OperationCache)
     requires shape { IsShape shape }
     requires values { AreInLattice v.now.ground.now.bounds.now v.now.state.now.regs }
     requires room { LocalsFitInstruction v.now.ground.now.bounds.now shape v.now.state.now }

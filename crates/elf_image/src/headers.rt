@@ -101,8 +101,8 @@ pub(crate) fn loads_file_bytes(header: &Header) -> bool
 pub(crate) fn load_headers(alloc: Global, bytes: &[u8]) -> Result<Vec<Header>, ImageErr>
     requires long { 52 ≤ length bytes.now }
     requires good { program_header_refusal bytes.now ≡ None }
-    ensures ok { IfOk result (λ v.
-        (v.items ≡ load_headers bytes.now) × (exceeds_image_limits (load_headers bytes.now) ≡ false)) }
+    ensures ok { IfOk result (λ v. (v.items ≡ load_headers bytes.now)
+        × (exceeds_image_limits (load_headers bytes.now) ≡ false)) }
     ensures err { IfErr result (λ e.
         (e ≡ ImageErr.NoMemory)
         ⊎ ((e ≡ ImageErr.TooLarge) × (exceeds_image_limits (load_headers bytes.now) ≡ true))) }

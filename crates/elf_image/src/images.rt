@@ -3,7 +3,7 @@ use crate::ImageErr;
 use crate::file_checks::{check_elf_header, check_no_overlap, check_program_headers};
 use crate::file_writer::elf_file;
 use crate::headers::{E_ENTRY, elf_word_at, load_headers};
-use crate::segments::{Segment, segment_contains, segment_byte, loaded_segments};
+use crate::segments::{Segment, loaded_segments, segment_byte, segment_contains};
 use std::alloc::Global;
 use std::marker::Model;
 

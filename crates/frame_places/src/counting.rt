@@ -50,7 +50,8 @@ fn record_point(
 ) -> Result<(), Refusal>
     requires points { length points.old.items ≤ 2 ^ 16 }
     requires frames { length frames.old.items ≤ 2048 }
-    ensures points { OnOk result (points.new.items ≡ points_with points.old.items (Point key addr)) }
+    ensures points { OnOk result
+        (points.new.items ≡ points_with points.old.items (Point key addr)) }
     ensures frames { OnOk result
         (frames.new.items ≡ frames_with_entry frames.old.items (Point key addr)) }
     ensures few_points { OnOk result (length points.new.items ≤ 2 ^ 16) }

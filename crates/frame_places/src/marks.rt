@@ -104,8 +104,8 @@ pub fn is_plain_mark(mark: Mark) -> bool
 /// (its instruction enters no frame), else as `Idle`.
 #[inline(always)]
 pub fn end_visit<V>(places: &mut IndexMap<Spot, Marked<V>>, number: usize, plain: bool)
-    ensures { (x : Spot) → PlaceHasNumber places.old number x
-        → MarksPlaceAs places.old places.new x (mark_at_visit_end plain (mark_of_place places.old x)) }
+    ensures { (x : Spot) → PlaceHasNumber places.old number x → MarksPlaceAs places.old places.new x
+        (mark_at_visit_end plain (mark_of_place places.old x)) }
 {
     if let Some(place) = places.get_index_mut(number) {
         place.mark = mark_after_visit(place.mark, plain);

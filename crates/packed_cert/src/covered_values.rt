@@ -11,7 +11,7 @@ ghost use Rattle.value_domain.specs.Sets.{IsAscending, Within};
 use crate::certs::cert_bytes_below_256;
 use crate::restored_values::ValuesAt;
 use crate::value_reader::value_length_by_tag;
-use crate::values_at_places::{is_below_value_at, word_at_place, value_at_place};
+use crate::values_at_places::{is_below_value_at, value_at_place, word_at_place};
 use depth_cert::{SPAN, lower_register_value};
 use value_domain::{State, Val, extent_of, leq};
 use vd_transfer::{Change, changed_value};

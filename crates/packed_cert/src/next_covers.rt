@@ -25,7 +25,8 @@ pub(crate) fn are_changed_values_below(s: &State, c: &Change, row: ValueRow) -> 
     requires base { c.now.base ≡ Same }
     requires hand { AreWellFormed s.now.regs }
     requires well { AreWellFormed (state_after s.now c.now).regs }
-    ensures { IsTrue result → (i : ℕ) → i < 27 → IsOutsideRow row i → IsChangedValueBelow s.now c.now i }
+    ensures { IsTrue result → (i : ℕ) → i < 27 → IsOutsideRow row i
+        → IsChangedValueBelow s.now c.now i }
 {
     let _regs = &s.regs[..];
     if !is_changed_value_below(s, c, row, c.first.at) {

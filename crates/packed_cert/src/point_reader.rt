@@ -69,10 +69,11 @@ pub(crate) fn read_points(
     requires same { c.old.bytes ≡ bytes.now }
     requires used { room.old.used ≤ 2 ^ 16 }
     requires state { IfSome room.old.last (AreStatePlaces version bytes.now room.old.state) }
-    ensures ok { IfOk result (λ ps.
-        points_at version room.old.used c.old ≡ Ok (points_in_bytes version bytes.now ps.items, c.new)) }
+    ensures ok { IfOk result (λ ps. points_at version room.old.used c.old
+        ≡ Ok (points_in_bytes version bytes.now ps.items, c.new)) }
     ensures err { IfErr result (IsFaultOf (points_at version room.old.used c.old)) }
-    ensures states { IfOk result (λ ps. All (λ p. HasStateInBytes version bytes.now p.place) ps.items) }
+    ensures states { IfOk result
+        (λ ps. All (λ p. HasStateInBytes version bytes.now p.place) ps.items) }
     ensures rising { IfOk result (λ ps. IsStrictlyIncreasing (map (λ p. p.addr) ps.items)) }
     ensures moves { IfOk result (λ ps. AllDifferOnlyInRows version bytes.now ps.items) }
     ensures used { IfOk result (λ ps. room.new.used ≡ room.old.used + vec_len ps) }

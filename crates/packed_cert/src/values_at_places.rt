@@ -8,7 +8,7 @@ ghost use Rattle.packed_cert.specs.ValuesInBytes.{words_in_bytes, value_in_bytes
 ghost use Rattle.value_domain.specs.State.{AreInLattice};
 ghost use Rattle.tcd_base.specs.Bytes.{word_in_bytes};
 
-use crate::covered_values::{are_words_in_set_at, is_below_span_at, is_below_decoded_value};
+use crate::covered_values::{are_words_in_set_at, is_below_decoded_value, is_below_span_at};
 use crate::value_reader::{MOST_WORDS, value_length_by_tag};
 use depth_cert::SPAN;
 use value_domain::{Bounds, Val, is_value, set_span, set_words, write_any};

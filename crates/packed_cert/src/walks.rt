@@ -117,7 +117,8 @@ impl<'a> PointWalk<'a> {
     pub fn is_covered_by_next(&self, addr: u32, c: &Change) -> bool
         requires hand { AreWellFormed self.now.current.regs }
         requires changed { AreWellFormed (state_after self.now.current c.now).regs }
-        ensures { IsTrue result → IsCoveredByNext self.now addr (state_after self.now.current c.now) }
+        ensures { IsTrue result → IsCoveredByNext self.now addr
+            (state_after self.now.current c.now) }
     {
         if self.next >= self.points.len() {
             return false;
@@ -191,7 +192,8 @@ fn read_state_of_point(bytes: &[u8], version: u8, point: PointPlace, room: &mut 
 /// Reads the values of a point's row, those that may differ, over the register values `out` of the
 /// state before.
 fn read_row_values(bytes: &[u8], version: u8, point: PointPlace, out: &mut [Val; 27])
-    requires row { ChangesOnlyRow out.old (state_in_bytes version bytes.now point.place).regs point.row }
+    requires row { ChangesOnlyRow out.old
+        (state_in_bytes version bytes.now point.place).regs point.row }
     requires few { point.row.behind ≤ 27 }
     requires have { 0 < point.row.behind
         → HaveValuesInBytes version bytes.now point.row.from (27 - point.row.first) }

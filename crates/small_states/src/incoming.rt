@@ -16,7 +16,7 @@ use depth_cert::CALL;
 use std::alloc::{AllocError, Global};
 use std::marker::Model;
 use std::rc::Rc;
-use value_domain::{Bounds, State, Val, flags_imply, copy_locals, join_locals};
+use value_domain::{Bounds, State, Val, copy_locals, flags_imply, join_locals};
 use vd_transfer::Change;
 
 /// What flows into a place, described by the state of the point that it comes from. No state is

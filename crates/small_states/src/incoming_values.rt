@@ -203,10 +203,9 @@ fn copy_from_sender(alloc: Global, own: &Values, incoming: &Incoming) -> Result<
 #[inline(always)]
 fn apply_change(alloc: Global, own: &Rc<Values>, c: &Change) -> Result<Rc<Values>, AllocError>
     requires { length (all_values own.now.value) ≡ 27 }
-    ensures { IfOk result
-        (λ values. all_values values.value
-        ≡ with_write (with_write (with_write (base_values c.now.base (all_values own.now.value)) c.now.first)
-        c.now.second) c.now.third) }
+    ensures { IfOk result (λ values. all_values values.value ≡ with_write (with_write
+        (with_write (base_values c.now.base (all_values own.now.value)) c.now.first) c.now.second)
+        c.now.third) }
 {
     if c.first.at.is_none() && c.second.at.is_none() && c.third.at.is_none() {
         if let Base::Same = c.base {

@@ -9,7 +9,7 @@ use crate::incoming::{
     Given, Incoming, incoming_context, incoming_form, is_exit_flow, is_incoming_exit_covered,
     is_incoming_state_covered, join_incoming_exit, join_incoming_state,
 };
-use crate::incoming_values::{incoming_values_from_sender, copy_incoming_values};
+use crate::incoming_values::{copy_incoming_values, incoming_values_from_sender};
 use crate::small_value::{Small, SmallForm};
 use crate::values::are_all_below;
 use crate::{ScratchState, SmallExit, SmallState};
@@ -17,7 +17,7 @@ use std::alloc::{AllocError, Global};
 use std::marker::Model;
 use std::rc::Rc;
 use tcd_base::NoMemory;
-use value_domain::{Bounds, flags_imply, copy_locals};
+use value_domain::{Bounds, copy_locals, flags_imply};
 use vd_transfer::{Base, RegisterWrite};
 
 /// A state at a point, or the exit of a frame.

@@ -4,7 +4,7 @@ ghost use Rattle.tcd_text.specs.Lines.{text_lines};
 ghost use Rattle.task_chains.specs.declared.task_lists.TasksErr.TheVariants.{BadLine};
 ghost use Rattle.task_chains.specs.TaskListText.{IsFirstBadTaskLine, IsTasksDraftOf, IsTasksDraftAfterLine, IsErrOfTaskLine};
 
-use crate::lines::{Places, switch_addresses_in, number_pair_in_line};
+use crate::lines::{Places, number_pair_in_line, switch_addresses_in};
 use crate::{Task, TasksErr};
 use arrayvec::ArrayVec;
 use tcd_text::cut_line;

@@ -14,7 +14,7 @@ mod views;
 
 pub use faults::task_fault;
 pub use laws::{
-    safe_task_guard_laws, safe_tasks_law, task_fault_laws, task_view_laws, task_guard_laws,
+    safe_task_guard_laws, safe_tasks_law, task_fault_laws, task_guard_laws, task_view_laws,
 };
 pub use routine::routine_fault;
 pub use rule_17::TASKS_RULE;

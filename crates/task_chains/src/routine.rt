@@ -9,7 +9,7 @@ use crate::Tasks;
 use arrayvec::ArrayVec;
 use cfg_recover::are_bytes_in_rom;
 use elf_image::Image;
-use tc_isa::{lower_half, adjusted_upper_half};
+use tc_isa::{adjusted_upper_half, lower_half};
 use tcd_plan::Plan;
 
 /// The number of bytes of the routine: 18 instructions of four bytes.

@@ -28,7 +28,8 @@ pub fn assemble(alloc: Global, source: &[u8]) -> Result<Object, AsmErr>
     ensures ok { IfOk result
         (λ o. o ≡ object_of_draft (draft_from_lines (symbols_in (lines_in source.now))
         (lines_in source.now))) }
-    ensures kept { OnOk result (LinesKeepRules (lines_in source.now) (length (lines_in source.now))) }
+    ensures kept { OnOk result
+        (LinesKeepRules (lines_in source.now) (length (lines_in source.now))) }
     ensures bad { IfErr result (IfBadLine (IsFirstBrokenLine (lines_in source.now))) }
 {
     let read = read_source(alloc, source)?;
@@ -54,7 +55,8 @@ fn draft_of_lines<'a>(
         → are_new labels.now empty_draft (items_in (source_lines source.now)) ≡ true }
     ensures ok { IfOk result
         (λ d. kept known d ≡ kept known (draft_from_lines labels.now (source_lines source.now))) }
-    ensures rules { OnOk result (LinesKeepRules (source_lines source.now) (length (source_lines source.now))) }
+    ensures rules { OnOk result
+        (LinesKeepRules (source_lines source.now) (length (source_lines source.now))) }
     ensures whole { OnOk result (IsDraft (draft_from_lines labels.now (source_lines source.now))) }
     ensures bad { IfErr result (IfBadLine (IsFirstBrokenLine (source_lines source.now))) }
 {

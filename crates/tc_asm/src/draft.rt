@@ -1,7 +1,9 @@
 // The draft of an object: the sections and symbols of the lines so far.
 use crate::encode::{assembled_code_size, first_assembled_bytes};
 use crate::rules::is_relocation_kind;
-use crate::sections::{Part, add_section_use, add_section_zeros, grow_section, section_number, section_len};
+use crate::sections::{
+    Part, add_section_use, add_section_zeros, grow_section, section_len, section_number,
+};
 use crate::symbols::{Place, Symbols};
 use std::alloc::{AllocError, Global};
 use std::marker::Model;

@@ -73,7 +73,8 @@ pub(crate) fn emit_relocs(
     requires symbols { length known.now < 2 ^ 16 }
     requires few { length parts.now ≤ 64 }
     requires offsets { All (λ p. All (λ u. u.offset < 2 ^ 32) p.uses.items) parts.now }
-    ensures { IfOk result (λ v. v.items ≡ relocs_of_sections known.now 0 (map draft_section_of parts.now)) }
+    ensures { IfOk result (λ v. v.items
+        ≡ relocs_of_sections known.now 0 (map draft_section_of parts.now)) }
 {
     let mut out = Vec::new(alloc);
     for i in 0..parts.len() {

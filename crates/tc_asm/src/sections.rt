@@ -54,8 +54,8 @@ pub(crate) fn section_len(part: &Part) -> usize
 #[inline(always)]
 pub(crate) fn grow_section(parts: &mut Vec<Part>, i: usize, bytes: &[u8]) -> Result<(), AllocError>
     requires { i < length parts.old.items }
-    ensures { OnOk result
-        (map draft_section_of parts.new.items ≡ with_section_bytes (map draft_section_of parts.old.items) i bytes.now) }
+    ensures { OnOk result (map draft_section_of parts.new.items
+        ≡ with_section_bytes (map draft_section_of parts.old.items) i bytes.now) }
 {
     let part = &mut parts[i];
     write_zeros_if_any(part)?;

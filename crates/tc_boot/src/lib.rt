@@ -9,5 +9,5 @@ mod sources;
 
 pub use bytes::boot_bytes;
 pub use judging::{BootErr, boot_ok};
-pub use laws::{boot_reaches_the_start, boot_guard_laws};
+pub use laws::{boot_guard_laws, boot_reaches_the_start};
 pub use sources::boot_source;

@@ -35,9 +35,8 @@ pub fn listing(alloc: Global, image: &Image) -> Result<String, NoMemory>
 fn append_sections(text: &mut String, segments: &[&Segment]) -> Result<(), NoMemory>
     requires few { length segments.now ≤ 64 }
     requires segments { IsTrue (list_all is_segment (map borrowed_segment_data segments.now)) }
-    ensures { OnOk result
-        (string_bytes text.new
-        ≡ string_bytes text.old ++ listing_sections_from 0 (map borrowed_segment_data segments.now)) }
+    ensures { OnOk result (string_bytes text.new ≡ string_bytes text.old
+        ++ listing_sections_from 0 (map borrowed_segment_data segments.now)) }
 {
     for i in 0..segments.len() {
         append_section(text, i as u32, segments[i])?;

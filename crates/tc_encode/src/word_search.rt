@@ -8,7 +8,7 @@ ghost use Rattle.tc_isa.specs.Insts.{InstData};
 ghost use Rattle.tc_encode.specs.WordSearch.{IsWordOf, are_unused_bits_zero};
 
 use crate::forms::{fields_of_word, second_code};
-use crate::index::{form_of_first_byte, index_by_codes, row_number_by_codes, full_rows};
+use crate::index::{form_of_first_byte, full_rows, index_by_codes, row_number_by_codes};
 use tc_isa::{
     Fields, Form, Inst, ROW_COUNT, Row, are_registers_allowed, are_unused_fields_zero, rows,
     uses_by_row,

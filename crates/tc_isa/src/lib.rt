@@ -22,7 +22,7 @@ pub use bounds::field_bounds;
 pub use core_registers::{BIV, BTV, FCX, ICR, ISP, LCX, PCXI, PSW};
 pub use fields::{Fields, Uses};
 pub use fitting_fields::{are_registers_allowed, inst};
-pub use halves::{lower_half, adjusted_upper_half};
+pub use halves::{adjusted_upper_half, lower_half};
 pub use instruction::Inst;
 pub use relocation_kinds::{ABS24, HI16, LO16, OFFSET16, REL15, REL24, WORD32};
 pub use row_uses::{are_unused_fields_zero, uses_by_row};

@@ -15,7 +15,7 @@ mod scratch;
 mod split_operands;
 
 pub use bytes::is_hex_digit;
-pub use cutting::{tokens_into, tokens};
+pub use cutting::{tokens, tokens_into};
 pub use kinds::{Front, Token, TokenKind};
 pub use line_pieces::cut_pieces;
 pub use operand::{Operand, Shape, Value};

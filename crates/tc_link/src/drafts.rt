@@ -57,9 +57,8 @@ impl Draft {
         number: u32,
         line: &[u8],
     ) -> Result<(), LayoutErr>
-        ensures good { OnOk result
-            (layout_line_fault number self.old.entries self.old.places (layout_line_contents line.now)
-            ≡ None) }
+        ensures good { OnOk result (layout_line_fault number self.old.entries self.old.places
+            (layout_line_contents line.now) ≡ None) }
         ensures ok { OnOk result (self.new
             ≡ draft_with_line self.old (layout_line_contents line.now)) }
         ensures err { IfErr result

@@ -31,7 +31,8 @@ pub(crate) fn all_relocated_sections<'a>(
     requires globals { HoldsGlobals names.now placed.now (globals_of placed.now) }
     ensures sections { IfOk result (λ ss. ss.items ≡ all_relocated_sections placed.now) }
     ensures none { OnOk result (first_reloc_refusal (globals_of placed.now) placed.now ≡ None) }
-    ensures err { IfErr result (IsRefusal (first_reloc_refusal (globals_of placed.now) placed.now)) }
+    ensures err { IfErr result
+        (IsRefusal (first_reloc_refusal (globals_of placed.now) placed.now)) }
 {
     let mut contents = Vec::new(alloc);
     for (number, each) in placed.iter().enumerate() {

@@ -10,7 +10,7 @@ ghost use Rattle.tc_link.specs.declared.errors.LinkErr.TheVariants.{NoMemory};
 
 use crate::LinkErr;
 use crate::definitions::Definition;
-use crate::global_symbols::{has_several_globals, has_no_global};
+use crate::global_symbols::{has_no_global, has_several_globals};
 use std::alloc::Global;
 use std::collections::HashMap;
 use tc_object::{GLOBAL_SYMBOL, ObjectRef, SymbolRef, UNDEFINED_SYMBOL};
@@ -84,8 +84,8 @@ fn first_repeated_symbol<'a>(
 
 // Whether a symbol is global and several objects define its name.
 fn is_repeated_symbol(names: &HashMap<&str, Definition>, symbol: &SymbolRef<'_>) -> bool
-    ensures { (objects : List ObjectData) → KnowsRepeatedGlobals names.now objects
-        → result ≡ (is_global symbol.now && nat_lt 1 (count_globals_named objects symbol.now.name)) }
+    ensures { (objects : List ObjectData) → KnowsRepeatedGlobals names.now objects → result
+        ≡ (is_global symbol.now && nat_lt 1 (count_globals_named objects symbol.now.name)) }
 {
     symbol.kind == GLOBAL_SYMBOL && has_several_globals(names, symbol.name)
 }
@@ -129,8 +129,8 @@ fn first_missing_symbol<'a>(
 // Whether a symbol is undefined in its object, global in none, and used. `used` says whether a
 // relocation uses the symbol.
 fn is_missing_symbol(names: &HashMap<&str, Definition>, used: bool, symbol: &SymbolRef<'_>) -> bool
-    ensures { (objects : List ObjectData) → KnowsRepeatedGlobals names.now objects
-        → result ≡ (symbol.now.kind == 0 && used && count_globals_named objects symbol.now.name == 0) }
+    ensures { (objects : List ObjectData) → KnowsRepeatedGlobals names.now objects → result
+        ≡ (symbol.now.kind == 0 && used && count_globals_named objects symbol.now.name == 0) }
 {
     symbol.kind == UNDEFINED_SYMBOL && used && has_no_global(names, symbol.name)
 }

@@ -28,11 +28,7 @@ impl Machine {
             Shape::Svlcx => self.save_lower_context(n),
             Shape::Rslcx => self.restore_lower_context(n),
             Shape::Bisr { c } => self.begin_interrupt_routine(c, n),
-            Shape::Syscall { tin } => self.take_trap(
-                SYSTEM_CALLS,
-                tin,
-                wrapping_sum(self.pc, n),
-            ),
+            Shape::Syscall { tin } => self.take_trap(SYSTEM_CALLS, tin, wrapping_sum(self.pc, n)),
             _ => {}
         }
     }

@@ -5,7 +5,7 @@ ghost use Rattle.tc_machine.specs.declared.events.Event.{Event};
 ghost use Rattle.tc_machine.specs.Instructions.{does};
 ghost use Rattle.tc_machine.specs.InstructionKinds.{IfLoadOrStore, IfSystemInstruction};
 
-use crate::accesses::{is_trapping_access, extended_loaded_word, store_low_bytes};
+use crate::accesses::{extended_loaded_word, is_trapping_access, store_low_bytes};
 use crate::operand_addresses::wrapping_sum;
 use crate::{Event, Machine};
 use tc_isa::{Arg, Cond, Op, Shape, alu, taken};

@@ -115,6 +115,7 @@ impl Machine {
             (if is_area self.now.mem (link_in word)
             then Some (area_word self.now.mem (link_in word) 0) else None) }
     {
-        self.mem.area_first_word(address_of(context_link(word)), near)
+        self.mem
+            .area_first_word(address_of(context_link(word)), near)
     }
 }

@@ -11,8 +11,9 @@ ghost use Rattle.tc_mem.specs.Written.{IsMemoryWritten};
 
 use crate::page::{Page, page_byte_at};
 use crate::page_list::{
-    new_pages, read_area, read_area_first_word, read_memory_half, read_memory_byte, read_memory_word, write_area,
-    write_memory_bytes, write_memory_half, write_memory_byte, write_memory_word,
+    new_pages, read_area, read_area_first_word, read_memory_byte, read_memory_half,
+    read_memory_word, write_area, write_memory_byte, write_memory_bytes, write_memory_half,
+    write_memory_word,
 };
 use std::alloc::Global;
 use std::marker::Model;

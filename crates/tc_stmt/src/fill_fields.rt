@@ -11,7 +11,7 @@ ghost use Rattle.tc_stmt.specs.OperandForms.{register_number, operand_number_mod
 
 use crate::form_index::{ABS, B, BOL, SBR, form_index};
 use crate::row_fields::{
-    NO_RELOC, RowFields, note_broken_rule, field_of, note_misplaced_symbol, note_symbol, fill_field,
+    NO_RELOC, RowFields, field_of, fill_field, note_broken_rule, note_misplaced_symbol, note_symbol,
 };
 use crate::row_wants::wants;
 use crate::shape_numbers::{ABSENT, HIGH, HUGE, LOW, NUMBER, SUM, WORD, shape_index};

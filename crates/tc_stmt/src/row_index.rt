@@ -228,7 +228,8 @@ pub(crate) fn find_row<'a>(rows: &'a [Row], name: &[u8]) -> Option<&'a Row>
 
 // The first row of the instruction table with this name, if an instruction has it.
 pub(crate) fn row_of_name(name: &[u8]) -> Option<&'static Row>
-    ensures { option_map (λ r. row_of r.now) result ≡ find (λ r. bytes_eq r.name name.now) table_rows }
+    ensures { option_map (λ r. row_of r.now) result
+        ≡ find (λ r. bytes_eq r.name name.now) table_rows }
 {
     find_row(rows(), name)
 }

@@ -3,7 +3,7 @@ use crate::lines::{bad_cells_line, bad_tasks_line};
 use std::alloc::Global;
 use task_chains::Tasks;
 use tcd_base::NoMemory;
-use tcd_forms::{LIMIT, copy_printed_line, cells_too_long_line, tasks_too_long_line};
+use tcd_forms::{LIMIT, cells_too_long_line, copy_printed_line, tasks_too_long_line};
 use tcd_plan::Plan;
 use tcd_reading::{Form, Stop, bad_input_stop};
 use value_cells::Cells;

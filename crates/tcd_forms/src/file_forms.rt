@@ -1,7 +1,7 @@
 // The forms of input files, from executables to objects.
 use crate::error_lines::{
     bad_cert_line, bad_elf_line, bad_layout_line, bad_object_line, bad_plan_line, bad_script_line,
-    bad_source_line, copy_printed_line, cert_too_long_line, elf_too_long_line,
+    bad_source_line, cert_too_long_line, copy_printed_line, elf_too_long_line,
     layout_too_long_line, object_too_long_line, plan_too_long_line, script_too_long_line,
     source_too_long_line,
 };

@@ -10,7 +10,7 @@ ghost use Rattle.tcd_plan.specs.ValueForms.{has_value_form};
 
 use crate::PlanKey;
 use crate::key_table::{
-    KeyParent, Row, ValueForm, parent_key, key_parents, is_row_of_key, key_table_rows,
+    KeyParent, Row, ValueForm, is_row_of_key, key_parents, key_table_rows, parent_key,
 };
 use crate::object_forms::{has_value_form, plan_objects_of};
 use serde_json::{Map, Value};

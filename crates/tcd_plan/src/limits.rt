@@ -4,8 +4,8 @@ ghost use Rattle.serde_json.specs.View.{view};
 ghost use Rattle.tcd_plan.specs.PlanData.{areas_range, are_ranges_disjoint, are_valid_areas, are_ranges_within_limits, has_valid_areas, has_even_vectors, first_oversized_array, first_overlap_from, plan_range_overlap};
 ghost use Rattle.tcd_plan.specs.PlanReader.{HasShortPlanArrays, plan_range_of, unchecked_plan_of};
 
-use crate::json_values::{json_elements_or_empty, json_word_at, json_nested_number};
-use crate::key_table::{DEVICES, KeyParent, IRQS, RAM, ROM};
+use crate::json_values::{json_elements_or_empty, json_nested_number, json_word_at};
+use crate::key_table::{DEVICES, IRQS, KeyParent, RAM, ROM};
 use crate::object_forms::plan_objects_of;
 use crate::plan_parts::{areas_range, push_ranges};
 use crate::{PlanErr, PlanKey};

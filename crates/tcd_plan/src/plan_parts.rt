@@ -6,7 +6,7 @@ ghost use Rattle.tcd_plan.specs.JsonValues.{is_json_text, json_nested_number};
 ghost use Rattle.tcd_plan.specs.PlanData.{areas_range};
 
 use crate::Device;
-use crate::json_values::{is_json_text, json_number_of, json_word_at, json_nested_number};
+use crate::json_values::{is_json_text, json_nested_number, json_number_of, json_word_at};
 use arrayvec::ArrayVec;
 use serde_json::Value;
 use tcd_base::{Core, Range};

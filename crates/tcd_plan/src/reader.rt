@@ -5,7 +5,7 @@ ghost use Rattle.serde_json.specs.View.{view};
 ghost use Rattle.tcd_plan.specs.PlanReader.{IsPlanResult, HasPrintedKey, plan_of, plan_refusal, unchecked_plan_of};
 
 use crate::json_values::{
-    has_json_text, json_nested_byte, json_elements_or_empty, json_word_at, json_nested_number,
+    has_json_text, json_elements_or_empty, json_nested_byte, json_nested_number, json_word_at,
 };
 use crate::key_refusals::{first_bad_key, first_missing_key, first_object_with_unknown_key};
 use crate::key_table::KeyParent;

@@ -5,8 +5,8 @@ ghost use Rattle.tcd_report.specs.Reports.{IsReport};
 
 use crate::judged::Judged;
 use crate::reports::heights::heights;
-use crate::reports::longest_by_priority::{longest_calls_by_priority, longest_calls_below};
-use crate::reports::report_text::{longest_calls_value, certified_need, nodes_value, report_value};
+use crate::reports::longest_by_priority::{longest_calls_below, longest_calls_by_priority};
+use crate::reports::report_text::{certified_need, longest_calls_value, nodes_value, report_value};
 use elf_image::Image;
 use packed_cert::Cert;
 use std::alloc::Global;

@@ -15,7 +15,8 @@ pub(crate) fn keeps_cells(at: &Val, size: u8, stored: &Val, cells: &[Cell]) -> b
     requires stored { IsWellFormed stored.now }
     requires size { IsAccessSize size }
     requires cells { All (λ c. c.at + 4 ≤ 2 ^ 32) cells.now }
-    ensures { IsTrue result ↔ ((x : ℕ) → IsMember x at.now → KeepsEachCell stored.now size x cells.now) }
+    ensures { IsTrue result ↔
+        ((x : ℕ) → IsMember x at.now → KeepsEachCell stored.now size x cells.now) }
 {
     for cell in cells {
         if !keeps_cell(at, size, stored, cell) {

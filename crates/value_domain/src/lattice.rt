@@ -10,8 +10,8 @@ ghost use Rattle.value_domain.specs.declared.values.Val.TheVariants.{Set, Span};
 
 use crate::merged_lists::merge;
 use crate::values::{
-    alignment_log2, has_set_word, is_span_of_all_words, is_set, member, set_span, set_word, set_words,
-    span_len,
+    alignment_log2, has_set_word, is_set, is_span_of_all_words, member, set_span, set_word,
+    set_words, span_len,
 };
 use crate::{Bounds, Val, Words};
 use arrayvec::ArrayVec;

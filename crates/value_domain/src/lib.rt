@@ -15,10 +15,9 @@ pub use lattice::{
 };
 pub use laws::{state_laws, value_laws};
 pub use limits::Bounds;
-pub use meets::{write_span_meet, write_meet_with_set};
+pub use meets::{write_meet_with_set, write_span_meet};
 pub use states::{
-    A10_SLOT, State, flags_imply, copy_locals, covers, covers_context, join_locals,
-    join_states,
+    A10_SLOT, State, copy_locals, covers, covers_context, flags_imply, join_locals, join_states,
 };
 pub use values::{
     Val, Words, alignment_log2, copy_to, is_equal_span, is_set, member, set_span, set_word,

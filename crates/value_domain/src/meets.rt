@@ -65,7 +65,8 @@ fn write_meet_of_set(b: &Bounds, words: &[u32], lo: u32, last: u32, step: u8, ou
 /// step` in `lo..=last`. Returns false if there are none.
 fn write_meet_of_spans(b: &Bounds, lo: u32, last: u32, step: u8, out: &mut Val) -> bool
     requires { step ≤ 2 }
-    ensures meet { value_if_found result out.new ≡ cover_if_any b.now (multiples_in_range lo last step) }
+    ensures meet { value_if_found result out.new
+        ≡ cover_if_any b.now (multiples_in_range lo last step) }
     ensures value { IfSome (value_if_found result out.new) (IsInLattice b.now) }
 {
     if span_len(lo, last, step) == 0 {

@@ -18,7 +18,7 @@ use crate::changed_states::changed_reg;
 use crate::operands::{arg_word, build_arg, constant_value, is_same_register, write_constant};
 use crate::operations::write_operation_value;
 use crate::refinement::{Relation, refine_both_operands, refine_left_operand};
-use crate::registers::{reg_in_state, reg_in_lattice, register_slot};
+use crate::registers::{reg_in_lattice, reg_in_state, register_slot};
 use tc_isa::{Arg, Cond, Op, Shape, taken};
 use tcd_plan::Plan;
 use value_domain::{Bounds, State, Val};
@@ -222,22 +222,14 @@ fn decrement_if_loop(b: &Bounds, plan: &Plan, x: u8, lowers: bool, s: &State, c:
 
 /// Narrows the operands of a branch on a side by their abstract values. One that the state has
 /// isn't copied. Returns false if the side isn't possible.
-fn narrow_by_values(
-    b: &Bounds,
-    plan: &Plan,
-    test: Comparison,
-    s: &State,
-    c: &mut Change,
-) -> bool
+fn narrow_by_values(b: &Bounds, plan: &Plan, test: Comparison, s: &State, c: &mut Change) -> bool
     requires operands { (test.x < 32) × IsArg test.y }
     requires values { AreInLattice b.now s.now.regs }
-    ensures two { state_if_possible result (state_after s.now c.new)
-        ≡ state_with_narrowed_operands s.now test.x test.y
-        (cover_if_any b.now (kept_left_words test.cond test.side (members (reg_of plan.now s.now test.x))
-        (members (arg_of plan.now s.now test.y))))
+    ensures two { state_if_possible result (state_after s.now c.new) ≡ state_with_narrowed_operands
+        s.now test.x test.y (cover_if_any b.now (kept_left_words test.cond test.side
+        (members (reg_of plan.now s.now test.x)) (members (arg_of plan.now s.now test.y))))
         (cover_if_any b.now (kept_right_words test.cond test.side
-        (members (reg_of plan.now s.now test.x))
-        (members (arg_of plan.now s.now test.y)))) }
+        (members (reg_of plan.now s.now test.x)) (members (arg_of plan.now s.now test.y)))) }
     ensures values { AreInLattice b.now (state_after s.now c.new).regs }
     ensures free { c.new.third.at ≡ None }
 {
@@ -293,13 +285,11 @@ fn narrow_built_operands(
 ) -> bool
     requires operands { (test.x < 32) × IsArg test.y }
     requires values { AreInLattice b.now s.now.regs }
-    ensures two { state_if_possible result (state_after s.now c.new)
-        ≡ state_with_narrowed_operands s.now test.x test.y
-        (cover_if_any b.now (kept_left_words test.cond test.side (members (reg_of plan.now s.now test.x))
-        (members (arg_of plan.now s.now test.y))))
+    ensures two { state_if_possible result (state_after s.now c.new) ≡ state_with_narrowed_operands
+        s.now test.x test.y (cover_if_any b.now (kept_left_words test.cond test.side
+        (members (reg_of plan.now s.now test.x)) (members (arg_of plan.now s.now test.y))))
         (cover_if_any b.now (kept_right_words test.cond test.side
-        (members (reg_of plan.now s.now test.x))
-        (members (arg_of plan.now s.now test.y)))) }
+        (members (reg_of plan.now s.now test.x)) (members (arg_of plan.now s.now test.y)))) }
     ensures values { AreInLattice b.now (state_after s.now c.new).regs }
     ensures free { c.new.third.at ≡ None }
 {

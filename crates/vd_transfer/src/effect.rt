@@ -125,9 +125,8 @@ pub(crate) fn write_load_change(
     requires base { IsArg at.base }
     requires values { AreInLattice b.now s.now.regs }
     requires loaded { IsInLattice b.now c.old.third.value }
-    ensures write { state_after s.now c.new
-        ≡ state_after_reg_write (state_with_increased_base b.now plan.now s.now at.base at.offset at.after) dst
-        c.old.third.value }
+    ensures write { state_after s.now c.new ≡ state_after_reg_write (state_with_increased_base b.now
+        plan.now s.now at.base at.offset at.after) dst c.old.third.value }
     ensures values { AreInLattice b.now (state_after s.now c.new).regs }
 {
     write_base_change(b, plan, s, at, c);

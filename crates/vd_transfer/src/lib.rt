@@ -21,6 +21,6 @@ pub use built_states::{address, refine, state_after_change, transfer};
 pub use change::{Base, Change, RegisterWrite, identity_change, register_write};
 pub use changed_states::changed_value;
 pub use effect::write_instruction_change;
-pub use laws::{soundness_laws, operation_laws, refinement_laws};
+pub use laws::{operation_laws, refinement_laws, soundness_laws};
 pub use operands::arg_word;
 pub use registers::{A10, is_lower_slot, reg, singleton_word};

@@ -7,7 +7,7 @@ ghost use Rattle.vd_transfer.specs.Registers.{arg_of, arg_slot, is_same_register
 ghost use Rattle.tc_isa.specs.declared.shapes.Arg.TheVariants.{Word};
 
 use crate::operations::write_operation_value;
-use crate::registers::{reg_in_state, reg_in_lattice, singleton_word, register_slot};
+use crate::registers::{reg_in_lattice, reg_in_state, register_slot, singleton_word};
 use tc_isa::{Arg, Op};
 use tcd_plan::Plan;
 use value_domain::{Bounds, State, Val, copy_to, set_word};

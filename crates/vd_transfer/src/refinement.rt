@@ -16,7 +16,9 @@ use crate::branch_sides::{Comparison, narrow_left_register, relation_on_side};
 use crate::change::Change;
 use crate::operands::operand_slot;
 use crate::signed_refinement::{is_signed_condition, refine_by_signed_relation};
-use value_domain::{Bounds, State, Val, extent_of, join_into, write_span_meet, write_meet_with_set};
+use value_domain::{
+    Bounds, State, Val, extent_of, join_into, write_meet_with_set, write_span_meet,
+};
 
 /// A relation between two words.
 #[derive(Clone, Copy, PartialEq, Eq)]
@@ -134,9 +136,9 @@ pub(crate) fn refine_both_operands(
     requires left { IsInLattice b.now v.now }
     requires right { IsInLattice b.now w.now }
     ensures two { state_if_possible result (state_after s.now c.new)
-        ≡ state_with_narrowed_operands s.now test.x test.y
-        (cover_if_any b.now (kept_left_words test.cond test.side (members v.now) (members w.now)))
-        (cover_if_any b.now (kept_right_words test.cond test.side (members v.now) (members w.now))) }
+        ≡ state_with_narrowed_operands s.now test.x test.y (cover_if_any b.now
+        (kept_left_words test.cond test.side (members v.now) (members w.now))) (cover_if_any b.now
+        (kept_right_words test.cond test.side (members v.now) (members w.now))) }
     ensures values { AreInLattice b.now (state_after s.now c.new).regs }
     ensures free { c.new.third.at ≡ None }
 {
@@ -242,8 +244,8 @@ fn join_meet_with_interval(b: &Bounds, v: &Val, i: Interval, out: &mut Val)
 fn refine_right_operand(b: &Bounds, test: Comparison, v: &Val, w: &Val, out: &mut Val) -> bool
     requires left { IsInLattice b.now v.now }
     requires right { IsInLattice b.now w.now }
-    ensures kept { value_if_found result out.new
-        ≡ cover_if_any b.now (kept_right_words test.cond test.side (members v.now) (members w.now)) }
+    ensures kept { value_if_found result out.new ≡ cover_if_any b.now
+        (kept_right_words test.cond test.side (members v.now) (members w.now)) }
     ensures value { IfSome (value_if_found result out.new) (IsInLattice b.now) }
 {
     let rel = converse(relation_on_side(test.cond, test.side));

@@ -55,8 +55,8 @@ pub(crate) fn result_interval(op: Op, e: &Extent, f: &Extent, w: &Val) -> Stride
 fn sum_interval(e: &Extent, f: &Extent) -> StridedInterval
     requires left { e.now.least ≤ e.now.greatest }
     requires right { f.now.least ≤ f.now.greatest }
-    ensures { result
-        ≡ sum_interval e.now.least e.now.greatest f.now.least f.now.greatest (min e.now.step f.now.step) }
+    ensures { result ≡ sum_interval e.now.least e.now.greatest f.now.least f.now.greatest
+        (min e.now.step f.now.step) }
 {
     let first = u64::from(e.least) + u64::from(f.least);
     let last = u64::from(e.greatest) + u64::from(f.greatest);

@@ -170,7 +170,8 @@ fn mark_and_queue_nodes(
     nodes: &[usize],
 ) -> Result<(), AllocError>
     requires { (k : ℕ) → Contains nodes.now k → k < length marks.old }
-    ensures { OnOk result (MarksAndQueues nodes.now marks.old marks.new work.old.items work.new.items) }
+    ensures { OnOk result (MarksAndQueues nodes.now marks.old marks.new work.old.items
+        work.new.items) }
 {
     for node in nodes {
         mark_and_queue_node(marks, work, *node)?;

@@ -6,7 +6,7 @@ ghost use Rattle.tcd_reading.specs.Outcomes.{IsCommandOutcome, IsReportOutcome};
 use std::alloc::Global;
 use tc_boot::boot_source;
 use tcd_base::Files;
-use tcd_forms::{PlanFile, copy_printed_line, bootgen_line};
+use tcd_forms::{PlanFile, bootgen_line, copy_printed_line};
 use tcd_plan::Plan;
 use tcd_reading::{Outcome, read_input, report_with_file};
 

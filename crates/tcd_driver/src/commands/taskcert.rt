@@ -7,7 +7,7 @@ ghost use Rattle.tcd_driver.specs.Taskcert.{IsTaskcertReport, IsTaskViewCertOrEr
 
 use crate::cell_and_task_files::TasksFile;
 use crate::cert_making::make_least_cert;
-use crate::commands::tasks::{report_wrong_cert_count, counted_task_need};
+use crate::commands::tasks::{counted_task_need, report_wrong_cert_count};
 use depth_maker::MakeErr;
 use elf_image::Image;
 use packed_cert::Cert;

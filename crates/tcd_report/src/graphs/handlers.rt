@@ -8,7 +8,7 @@ ghost use Rattle.std.specs.Str.{IsAscii};
 ghost use Rattle.tcd_text.specs.HexNumbers.{hex_word};
 
 use crate::graphs::addresses::set_unique_addresses;
-use cfg_recover::{possible_irqs, irq_key};
+use cfg_recover::{irq_key, possible_irqs};
 use std::alloc::Global;
 use tcd_base::NoMemory;
 use tcd_plan::Plan;

@@ -16,7 +16,7 @@ use tc_isa::{Shape, Target};
 use tcd_base::NoMemory;
 use tcd_plan::Plan;
 use value_domain::State;
-use vd_transfer::{write_branch_change, identity_change};
+use vd_transfer::{identity_change, write_branch_change};
 
 /// Appends the addresses where a point goes on in its frame by a jump, a branch or the next
 /// instruction. After a call, a system call or a return there are none.
