@@ -140,7 +140,7 @@ none_from xs none = cases (first_row_match xs 0 table_rows) refl
 record Ahead (xs : List ℕ) (rows : List RowData) : Type 0 where
   at : ℕ
   row : RowData
-  table_rows : slice_get rows at ≡ Some row
+  listed : slice_get rows at ≡ Some row
   goes : is_prefix_of_row xs row ≡ true
 
 ahead_from : (xs : List ℕ) (rows : List RowData) → list_any (is_prefix_of_row xs) rows ≡ true → Ahead xs rows
