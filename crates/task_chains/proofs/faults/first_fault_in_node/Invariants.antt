@@ -8,9 +8,9 @@ use Rattle.task_chains.proofs.faults.first_fault_in_node.Given as goal
 abbrev pub invariant-loop-addr : goal.invariant-loop-addr
 invariant-loop-addr l = record {
   done : List Point;
-  split : (l.node).points ≡ done ++ (l.start_walk).left;
+  split : (l.node).points ≡ done ++ (l.walk).left;
   hold : All (KeepsRule17AtPoint l.rule.bounds.now l.rule.view.now l.rule.plan.now l.rule.tasks.now (l.node).key) done;
 }
 
 abbrev pub decreases-loop-addr : goal.decreases-loop-addr
-decreases-loop-addr l = length (l.start_walk).left
+decreases-loop-addr l = length (l.walk).left

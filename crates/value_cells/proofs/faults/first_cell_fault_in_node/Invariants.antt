@@ -8,9 +8,9 @@ use Rattle.value_cells.proofs.faults.first_cell_fault_in_node.Given as goal
 abbrev pub invariant-loop-addr : goal.invariant-loop-addr
 invariant-loop-addr l = record {
   done : List Point;
-  split : (l.node).points ≡ done ++ (l.start_walk).left;
+  split : (l.node).points ≡ done ++ (l.walk).left;
   keep : All (PointKeepsCells l.rule.bounds.now l.rule.image.now l.rule.plan.now l.rule.cells.now) done;
 }
 
 abbrev pub decreases-loop-addr : goal.decreases-loop-addr
-decreases-loop-addr l = length (l.start_walk).left
+decreases-loop-addr l = length (l.walk).left

@@ -15,10 +15,10 @@ returns-then-lo-floor c = (
       let e = eqb-true _ _ t in
       span_value c.args.b.now c.args.lo c.args.last c.args.step c.most_words-most_words.ensures.limits (omega arith) c.ranges.last.fits (omega (arith, c.span_len.ensures, c.most_words-most_words.ensures.most_words))
       c.extent_of_span-e.ensures (c.if-lo-floor.true ∙ c.floor.ensures)
-      (omega (arith, c.threshold_above.ensures.value, c.threshold_above.ensures.threshold_above, c.from.ensures, e))),
+      (omega (arith, c.threshold_above.ensures.value, c.threshold_above.ensures.above, c.from.ensures, e))),
   (λ v.
       let e = value_span c.args.b.now c.args.lo c.args.last c.args.step v c.extent_of_span-e.ensures in
-      eq-eqb _ _ (omega (arith, c.threshold_above.ensures.value, c.threshold_above.ensures.threshold_above, c.from.ensures, e.1))),
+      eq-eqb _ _ (omega (arith, c.threshold_above.ensures.value, c.threshold_above.ensures.above, c.from.ensures, e.1))),
 )
 
 pub returns-else-lo-floor : goal.returns-else-lo-floor

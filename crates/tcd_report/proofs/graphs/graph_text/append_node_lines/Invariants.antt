@@ -8,11 +8,11 @@ use Rattle.tcd_report.proofs.graphs.graph_text.append_node_lines.Given as goal
 abbrev pub invariant-loop-addr : goal.invariant-loop-addr
 invariant-loop-addr l = record {
   done : List Point;
-  split : (l.node).points ≡ done ++ (l.start_walk).left;
+  split : (l.node).points ≡ done ++ (l.walk).left;
   grown : GrowsByLines (AreJoinedLines (ArePointLines l.judged.image.now l.judged.plan.now l.judged.cert.now (l.node).key) done) (string_bytes l.initial.graph.text) (string_bytes l.graph.text);
   front : string_bytes l.graph.key_front ≡ key_front (l.node).key;
   handlers : KnowsHandlers l.judged.plan.now l.graph.ways.irq;
 }
 
 abbrev pub decreases-loop-addr : goal.decreases-loop-addr
-decreases-loop-addr l = length (l.start_walk).left
+decreases-loop-addr l = length (l.walk).left
