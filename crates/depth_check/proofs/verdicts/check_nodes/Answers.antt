@@ -46,7 +46,7 @@ loop-i-preserved c =
           (λ k d h.
           let within : c.loop-i.i < length nodes = omega (arith, c.loop-i-test.true, c.len-i-end.ensures) in
           let e : None ≡ Some (get_or nodes c.loop-i.i d) = w.in_default-get.ensures ∙ slice_get-get_or nodes c.loop-i.i d within in
-          absurd (empty-2-some _ e))
+          absurd (none-some _ e))
           in
           record { before = none; interrupts = rw w.scratch-is c.loop-i.invariant.interrupts; results = rw w.scratch-is c.loop-i.invariant.results }
     ]

@@ -6,7 +6,7 @@ use Rattle.packed_cert.specs.PointsInBytes.{state_in_bytes, points_in_bytes}
 use Rattle.packed_cert.specs.Walks.{WalkData, IsCoveredAt}
 use Rattle.packed_cert.proofs.NodeFinds.{point_missing, point_past, covers_same, covered_found, covered_missing}
 use Rattle.packed_cert.proofs.walks.PointWalk.is_covered_at.Goals as goal
-use Rattle.packed_cert.proofs.walks.PointWalk.is_covered_at.Goals.{else-new-points-via-then-new-points+else-points-new, else-new-points-via-else-new-points}
+use Rattle.packed_cert.proofs.walks.PointWalk.is_covered_at.Goals.{else-at-points-via-then-at-points+else-points-at, else-at-points-via-else-at-points}
 
 pub returns-then-points-self : goal.returns-then-points-self
 returns-then-points-self c =
@@ -17,8 +17,8 @@ returns-then-points-self c =
     (covered_found own.version own.bytes.now c.args.addr c.count_points_below-at.result _ own.points.now own.state true c.if-at-points.true c.count_points_below-at.ensures c.if-points-at.true
     (λ t. subst (λ (u : State). Covers u own.state) (sym same) (covers_same own.state), λ covers. refl))
 
-pub returns-then-points-new : goal.returns-then-points-new
-returns-then-points-new c =
+pub returns-then-points-at : goal.returns-then-points-at
+returns-then-points-at c =
     let own = c.self.inside in
     subst (λ (w : WalkData). IsTrue c.covers.result ↔ IsCoveredAt w c.args.addr) c.self.view_is
     (covered_found own.version own.bytes.now c.args.addr c.count_points_below-at.result _ own.points.now own.state c.covers.result c.if-at-points.true c.count_points_below-at.ensures c.if-points-at.true
@@ -29,8 +29,8 @@ returns c =
     let own = c.self.inside in
     subst (λ (w : WalkData). IsTrue false ↔ IsCoveredAt w c.args.addr) c.self.view_is
     (covered_missing c.args.addr (points_in_bytes own.version own.bytes.now own.points.now) own.state
-    (elim c.else-new-points.branch [
-      | else-new-points-via-then-new-points+else-points-new w ↦
+    (elim c.else-at-points.branch [
+      | else-at-points-via-then-at-points+else-points-at w ↦
           point_missing own.version own.bytes.now c.args.addr c.count_points_below-at.result _ own.points.now c.self.invariant.rising c.count_points_below-at.ensures w.if-points-at.false
-      | else-new-points-via-else-new-points w ↦ point_past own.version own.bytes.now c.args.addr c.count_points_below-at.result own.points.now c.count_points_below-at.ensures w.if-at-points.false
+      | else-at-points-via-else-at-points w ↦ point_past own.version own.bytes.now c.args.addr c.count_points_below-at.result own.points.now c.count_points_below-at.ensures w.if-at-points.false
     ]))
