@@ -10,7 +10,7 @@ use Rattle.depth_check.proofs.Deciding.{all_more, all_done}
 use Rattle.depth_check.proofs.WellLaws.{well_points}
 use Rattle.depth_check.proofs.FirstLaws.{start_first, node_first, need_small}
 use Rattle.depth_check.proofs.verdicts.check_nodes.Goals as goal
-use Rattle.depth_check.proofs.verdicts.check_nodes.Goals.{in-Some-get+in_default-node_fault, in_default-get}
+use Rattle.depth_check.proofs.verdicts.check_nodes.Goals.{in-Some-get+in_default-first_node_fault, in_default-get}
 
 pub returns-in_default : goal.returns-in_default
 returns-in_default c =
@@ -32,7 +32,7 @@ pub loop-i-preserved : goal.loop-i-preserved
 loop-i-preserved c =
     let nodes = (c.args.cert.now).nodes in
     elim c.match-get.branch [
-      | in-Some-get+in_default-node_fault w ↦
+      | in-Some-get+in_default-first_node_fault w ↦
           let found = sym w.in-Some-get.ensures in
           record {
             before =
