@@ -2,6 +2,7 @@
 """Processor seconds of the gate, by crate: its own proof, the proof of its tests, and its edits that must fail.
 
     tools/gate_times.py                        runs `rt ci --anew` at the top of the repository (an hour or more), and prints the table
+    tools/gate_times.py -- rt ci               the same if the kit has no --anew: its rt ci keeps no results
     tools/gate_times.py -- rt must-fail tc_lex      the same of another command
     tools/gate_times.py --from gate.times      prints the table of an earlier run again
     tools/gate_times.py --edits 20 --from gate.times      and the 20 edits that took most
