@@ -6,7 +6,7 @@ ghost use Rattle.cfg_recover.specs.MovesAreOwed.{InterruptsAreOwed, JumpsAreOwed
 ghost use Rattle.cfg_recover.specs.RefusalLaws.{RefusalsHaveReasons};
 
 /// States the laws of moves: a machine at a point, whose state holds the registers, only does what
-/// the point owes, and stores in range.
+/// the point owes, and stores in range. A Flow with a point's duties has those of its instruction.
 pub fn move_laws()
     ensures moves { JumpsAreOwed }
     ensures traps { TrapsAreOwed }

@@ -7,8 +7,8 @@ ghost use Rattle.tcd_driver.specs.DistinctNames.{are_distinct_names};
 use std::alloc::{AllocError, Global};
 use std::collections::HashMap;
 
-/// Returns true if no two of these file names are equal. Each pair is compared, which takes no
-/// memory. More than seven names make no sense.
+/// Returns true if no two of these file names are equal. A map finds them; if there is no memory
+/// for it, each pair is compared.
 pub(crate) fn are_distinct_names(alloc: Global, names: &[String]) -> bool
     ensures { result ≡ are_distinct_names (map string_bytes names.now) }
 {
