@@ -43,6 +43,22 @@ pub record Owed : Type 0 where
 abbrev pub owed : ℕ → Duty → Owed
 owed rule duty = record { rule = rule; duty = duty }
 
+-- the duty of a point to jump in its frame to the address q with this state (K4)
+abbrev pub jump_duty : ℕ → State → Owed
+jump_duty q s = owed 4 (jump q s)
+
+-- the duty of a point to enter the frame of this key with this state, by this rule
+abbrev pub enter_duty : ℕ → Key → State → Owed
+enter_duty rule key s = owed rule (enter key s)
+
+-- the duty of a point to go on at `back` after the frame of this key returns (K4)
+abbrev pub resume_duty : Key → ℕ → Owed
+resume_duty key back = owed 4 (resume key back)
+
+-- the duty of a point to leave its frame with this exit, by this rule
+abbrev pub leave_duty : ℕ → Exit → Owed
+leave_duty rule x = owed rule (leave x)
+
 -- the value that a load gets in this state of a point; any word for other instructions
 abbrev pub value_loaded_by_shape : Limits → ImageData → PlanData → State → Shape → Val
 value_loaded_by_shape b image plan s (Load dst base offset size signed after) =

@@ -1,6 +1,7 @@
 -- The frames that an instruction, an interrupt or a trap enters: their keys, and the states at
 -- their entries.
-use Rattle.std.specs.Prelude.{◌*◌, ◌^◌, ℕ, Bool, true, false, if◌then◌else◌, replicate, bit_or, nat_lt, List, filter, ◌==◌, []}
+use Rattle.std.specs.Prelude.{◌*◌, ◌^◌, ℕ, Bool, true, false, if◌then◌else◌, replicate, bit_or, nat_lt, List, ◌∷◌, filter, ◌==◌, []}
+use Rattle.std.specs.List.{flat_map}
 use Rattle.depth_cert.specs.Keys.{start_kind, call_kind, irq_kind, sys_kind, aln_kind}
 use Rattle.elf_image.specs.Images.{ImageData}
 use Rattle.tcd_plan.specs.PlanData.{PlanData}
@@ -19,6 +20,10 @@ start_key image plan = record { kind = start_kind; entry = image.entry; prio = 0
 -- a called function runs at its caller's priority and on its caller's stack
 abbrev pub call_key : Key → ℕ → Key
 call_key key target = record { kind = call_kind; entry = target; prio = key.prio; is = key.is }
+
+-- the keys of the frames of functions at these addresses that a frame of this key calls
+abbrev pub call_keys : Key → List ℕ → List Key
+call_keys key targets = flat_map (λ t. call_key key t ∷ []) targets
 
 -- The handler of an interrupt is at BIV with the priority in bits 12:5 (TriCore 1 Architecture
 -- Manual V1.3, volume 1, interrupts). It runs on the interrupt stack.

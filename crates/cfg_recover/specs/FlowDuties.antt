@@ -46,6 +46,14 @@ abbrev pub rule_of_entry : Option Enter → ℕ
 rule_of_entry None = 5
 rule_of_entry (Some e) = if e.kind == call_kind then 5 else 12
 
+-- the duties of a Flow's entry by a call (K5) or a system call (K12)
+abbrev pub duties_of_call_entry : Key → Option Enter → List Owed
+duties_of_call_entry key e = duties_of_entry (rule_of_entry e) key e
+
+-- the duties of a Flow's entry of the handler of misaligned accesses (K10)
+abbrev pub duties_of_misaligned_entry : Key → Option Enter → List Owed
+duties_of_misaligned_entry key e = duties_of_entry 10 key e
+
 -- the duties by the interrupts of a Flow: each handler is entered with this state, in which CCPN is
 -- the interrupt's priority
 abbrev pub duties_of_irqs : PlanData → State → List ℕ → List Owed
@@ -61,7 +69,7 @@ duties_of_leaving key s Rfe = if key.kind == sys_kind then owed 7 (leave (exit_o
 -- the duties of a point with this key and state, as the Flow has them
 abbrev pub duties_of_flow : PlanData → Key → State → Flow → List Owed
 duties_of_flow plan key s f =
-    duties_of_jumps f.jumps ++ duties_of_entry (rule_of_entry f.enter) key f.enter ++ duties_of_entry 10 key f.aln ++ duties_of_irqs plan f.irq_entry f.irqs.items ++ duties_of_leaving key s f.leave
+    duties_of_jumps f.jumps ++ duties_of_call_entry key f.enter ++ duties_of_misaligned_entry key f.aln ++ duties_of_irqs plan f.irq_entry f.irqs.items ++ duties_of_leaving key s f.leave
 
 -- how an instruction of this shape leaves its frame: by RET, by RFE, or not at all
 unfoldable pub flow_leave_of : Shape → Leave

@@ -16,6 +16,10 @@ abbrev pub SegmentHoldsBytes : SegmentData → ℕ → List ℕ → Type 0
 SegmentHoldsBytes s x [] = Unit {0}
 SegmentHoldsBytes s x (b ∷ bs) = (s.at ≤ x) × (slice_get s.bytes (x - s.at) ≡ Some b) × SegmentHoldsBytes s (x + 1) bs
 
+-- the segment has this byte of code at the address x
+abbrev pub SegmentHoldsByte : SegmentData → ℕ → ℕ → Type 0
+SegmentHoldsByte s x b = SegmentHoldsBytes s x (b ∷ [])
+
 -- the answer is the image's n bytes at x, if one rom range has them and segments hold them; else
 -- none
 abbrev pub FindsRomBytes : ImageData → PlanData → ℕ → ℕ → Option (List ℕ) → Type 0

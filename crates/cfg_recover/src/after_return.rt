@@ -1,8 +1,7 @@
 // The state of a frame after a frame that it entered has returned.
-ghost use Rattle.std.specs.Prelude.{◌≡◌, ◌==◌, ◌-◌, ◌<◌, nat_lt, if◌then◌else◌, slice_index_or};
-ghost use Rattle.value_domain.specs.Values.{any_val};
-ghost use Rattle.value_domain.specs.State as states;
-ghost use Rattle.depth_cert.specs.Exits.{state_after_return, values_after_return_from};
+ghost use Rattle.std.specs.Prelude.{◌≡◌, ◌==◌, ◌-◌, ◌<◌, if◌then◌else◌};
+ghost use Rattle.depth_cert.specs.Keys.{call_kind};
+ghost use Rattle.depth_cert.specs.Exits.{state_after_return, value_after_return, values_after_return};
 
 use depth_cert::{CALL, Exit};
 use value_domain::{State, Val, copy_locals};
@@ -24,7 +23,7 @@ pub fn after(s: &State, exit: &Exit, kind: u8) -> State
 /// Returns a caller's register values after a return: those of the lower registers are the exit's,
 /// all others stay.
 fn regs_after_return(regs: &[Val; 27], lower: &[Val; 14]) -> [Val; 27]
-    ensures { result ≡ values_after_return_from 0 lower.now regs.now }
+    ensures { result ≡ values_after_return lower.now regs.now }
 {
     let mut out = std::array::from_fn(|_| Val::any());
     for (i, v) in regs.iter().enumerate() {
@@ -36,7 +35,7 @@ fn regs_after_return(regs: &[Val; 27], lower: &[Val; 14]) -> [Val; 27]
 /// Returns a caller's IE after a return: the exit's after a call, the caller's own after a system
 /// call.
 fn ie_after_return(s: &State, exit: &Exit, kind: u8) -> bool
-    ensures { result ≡ (if kind == 1 then exit.now.ie else s.now.ie) }
+    ensures { result ≡ (if kind == call_kind then exit.now.ie else s.now.ie) }
 {
     if kind == CALL { exit.ie } else { s.ie }
 }
@@ -44,7 +43,7 @@ fn ie_after_return(s: &State, exit: &Exit, kind: u8) -> bool
 /// Returns a caller's CCPN after a return: the exit's after a call, the caller's own after a system
 /// call.
 fn ccpn_after_return(s: &State, exit: &Exit, kind: u8) -> u8
-    ensures { result ≡ (if kind == 1 then exit.now.ccpn else s.now.ccpn) }
+    ensures { result ≡ (if kind == call_kind then exit.now.ccpn else s.now.ccpn) }
 {
     if kind == CALL { exit.ccpn } else { s.ccpn }
 }
@@ -52,9 +51,7 @@ fn ccpn_after_return(s: &State, exit: &Exit, kind: u8) -> u8
 /// Returns the value in register slot `i` after a return: for a lower register the exit's, one of
 /// the 14 in `lower`, else `v`.
 fn value_after_return<'a>(i: usize, lower: &'a [Val; 14], v: &'a Val) -> &'a Val
-    ensures { result.now
-        ≡ (if states.is_lower_slot i
-        then slice_index_or lower.now (if nat_lt i 8 then i else i - 8) any_val else v.now) }
+    ensures { result.now ≡ value_after_return i lower.now v.now }
 {
     if i < 8 {
         &lower[i]

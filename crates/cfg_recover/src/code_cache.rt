@@ -2,9 +2,8 @@
 ghost use Rattle.std.specs.Prelude.{◌≡◌, ◌<◌, ◌^◌, ◌↔◌, ℕ, Some, IsTrue, IfSome, slice_index};
 ghost use Rattle.std.specs.Coded.{Coded-set};
 ghost use Rattle.elf_image.specs.Images.{image_byte};
-ghost use Rattle.tc_isa.specs.InBounds.{IsShape};
 ghost use Rattle.tc_encode.specs.Decoding.{decoded_of};
-ghost use Rattle.cfg_recover.specs.Code.{FindsShapeAndSize, shape_and_size_of};
+ghost use Rattle.cfg_recover.specs.Code.{FindsShapeAndSize, HasShapeInBounds, shape_and_size_of};
 ghost use Rattle.cfg_recover.specs.KnownCodes.{shape_and_size_of_word, IsDecodedWord};
 
 use crate::decoded_inst::decode_at;
@@ -47,7 +46,7 @@ impl KnownCodes {
     #[inline(always)]
     pub fn locate(&mut self, image: &Image, plan: &Plan, addr: u32) -> Option<Located>
         ensures code { FindsShapeAndSize image.now plan.now addr result }
-        ensures shape { IfSome result (λ found. IsShape found.shape) }
+        ensures shape { IfSome result HasShapeInBounds }
     {
         if addr % 2 == 1 {
             return None;

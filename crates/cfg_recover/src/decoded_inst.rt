@@ -1,7 +1,6 @@
 // An instruction and its address.
 ghost use Rattle.std.specs.Prelude.{◌<◌, Some, IfSome};
-ghost use Rattle.tc_isa.specs.InBounds.{IsShape};
-ghost use Rattle.cfg_recover.specs.Code.{FindsShapeAndSize};
+ghost use Rattle.cfg_recover.specs.Code.{FindsShapeAndSize, HasShapeInBounds};
 
 use crate::local_rules::Located;
 use crate::rom_code::code_at;
@@ -22,7 +21,7 @@ pub(crate) struct InstAt<'a> {
 #[inline(never)]
 pub(crate) fn decode_at(image: &Image, plan: &Plan, addr: u32) -> Option<Located>
     ensures code { FindsShapeAndSize image.now plan.now addr result }
-    ensures shape { IfSome result (λ found. IsShape found.shape) }
+    ensures shape { IfSome result HasShapeInBounds }
 {
     let (inst, size) = code_at(image, plan, addr)?;
     Some(Located {

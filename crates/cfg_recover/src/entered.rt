@@ -1,11 +1,10 @@
 // The frames that an instruction enters by itself.
-ghost use Rattle.std.specs.Prelude.{◌≡◌, ◌++◌, ◌∷◌, [], ℕ, OnOk, not};
-ghost use Rattle.std.specs.List.{flat_map};
+ghost use Rattle.std.specs.Prelude.{◌≡◌, ◌++◌, ℕ, OnOk, not};
 ghost use Rattle.tc_isa.specs.InBounds.{IsShape, IsShapeAccessSize};
 ghost use Rattle.value_domain.specs.State.{AreInLattice};
 ghost use Rattle.vd_transfer.specs.EffectsOnStates.{address_of_access};
 ghost use Rattle.store_ranges.specs.Accesses.{are_aligned};
-ghost use Rattle.cfg_recover.specs.Entries.{call_key};
+ghost use Rattle.cfg_recover.specs.Entries.{call_keys};
 ghost use Rattle.cfg_recover.specs.Duties.{entered_keys, entry_duties_of};
 ghost use Rattle.cfg_recover.specs.Duties as duties;
 
@@ -76,8 +75,7 @@ fn has_misaligned_address(b: &Bounds, plan: &Plan, s: &State, shape: Shape, size
 
 /// Appends the keys of the frames that a call to these functions enters.
 fn push_called_keys(keys: &mut Vec<Key>, key: &Key, targets: &[u32]) -> Result<(), AllocError>
-    ensures { OnOk result
-        (keys.new.items ≡ keys.old.items ++ flat_map (λ t. call_key key.now t ∷ []) targets.now) }
+    ensures { OnOk result (keys.new.items ≡ keys.old.items ++ call_keys key.now targets.now) }
 {
     for t in targets {
         keys.push(entered_key(key, CALL, *t))?;

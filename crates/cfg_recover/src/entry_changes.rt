@@ -1,11 +1,11 @@
 // How the entry of a frame changes the state of the point that enters it.
-ghost use Rattle.std.specs.Prelude.{◌≡◌, false, true};
+ghost use Rattle.std.specs.Prelude.{◌≡◌};
 ghost use Rattle.value_domain.specs.Values.{IsInLattice, word_val};
 ghost use Rattle.value_domain.specs.State.{AreInLattice};
 ghost use Rattle.vd_transfer.specs.Changes.{state_after};
 ghost use Rattle.cfg_recover.specs.Changes as changes;
 ghost use Rattle.cfg_recover.specs.Entries as entries;
-ghost use Rattle.cfg_recover.specs.Entries.{entry_stack_of, state_with_stack, aln_entry, sys_entry};
+ghost use Rattle.cfg_recover.specs.Entries.{entry_stack_of, irq_entry, aln_entry, sys_entry};
 
 use arrayvec::ArrayVec;
 use depth_cert::Key;
@@ -51,8 +51,7 @@ pub fn sys_entry_change(b: &Bounds, plan: &Plan, key: &Key, s: &State, tin: u8) 
 /// CCPN is `ccpn` and only A10 is known.
 pub fn handler_entry_change(b: &Bounds, plan: &Plan, key: &Key, s: &State, ccpn: u8) -> Change
     requires { AreInLattice b.now s.now.regs }
-    ensures entry { state_after s.now result
-        ≡ state_with_stack (entry_stack_of plan.now key.now s.now) false ccpn true }
+    ensures entry { state_after s.now result ≡ irq_entry plan.now key.now s.now ccpn }
     ensures values { AreInLattice b.now (state_after s.now result).regs }
 {
     let _most_words = b.most_words();

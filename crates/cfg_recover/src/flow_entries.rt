@@ -4,7 +4,7 @@ ghost use Rattle.tc_isa.specs.Meanings.{shape_of};
 ghost use Rattle.value_domain.specs.State.{AreInLattice};
 ghost use Rattle.cfg_recover.specs.Duties.{entry_duties_of, misaligned_duties_of, exit_duties_of};
 ghost use Rattle.cfg_recover.specs.FlowStates.{EntryHasValues};
-ghost use Rattle.cfg_recover.specs.FlowDuties.{duties_of_entry, rule_of_entry, duties_of_leaving, flow_leave_of};
+ghost use Rattle.cfg_recover.specs.FlowDuties.{duties_of_call_entry, duties_of_misaligned_entry, duties_of_leaving, flow_leave_of};
 
 use crate::decoded_inst::InstAt;
 use crate::entered::may_be_misaligned;
@@ -28,7 +28,7 @@ pub(crate) fn call_flow_entry(
     at: InstAt<'_>,
 ) -> Option<Enter>
     requires { AreInLattice b.now s.now.regs }
-    ensures entry { duties_of_entry (rule_of_entry result) key.now result
+    ensures entry { duties_of_call_entry key.now result
         ≡ entry_duties_of plan.now key.now at.entry.addr s.now
         (shape_of at.entry.inst.now) at.entry.size }
     ensures values { EntryHasValues b.now result }
@@ -61,7 +61,7 @@ pub(crate) fn misaligned_flow_entry(
     inst: &Inst,
 ) -> Option<Enter>
     requires { AreInLattice b.now s.now.regs }
-    ensures entry { duties_of_entry 10 key.now result
+    ensures entry { duties_of_misaligned_entry key.now result
         ≡ misaligned_duties_of b.now plan.now key.now s.now (shape_of inst.now) }
     ensures values { EntryHasValues b.now result }
 {

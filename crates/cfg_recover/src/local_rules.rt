@@ -2,17 +2,17 @@
 // instructions at which it can fail; and the least rule that fails at a point.
 ghost use Rattle.std.specs.Prelude.{◌≡◌, ◌<◌, ◌≤◌, ◌⊎◌, ◌↔◌, ℕ, true, length, IsTrue, IsSome, IfErr, IfOk, IfSome, None, Some, if◌then◌else◌, MatchResult};
 ghost use Rattle.tc_isa.specs.InBounds.{IsArg, IsShape, IsShapeAccessSize, IsTarget};
-ghost use Rattle.tc_isa.specs.declared.shapes.Shape.TheVariants.{Ret, Rfe};
 ghost use Rattle.value_domain.specs.Values.{IsWellFormed, word_val};
 ghost use Rattle.vd_transfer.specs.Registers.{IncreasesNoFixedRegister, RegisterHasValue};
-ghost use Rattle.cfg_recover.specs.LocalRules.{targets_of_value, targets_of, MayReturn, MayReturnFromException, StoresInRangeAtValue, MayAccessAtValue};
+ghost use Rattle.cfg_recover.specs.LocalRules.{targets_of_value, targets_of, StoresInRangeAtValue, MayAccessAtValue};
 ghost use Rattle.store_ranges.specs.Accesses.{are_aligned};
+ghost use Rattle.depth_cert.specs.Keys.{call_kind, irq_kind, sys_kind, aln_kind};
 ghost use Rattle.cfg_recover.specs.LocalFaults.{IsLocalFault, IsLeastLocalFault, IsAccessFault, IsFaultlessShape, IsFaultlessInst};
 ghost use Rattle.elf_image.specs.Images.{ImageData};
 ghost use Rattle.tc_isa.specs.Meanings.{shape_of};
 ghost use Rattle.value_domain.specs.declared.states.State.{State};
 ghost use Rattle.value_domain.specs.State.{AreInLattice};
-ghost use Rattle.cfg_recover.specs.Code.{FindsShapeAndSize};
+ghost use Rattle.cfg_recover.specs.Code.{FindsShapeAndSize, HasShapeInBounds};
 ghost use Rattle.value_domain.specs.Limits.{Limits};
 ghost use Rattle.vd_transfer.specs.EffectsOnStates.{access_of, address_of_access};
 
@@ -121,7 +121,7 @@ pub fn check_decoded<'a>(
     located: &'a Option<Located>,
 ) -> Result<&'a Located, u8>
     requires values { AreInLattice b.now s.now.regs }
-    requires shape { IfSome located.now (λ found. IsShape found.shape) }
+    requires shape { IfSome located.now HasShapeInBounds }
     ensures found { (image : ImageData) (p : ℕ) → FindsShapeAndSize image plan.now p located.now
         → IfOk result (λ found. IsFaultlessShape b.now image plan.now key.now p s.now found.now) }
     ensures fault { (image : ImageData) (p : ℕ) → FindsShapeAndSize image plan.now p located.now
@@ -255,7 +255,7 @@ pub(crate) fn has_known_targets(plan: &Plan, s: &State, to: Target) -> bool
 /// Tests K6's own part, at RET: true if the frame is a called function's and has restored all lower
 /// contexts.
 pub(crate) fn may_return(key: &Key, s: &State) -> bool
-    ensures { IsTrue result ↔ MayReturn key.now s.now Ret }
+    ensures { IsTrue result ↔ ((key.now.kind ≡ call_kind) × (length s.now.locals.items ≡ 0)) }
 {
     key.kind == CALL && has_no_locals(s)
 }
@@ -263,7 +263,9 @@ pub(crate) fn may_return(key: &Key, s: &State) -> bool
 /// Tests K7's own part, at RFE: true if a handler's frame has restored all lower contexts, with its
 /// entry's lower registers if need be.
 pub(crate) fn may_return_from_exception(key: &Key, s: &State) -> bool
-    ensures { IsTrue result ↔ MayReturnFromException key.now s.now Rfe }
+    ensures { IsTrue result ↔ ((length s.now.locals.items ≡ 0)
+        × ((((key.now.kind ≡ irq_kind) ⊎ (key.now.kind ≡ aln_kind)) × (s.now.lower ≡ true))
+        ⊎ (key.now.kind ≡ sys_kind))) }
 {
     has_no_locals(s) && may_handler_return(key, s)
 }
@@ -424,8 +426,8 @@ fn has_no_locals(s: &State) -> bool
 /// and misaligned accesses must have their entry's lower registers.
 fn may_handler_return(key: &Key, s: &State) -> bool
     ensures { IsTrue result
-        ↔ ((((key.now.kind ≡ 2) ⊎ (key.now.kind ≡ 4)) × (s.now.lower ≡ true))
-        ⊎ (key.now.kind ≡ 3)) }
+        ↔ ((((key.now.kind ≡ irq_kind) ⊎ (key.now.kind ≡ aln_kind)) × (s.now.lower ≡ true))
+        ⊎ (key.now.kind ≡ sys_kind)) }
 {
     match key.kind {
         IRQ | ALN => s.lower,

@@ -1,8 +1,8 @@
 // The instruction at an address of an image.
-ghost use Rattle.std.specs.Prelude.{◌≡◌, ◌≤◌, ◌+◌, ◌^◌, ◌↔◌, [], ◌∷◌, IsTrue, IfSome};
+ghost use Rattle.std.specs.Prelude.{◌≡◌, ◌≤◌, ◌+◌, ◌^◌, ◌↔◌, IsTrue, IfSome};
 ghost use Rattle.tcd_base.specs.Ranges.{IsInOneRange};
 ghost use Rattle.elf_image.specs.Images.{image_byte, segment_data};
-ghost use Rattle.cfg_recover.specs.HeldBytes.{image_bytes_at, SegmentHoldsBytes, FindsRomBytes};
+ghost use Rattle.cfg_recover.specs.HeldBytes.{image_bytes_at, SegmentHoldsByte, SegmentHoldsBytes, FindsRomBytes};
 ghost use Rattle.cfg_recover.specs.Code.{FindsCodeInBytes, FindsCode};
 
 use elf_image::{Image, Segment};
@@ -170,7 +170,7 @@ fn four_code_bytes_one_by_one(image: &Image, addr: u32) -> Option<[u8; 4]>
 /// Returns the byte of code at an address, if this segment of the image holds it.
 #[inline(always)]
 fn code_byte_in_segment(segment: &Segment, addr: u32) -> Option<u8>
-    ensures { IfSome result (λ b. SegmentHoldsBytes (segment_data segment.now) addr (b ∷ [])) }
+    ensures { IfSome result (SegmentHoldsByte (segment_data segment.now) addr) }
 {
     if addr < segment.at {
         return None;

@@ -13,8 +13,9 @@ AreDisjoint used free = AllByRecursion (λ l. AllByRecursion (λ k. k ≢ l) use
 -- A save: 16 words are written to the first free area, the first of them the old PCXI. The new PCXI
 -- names that area, and the new FCX the area that its word 0 named. So the first link of the free
 -- list moves to the front of the used list.
-abbrev pub SaveMovesLink : Memory → ℕ → ℕ → ℕ → List ℕ → List ℕ → Type 0
-SaveMovesLink mem pcxi fcx f free used =
+abbrev pub SaveMovesLink : Type 0
+SaveMovesLink =
+    (mem : Memory) (pcxi fcx f : ℕ) (free used : List ℕ) →
     chain mem fcx ≡ Some (f ∷ free) → chain mem pcxi ≡ Some used → AreDisjoint used (f ∷ free) → length used < 4096 → pcxi < 2 ^ 32 →
     (words : List ℕ) (pcxi' fcx' : ℕ) → length words ≡ 16 → slice_index words 0 ≡ pcxi → link_in pcxi' ≡ f → link_in fcx' ≡ link_in (area_word mem f 0) →
     (chain (with_words mem (link_address f) words) pcxi' ≡ Some (f ∷ used)) × (chain (with_words mem (link_address f) words) fcx' ≡ Some free)
@@ -22,8 +23,9 @@ SaveMovesLink mem pcxi fcx f free used =
 -- A restore: the old FCX is written to word 0 of the first used area. The new FCX names that area,
 -- and the new PCXI is the word 0 that was read. So the first link of the used list moves to the
 -- front of the free list.
-abbrev pub RestoreMovesLink : Memory → ℕ → ℕ → ℕ → List ℕ → List ℕ → Type 0
-RestoreMovesLink mem pcxi fcx l used free =
+abbrev pub RestoreMovesLink : Type 0
+RestoreMovesLink =
+    (mem : Memory) (pcxi fcx l : ℕ) (used free : List ℕ) →
     chain mem pcxi ≡ Some (l ∷ used) → chain mem fcx ≡ Some free → AreDisjoint free (l ∷ used) → length free < 4096 → fcx < 2 ^ 32 →
     (fcx' : ℕ) → link_in fcx' ≡ l →
     (chain (with_words mem (link_address l) (fcx ∷ [])) fcx' ≡ Some (l ∷ free)) × (chain (with_words mem (link_address l) (fcx ∷ [])) (area_word mem l 0) ≡ Some used)
@@ -47,5 +49,7 @@ abbrev pub HaveEqualAreas : List ℕ → Memory → Memory → Type 0
 HaveEqualAreas links old new = AllByRecursion (λ l. (i : ℕ) → i < 64 → map.get new (link_address l + i) ≡ map.get old (link_address l + i)) links
 
 -- A change outside the areas of a chain leaves it as it is.
-abbrev pub ChangeOutsideKeepsChain : Memory → Memory → ℕ → List ℕ → Type 0
-ChangeOutsideKeepsChain old new word links = chain old word ≡ Some links → HaveEqualAreas links old new → chain new word ≡ Some links
+abbrev pub ChangeOutsideKeepsChain : Type 0
+ChangeOutsideKeepsChain =
+    (old new : Memory) (word : ℕ) (links : List ℕ) →
+    chain old word ≡ Some links → HaveEqualAreas links old new → chain new word ≡ Some links

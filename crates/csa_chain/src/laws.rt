@@ -1,6 +1,4 @@
 // The laws of chains, of contexts and of memory.
-ghost use Rattle.std.specs.Prelude.{ℕ, List};
-ghost use Rattle.csa_chain.specs.MemoryBytes.{Memory};
 ghost use Rattle.csa_chain.specs.ChainLaws.{SaveMovesLink, RestoreMovesLink, StoreBesideKeepsChains, ChangeOutsideKeepsChain};
 ghost use Rattle.csa_chain.specs.SeveralChains.{OwnerSaveMovesLink, OwnerRestoreMovesLink};
 ghost use Rattle.csa_chain.specs.MemoryLaws.{WordsRoundTrip, BytesStayInBounds};
@@ -8,13 +6,10 @@ ghost use Rattle.csa_chain.specs.ContextWordLaws.{ContextWordsStayInBounds, Uppe
 
 /// The laws of chains: what a save, a restore and a store do to the free list and the used list.
 pub fn chain_laws()
-    ensures save { (mem : Memory) (pcxi fcx f : ℕ) (free used : List ℕ)
-        → SaveMovesLink mem pcxi fcx f free used }
-    ensures restore { (mem : Memory) (pcxi fcx l : ℕ) (used free : List ℕ)
-        → RestoreMovesLink mem pcxi fcx l used free }
+    ensures save { SaveMovesLink }
+    ensures restore { RestoreMovesLink }
     ensures misses { StoreBesideKeepsChains }
-    ensures store { (old new : Memory) (word : ℕ) (links : List ℕ)
-        → ChangeOutsideKeepsChain old new word links }
+    ensures store { ChangeOutsideKeepsChain }
 {}
 
 /// The laws of several chains: what a save or a restore by the owner of one chain does to all.

@@ -20,18 +20,31 @@ lower_values regs = take 8 regs ++ take 6 (drop 16 regs)
 abbrev pub exit_of_state : State → Exit
 exit_of_state s = record { ie = s.ie; ccpn = s.ccpn; lower = lower_values s.regs }
 
+-- the index among an exit's 14 values of the lower register with slot i in a state
+abbrev pub lower_value_index : ℕ → ℕ
+lower_value_index i = if nat_lt i 8 then i else i - 8
+
+-- the value in slot i of a state after a return: the exit's for a lower register, else v, the
+-- caller's
+abbrev pub value_after_return : ℕ → List Val → Val → Val
+value_after_return i lower v = if is_lower_slot i then slice_index_or lower (lower_value_index i) any_val else v
+
 -- a state's values, from slot i on, after a return by an exit: those of lower registers are the
 -- exit's, the others stay
 unfoldable pub values_after_return_from : ℕ → List Val → List Val → List Val
 values_after_return_from i lower [] = []
-values_after_return_from i lower (v ∷ vs) =
-    (if is_lower_slot i then slice_index_or lower (if nat_lt i 8 then i else i - 8) any_val else v) ∷ values_after_return_from (i + 1) lower vs
+values_after_return_from i lower (v ∷ vs) = value_after_return i lower v ∷ values_after_return_from (i + 1) lower vs
+
+-- a state's 27 values after a return by an exit: those of lower registers are the exit's, the
+-- others stay
+abbrev pub values_after_return : List Val → List Val → List Val
+values_after_return lower vs = values_after_return_from 0 lower vs
 
 -- the state after a return by this exit of a certificate's node; a return from a call keeps the
 -- exit's IE and CCPN, one from a system call restores the caller's
 abbrev pub state_after_return : State → Exit → ℕ → State
 state_after_return s x kind = record s {
-  regs = values_after_return_from 0 x.lower s.regs;
+  regs = values_after_return x.lower s.regs;
   ie = if kind == call_kind then x.ie else s.ie;
   ccpn = if kind == call_kind then x.ccpn else s.ccpn;
   lower = false;

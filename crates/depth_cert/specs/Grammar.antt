@@ -36,6 +36,10 @@ is_above_last_read (Some last) x = nat_lt last x
 unfoldable pub flag_at : Place → Result (Bool × Place) FormErr
 flag_at p = u8_at p >>= λ b. if nat_lt 1 b.0 then field_fault_at 4 p else Ok (b.0 == 1, b.1)
 
+-- n truth values of a certificate, one after another
+abbrev pub flags_at : ℕ → Place → Result (List Bool × Place) FormErr
+flags_at n p = many_fields_at (λ before. flag_at) n [] p
+
 -- ---- values
 -- a word of a Set in a certificate, above those before
 unfoldable pub set_word_after : List ℕ → Place → Result (ℕ × Place) FormErr
@@ -73,7 +77,7 @@ values_at version n p = many_fields_at (λ before. value_at version) n [] p
 -- limit, and each flag
 unfoldable pub locals_at : ℕ → Place → Result (List Bool × Place) FormErr
 locals_at version p =
-    u8_at p >>= λ n. valid_field_or_fault 5 (nat_le n.0 (most_locals_of version)) p n >>= λ n. many_fields_at (λ before. flag_at) n.0 [] n.1
+    u8_at p >>= λ n. valid_field_or_fault 5 (nat_le n.0 (most_locals_of version)) p n >>= λ n. flags_at n.0 n.1
 
 -- a point's state in a certificate: ie, ccpn, lower, the locals, and the values of its 27 registers
 unfoldable pub state_at : ℕ → Place → Result (State × Place) FormErr

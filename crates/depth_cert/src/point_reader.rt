@@ -1,7 +1,7 @@
 // Reads the fields of points.
-ghost use Rattle.std.specs.Prelude.{◌≡◌, ◌≤◌, [], true, Ok, Err, IfOk, IfErr};
-ghost use Rattle.tcd_base.specs.FieldReaders.{ReadsField, many_fields_at};
-ghost use Rattle.depth_cert.specs.Grammar.{flag_at, locals_at, address_after, is_above_last_read};
+ghost use Rattle.std.specs.Prelude.{◌≡◌, ◌≤◌, true, Ok, Err, IfOk, IfErr};
+ghost use Rattle.tcd_base.specs.FieldReaders.{ReadsField};
+ghost use Rattle.depth_cert.specs.Grammar.{flags_at, locals_at, address_after, is_above_last_read};
 
 use crate::value_reader::read_flag;
 use arrayvec::ArrayVec;
@@ -44,9 +44,8 @@ pub fn read_address(c: &mut FileCursor<'_>, last: Option<u32>) -> Result<u32, Fo
 #[tactic(auto, unfolding(tcd_base::specs::FieldReaders::many_fields_at))]
 fn read_flags(c: &mut FileCursor<'_>, count: u8) -> Result<ArrayVec<bool, 8>, FormErr>
     requires few { count ≤ 8 }
-    ensures ok { IfOk result
-        (λ l. many_fields_at (λ before. flag_at) count [] c.old ≡ Ok (l.items, c.new)) }
-    ensures err { IfErr result (λ e. many_fields_at (λ before. flag_at) count [] c.old ≡ Err e) }
+    ensures ok { IfOk result (λ l. flags_at count c.old ≡ Ok (l.items, c.new)) }
+    ensures err { IfErr result (λ e. flags_at count c.old ≡ Err e) }
     ensures bytes { c.new.bytes ≡ c.old.bytes }
 {
     let mut flags = ArrayVec::new();

@@ -1,6 +1,7 @@
 // Reads the fields of values.
 ghost use Rattle.std.specs.Prelude.{◌≡◌, ◌≤◌, ◌<◌, ◌^◌, ◌-◌, length, Ok, Err, OnOk, IfOk, IfErr, true};
 ghost use Rattle.tcd_base.specs.FieldReaders.{ReadsField};
+ghost use Rattle.tcd_base.specs.Place.{place_moved_to};
 ghost use Rattle.value_domain.specs.declared.values.Val.TheVariants.{Set};
 ghost use Rattle.std.specs.List.Sorted.{IsStrictlyIncreasing};
 ghost use Rattle.depth_cert.specs.Grammar.{flag_at, set_word_after, set_at, span_at, value_at, values_at, is_above_last_read, is_cert_span, last_number_read};
@@ -136,11 +137,9 @@ fn read_span(
     requires step { step ≤ 2 }
     requires start { start ≤ 2 ^ 30 }
     ensures ok { OnOk result
-        (span_at version step (record { bytes = c.old.bytes; place = start }) c.old
-        ≡ Ok (out.new, c.new)) }
+        (span_at version step (place_moved_to c.old start) c.old ≡ Ok (out.new, c.new)) }
     ensures err { IfErr result
-        (λ e. span_at version step (record { bytes = c.old.bytes; place = start }) c.old
-        ≡ Err e) }
+        (λ e. span_at version step (place_moved_to c.old start) c.old ≡ Err e) }
     ensures bytes { c.new.bytes ≡ c.old.bytes }
 {
     let lo = read_u32(c)?;

@@ -8,4 +8,5 @@ pub mod NodeFaults
 pub mod PassingInstructions
 pub mod PointCheckData
 pub mod PointChecks
+pub mod PointDuties
 pub mod DutiesHold

@@ -1,20 +1,17 @@
 // The rules of the duties of a point: what it enters, its interrupts, and how it leaves the node.
-ghost use Rattle.std.specs.Prelude.{◌≡◌, length, ◌≤◌, ◌↔◌, IsTrue, IfSome, ◌+◌, [], ◌∷◌, unwrap_or};
-ghost use Rattle.std.specs.List.{flat_map};
+ghost use Rattle.std.specs.Prelude.{◌≡◌, length, ◌≤◌, ◌↔◌, IsTrue, IfSome, ◌+◌, [], ◌∷◌};
 ghost use Rattle.depth_check.specs.LeastBroken.{FindsLeastBroken, FindsLeastBrokenByDuties};
 ghost use Rattle.depth_check.specs.DutiesHold.{IsReturnMet, LeavingHolds};
 ghost use Rattle.depth_cert.specs.Keys.{call_kind};
 ghost use Rattle.value_domain.specs.State.{AreWellFormed};
 ghost use Rattle.vd_transfer.specs.Changes.{state_after};
 ghost use Rattle.tc_isa.specs.InBounds.{IsShape, IsTarget};
-ghost use Rattle.cfg_recover.specs.LocalFaults.{IsFaultlessShape};
-ghost use Rattle.cfg_recover.specs.Entries.{call_key, possible_irqs_of};
-ghost use Rattle.cfg_recover.specs.LocalRules.{targets_of};
-ghost use Rattle.cfg_recover.specs.Duties.{owed, enter, entry_and_return, entry_duties_of, misaligned_duties_of, interrupt_duties_of, duties_of};
+ghost use Rattle.cfg_recover.specs.Entries.{call_entry, possible_irqs_of};
+ghost use Rattle.cfg_recover.specs.Duties.{enter_duty, entry_and_return};
+ghost use Rattle.depth_check.specs.PointDuties.{IsFaultlessInstructionAt, all_duties_at, call_duties_at, entry_duties_at, interrupt_duties_at, misaligned_duties_at, misaligned_duty_at, possible_targets_at, system_call_duties_at};
 ghost use Rattle.cfg_recover.specs.FlowDuties.{duties_of_flow_return, duties_of_irqs};
 ghost use Rattle.cfg_recover.specs.SetOperations.{IsCorrectCache};
 ghost use Rattle.depth_check.specs.CheckedRegisters.{CallHolds, RegisterCallsHoldAt, CheckedRegistersHoldAt};
-ghost use Rattle.cfg_recover.specs.Entries as entries;
 ghost use Rattle.cfg_recover.specs.FlowDuties as flows;
 
 use crate::node_covers::{has_changed_point, has_covering_exit, has_point_after_return};
@@ -42,13 +39,10 @@ pub(crate) fn rule_broken_by_duties(
     found: &Located,
     scratch: &mut PointScratch,
 ) -> Option<u8>
-    requires found { IsFaultlessShape at.now.bounds at.now.image at.now.plan
-        at.now.node.key at.now.point.addr at.now.point.state found.now }
+    requires found { IsFaultlessInstructionAt at.now found.now }
     requires results { IsCorrectCache at.now.bounds scratch.old.cache }
     requires registers { CheckedRegistersHoldAt at.now scratch.old.registers }
-    ensures found { FindsLeastBrokenByDuties at.now
-        (duties_of at.now.bounds at.now.image at.now.plan at.now.node.key
-        at.now.point.addr at.now.point.state found.now.shape found.now.size) result }
+    ensures found { FindsLeastBrokenByDuties at.now (all_duties_at at.now found.now) result }
     ensures results { IsCorrectCache at.now.bounds scratch.new.cache }
     ensures registers { CheckedRegistersHoldAt at.now scratch.new.registers }
 {
@@ -74,8 +68,7 @@ pub(crate) fn rule_broken_by_duties(
 /// Returns the least rule that the entries of interrupt handlers at a checked point break. Entries
 /// known to hold are passed over.
 pub(crate) fn rule_broken_by_interrupts(at: &PointCheck<'_, '_>) -> Option<u8>
-    ensures { FindsLeastBrokenByDuties at.now
-        (interrupt_duties_of at.now.plan at.now.node.key at.now.point.state) result }
+    ensures { FindsLeastBrokenByDuties at.now (interrupt_duties_at at.now) result }
 {
     let again = at.point.again;
     if again {
@@ -119,9 +112,7 @@ fn rule_broken_by_call_or_syscall(
 ) -> Option<u8>
     requires shape { IsShape shape }
     requires called { RegisterCallsHoldAt at.now called.old }
-    ensures found { FindsLeastBrokenByDuties at.now
-        (entry_duties_of at.now.plan at.now.node.key at.now.point.addr at.now.point.state
-        shape size) result }
+    ensures found { FindsLeastBrokenByDuties at.now (entry_duties_at at.now shape size) result }
     ensures called { RegisterCallsHoldAt at.now called.new }
 {
     let back = at.point.addr.wrapping_add(size);
@@ -135,11 +126,8 @@ fn rule_broken_by_call_or_syscall(
 /// Returns the least rule that a checked point breaks by the trap of a misaligned access. `None` if
 /// the plan has no such trap or the access is aligned.
 fn rule_broken_by_misaligned_access(at: &PointCheck<'_, '_>, found: &Located) -> Option<u8>
-    requires { IsFaultlessShape at.now.bounds at.now.image at.now.plan
-        at.now.node.key at.now.point.addr at.now.point.state found.now }
-    ensures { FindsLeastBrokenByDuties at.now
-        (misaligned_duties_of at.now.bounds at.now.plan at.now.node.key at.now.point.state
-        found.now.shape) result }
+    requires { IsFaultlessInstructionAt at.now found.now }
+    ensures { FindsLeastBrokenByDuties at.now (misaligned_duties_at at.now found.now) result }
 {
     let plan = at.plan;
     if !plan.aln {
@@ -181,11 +169,8 @@ fn rule_broken_by_unchecked_call(
 ) -> Option<u8>
     requires target { IsTarget to }
     requires called { RegisterCallsHoldAt at.now called.old }
-    ensures found { FindsLeastBrokenByDuties at.now
-        (flat_map (λ t. entry_and_return 5 (call_key at.now.node.key t)
-        (entries.call_entry at.now.point.state) back)
-        (unwrap_or (targets_of at.now.plan at.now.point.state at.now.point.addr to) []))
-        result }
+    ensures found { FindsLeastBrokenByDuties at.now (call_duties_at at.now
+        (call_entry at.now.point.state) back (possible_targets_at at.now to)) result }
     ensures called { RegisterCallsHoldAt at.now called.new }
 {
     let Target::Reg(r) = to else {
@@ -209,9 +194,7 @@ fn rule_broken_by_unchecked_call(
 /// the point at `back`, where execution resumes.
 #[inline(never)]
 fn rule_broken_by_system_call(at: &PointCheck<'_, '_>, tin: u8, back: u32) -> Option<u8>
-    ensures { FindsLeastBrokenByDuties at.now
-        (entry_and_return 12 (entries.sys_key at.now.plan at.now.node.key)
-        (entries.sys_entry at.now.plan at.now.node.key at.now.point.state tin) back) result }
+    ensures { FindsLeastBrokenByDuties at.now (system_call_duties_at at.now tin back) result }
 {
     let node = at.node;
     let entry = sys_entry_change(at.bounds, at.plan, &node.key, at.point.state, tin);
@@ -224,11 +207,8 @@ fn rule_broken_by_system_call(at: &PointCheck<'_, '_>, tin: u8, back: u32) -> Op
 #[inline(never)]
 fn rule_broken_by_call(at: &PointCheck<'_, '_>, to: Target, back: u32) -> Option<u8>
     requires { IsTarget to }
-    ensures { FindsLeastBrokenByDuties at.now
-        (flat_map (λ t. entry_and_return 5 (call_key at.now.node.key t)
-        (entries.call_entry at.now.point.state) back)
-        (unwrap_or (targets_of at.now.plan at.now.point.state at.now.point.addr to) []))
-        result }
+    ensures { FindsLeastBrokenByDuties at.now (call_duties_at at.now
+        (call_entry at.now.point.state) back (possible_targets_at at.now to)) result }
 {
     let entry = call_entry_change(at.bounds, at.point.state);
     match direct_target(at.point.addr, to) {
@@ -246,9 +226,8 @@ fn rule_broken_by_call_targets(
     back: u32,
 ) -> Option<u8>
     requires { AreWellFormed (state_after at.now.point.state entry.now).regs }
-    ensures { FindsLeastBrokenByDuties at.now
-        (flat_map (λ t. entry_and_return 5 (call_key at.now.node.key t)
-        (state_after at.now.point.state entry.now) back) targets.now) result }
+    ensures { FindsLeastBrokenByDuties at.now (call_duties_at at.now
+        (state_after at.now.point.state entry.now) back targets.now) result }
 {
     let node = at.node;
     let mut found = None;
@@ -303,11 +282,8 @@ fn rule_broken_by_calli(
 ) -> Option<u8>
     requires target { IsTarget to }
     requires entry { AreWellFormed (state_after at.now.point.state entry.now).regs }
-    ensures { FindsLeastBrokenByDuties at.now
-        (flat_map (λ t. entry_and_return 5 (call_key at.now.node.key t)
-        (state_after at.now.point.state entry.now) back)
-        (unwrap_or (targets_of at.now.plan at.now.point.state at.now.point.addr to) []))
-        result }
+    ensures { FindsLeastBrokenByDuties at.now (call_duties_at at.now
+        (state_after at.now.point.state entry.now) back (possible_targets_at at.now to)) result }
 {
     let targets = targets(at.plan, at.point.state, at.point.addr, to);
     rule_broken_by_call_targets(at, entry, targets.as_slice(), back)
@@ -325,7 +301,7 @@ fn rule_broken_by_entry(
     requires rule { rule ≤ 14 }
     requires entry { AreWellFormed (state_after at.now.point.state entry.now).regs }
     ensures { FindsLeastBrokenByDuties at.now
-        (owed rule (enter key.now (state_after at.now.point.state entry.now))
+        (enter_duty rule key.now (state_after at.now.point.state entry.now)
         ∷ duties_of_flow_return key.now back) result }
 {
     let cert = at.cert;
@@ -370,10 +346,7 @@ fn is_return_met(
 /// accesses.
 #[inline(never)]
 fn rule_broken_by_aln_entry(at: &PointCheck<'_, '_>) -> Option<u8>
-    ensures { FindsLeastBrokenByDuties at.now
-        (owed 10 (enter (entries.aln_key at.now.plan at.now.node.key)
-        (entries.aln_entry at.now.plan at.now.node.key at.now.point.state)) ∷ [])
-        result }
+    ensures { FindsLeastBrokenByDuties at.now (misaligned_duty_at at.now ∷ []) result }
 {
     let node = at.node;
     let entry = aln_entry_change(at.bounds, at.plan, &node.key, at.point.state);
@@ -386,8 +359,7 @@ fn rule_broken_by_aln_entry(at: &PointCheck<'_, '_>) -> Option<u8>
 #[inline(never)]
 fn rule_broken_by_possible_irqs(at: &PointCheck<'_, '_>, irqs: &[u8]) -> Option<u8>
     requires { irqs.now ≡ possible_irqs_of at.now.plan at.now.point.state }
-    ensures { FindsLeastBrokenByDuties at.now
-        (interrupt_duties_of at.now.plan at.now.node.key at.now.point.state) result }
+    ensures { FindsLeastBrokenByDuties at.now (interrupt_duties_at at.now) result }
 {
     let node = at.node;
     let entry = handler_entry_change(at.bounds, at.plan, &node.key, at.point.state, 0);

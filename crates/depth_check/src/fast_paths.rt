@@ -14,7 +14,7 @@ ghost use Rattle.value_domain.specs.declared.values.Val.{Val};
 ghost use Rattle.value_domain.specs.declared.states.State.{State};
 ghost use Rattle.value_domain.specs.Limits.{Limits};
 ghost use Rattle.vd_transfer.specs.Branches.{refine_of};
-ghost use Rattle.cfg_recover.specs.Duties.{owed, jump};
+ghost use Rattle.cfg_recover.specs.Duties.{jump_duty};
 
 use crate::node_covers::is_own_state_covered;
 use crate::points::PointCheck;
@@ -133,7 +133,7 @@ pub(crate) const NO_REGISTERS: CheckedRegisters = CheckedRegisters {
 /// Returns K4 if the node has no point at `next` that covers the checked point's own state, which
 /// its instruction keeps.
 pub(crate) fn rule_broken_by_kept_state(at: &PointCheck<'_, '_>, next: u32) -> Option<u8>
-    ensures { FindsLeastBrokenByDuties at.now (owed 4 (jump next at.now.point.state) ∷ []) result }
+    ensures { FindsLeastBrokenByDuties at.now (jump_duty next at.now.point.state ∷ []) result }
 {
     broken_rule_unless(is_own_state_covered(at, next), NO_POINT)
 }

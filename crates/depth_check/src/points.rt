@@ -9,7 +9,7 @@ ghost use Rattle.depth_check.specs.CheckedRegisters.{CheckedRegistersHoldAt};
 ghost use Rattle.depth_check.specs.Interrupts.{InterruptsHold, AreStacksWellFormed, LastInterruptsHold};
 ghost use Rattle.vd_transfer.specs.Changes.{state_after};
 ghost use Rattle.vd_transfer.specs.EffectsOnStates.{transfer_of};
-ghost use Rattle.cfg_recover.specs.LocalFaults.{IsFaultlessShape};
+ghost use Rattle.depth_check.specs.PointDuties.{IsFaultlessInstructionAt};
 ghost use Rattle.cfg_recover.specs.Duties.{value_loaded_by_shape};
 ghost use Rattle.tcd_plan.specs.PlanData.{PlanData};
 ghost use Rattle.value_domain.specs.Values.{IsWellFormed};
@@ -128,8 +128,7 @@ pub(crate) fn rule_broken_at(at: &PointCheck<'_, '_>, scratch: &mut PointScratch
 /// an operation on two sets may come from the cache.
 #[inline(always)]
 pub(crate) fn write_change_at(at: &PointCheck<'_, '_>, found: &Located, scratch: &mut PointScratch)
-    requires found { IsFaultlessShape at.now.bounds at.now.image at.now.plan
-        at.now.node.key at.now.point.addr at.now.point.state found.now }
+    requires found { IsFaultlessInstructionAt at.now found.now }
     requires results { IsCorrectCache at.now.bounds scratch.old.cache }
     ensures change { state_after at.now.point.state scratch.new.change
         ≡ transfer_of at.now.bounds at.now.plan found.now.shape at.now.point.state

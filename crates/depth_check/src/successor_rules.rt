@@ -1,14 +1,12 @@
 // K4 for the successors of a point in its frame.
-ghost use Rattle.std.specs.Prelude.{◌≡◌, ◌+◌, [], unwrap_or, ◌<◌, ◌++◌, false, true};
+ghost use Rattle.std.specs.Prelude.{◌≡◌, ◌+◌, ◌<◌, ◌++◌, false, true};
 ghost use Rattle.depth_check.specs.LeastBroken.{FindsLeastBrokenByDuties};
 ghost use Rattle.tc_isa.specs.InBounds.{IsShape, IsTarget};
-ghost use Rattle.cfg_recover.specs.LocalFaults.{IsFaultlessShape};
-ghost use Rattle.cfg_recover.specs.LocalRules.{targets_of, targets_of_value};
-ghost use Rattle.cfg_recover.specs.Duties.{jumps_to, jump_on, next_duty_of, successor_duties_of};
+ghost use Rattle.cfg_recover.specs.Duties.{jumps_to};
+ghost use Rattle.depth_check.specs.PointDuties.{IsFaultlessInstructionAt, branch_duties_at, next_duties_at, possible_targets_at, successor_duties_at};
 ghost use Rattle.cfg_recover.specs.SetOperations.{IsCorrectCache};
 ghost use Rattle.depth_check.specs.CheckedRegisters.{CheckedRegistersHoldAt, RegisterJumpsHoldAt};
-ghost use Rattle.vd_transfer.specs.Registers.{reg_of};
-ghost use Rattle.vd_transfer.specs.Branches.{refine_of};
+ghost use Rattle.tc_isa.specs.declared.shapes.Target.TheVariants.{Reg};
 
 use crate::fast_paths::{may_skip_change, may_skip_refinement, rule_broken_by_kept_state};
 use crate::node_covers::{has_covering_points, is_changed_state_covered, is_kept_state_covered};
@@ -25,13 +23,10 @@ pub(crate) fn rule_broken_by_successors(
     found: &Located,
     scratch: &mut PointScratch,
 ) -> Option<u8>
-    requires found { IsFaultlessShape at.now.bounds at.now.image at.now.plan
-        at.now.node.key at.now.point.addr at.now.point.state found.now }
+    requires found { IsFaultlessInstructionAt at.now found.now }
     requires results { IsCorrectCache at.now.bounds scratch.old.cache }
     requires registers { CheckedRegistersHoldAt at.now scratch.old.registers }
-    ensures found { FindsLeastBrokenByDuties at.now
-        (successor_duties_of at.now.bounds at.now.image at.now.plan at.now.point.addr
-        at.now.point.state found.now.shape found.now.size) result }
+    ensures found { FindsLeastBrokenByDuties at.now (successor_duties_at at.now found.now) result }
     ensures results { IsCorrectCache at.now.bounds scratch.new.cache }
     ensures registers { CheckedRegistersHoldAt at.now scratch.new.registers }
 {
@@ -62,9 +57,8 @@ fn rule_broken_by_branch(
     c: &mut Change,
 ) -> Option<u8>
     requires { IsShape shape }
-    ensures { FindsLeastBrokenByDuties at.now
-        (jump_on next (refine_of at.now.bounds at.now.plan shape at.now.point.state false)
-        ++ jump_on to (refine_of at.now.bounds at.now.plan shape at.now.point.state true)) result }
+    ensures { FindsLeastBrokenByDuties at.now (branch_duties_at at.now next shape false
+        ++ branch_duties_at at.now to shape true) result }
 {
     let straight = rule_broken_by_branch_side(at, shape, false, next, c);
     let taken = rule_broken_by_branch_side(at, shape, true, to, c);
@@ -77,8 +71,7 @@ fn rule_broken_by_jump(at: &PointCheck<'_, '_>, to: Target, jumped: &mut Option<
     requires target { IsTarget to }
     requires jumped { RegisterJumpsHoldAt at.now jumped.old }
     ensures found { FindsLeastBrokenByDuties at.now
-        (jumps_to at.now.point.state
-        (unwrap_or (targets_of at.now.plan at.now.point.state at.now.point.addr to) [])) result }
+        (jumps_to at.now.point.state (possible_targets_at at.now to)) result }
     ensures jumped { RegisterJumpsHoldAt at.now jumped.new }
 {
     match to {
@@ -95,12 +88,9 @@ fn rule_broken_by_next(
     found: &Located,
     scratch: &mut PointScratch,
 ) -> Option<u8>
-    requires found { IsFaultlessShape at.now.bounds at.now.image at.now.plan
-        at.now.node.key at.now.point.addr at.now.point.state found.now }
+    requires found { IsFaultlessInstructionAt at.now found.now }
     requires results { IsCorrectCache at.now.bounds scratch.old.cache }
-    ensures found { FindsLeastBrokenByDuties at.now
-        (next_duty_of at.now.bounds at.now.image at.now.plan at.now.point.addr
-        at.now.point.state found.now.shape found.now.size) result }
+    ensures found { FindsLeastBrokenByDuties at.now (next_duties_at at.now found.now) result }
     ensures results { IsCorrectCache at.now.bounds scratch.new.cache }
     ensures registers { scratch.new.registers ≡ scratch.old.registers }
 {
@@ -120,8 +110,7 @@ fn rule_broken_by_branch_side(
     c: &mut Change,
 ) -> Option<u8>
     requires { IsShape shape }
-    ensures { FindsLeastBrokenByDuties at.now
-        (jump_on to (refine_of at.now.bounds at.now.plan shape at.now.point.state taken)) result }
+    ensures { FindsLeastBrokenByDuties at.now (branch_duties_at at.now to shape taken) result }
 {
     let _bounds = at.bounds;
     if may_skip_refinement(shape) {
@@ -143,8 +132,7 @@ fn rule_broken_by_refined_side(
     c: &mut Change,
 ) -> Option<u8>
     requires { IsShape shape }
-    ensures { FindsLeastBrokenByDuties at.now
-        (jump_on to (refine_of at.now.bounds at.now.plan shape at.now.point.state taken)) result }
+    ensures { FindsLeastBrokenByDuties at.now (branch_duties_at at.now to shape taken) result }
 {
     if !write_branch_change(at.bounds, at.plan, shape, at.point.state, taken, c) {
         return None;
@@ -159,8 +147,7 @@ fn rule_broken_by_ji(at: &PointCheck<'_, '_>, r: u8, jumped: &mut Option<u8>) ->
     requires register { r < 32 }
     requires jumped { RegisterJumpsHoldAt at.now jumped.old }
     ensures found { FindsLeastBrokenByDuties at.now
-        (jumps_to at.now.point.state
-        (unwrap_or (targets_of_value (reg_of at.now.plan at.now.point.state r)) [])) result }
+        (jumps_to at.now.point.state (possible_targets_at at.now (Reg r))) result }
     ensures jumped { RegisterJumpsHoldAt at.now jumped.new }
 {
     if *jumped == Some(r) {
@@ -184,12 +171,9 @@ fn rule_broken_by_changed_state(
     found: &Located,
     scratch: &mut PointScratch,
 ) -> Option<u8>
-    requires found { IsFaultlessShape at.now.bounds at.now.image at.now.plan
-        at.now.node.key at.now.point.addr at.now.point.state found.now }
+    requires found { IsFaultlessInstructionAt at.now found.now }
     requires results { IsCorrectCache at.now.bounds scratch.old.cache }
-    ensures found { FindsLeastBrokenByDuties at.now
-        (next_duty_of at.now.bounds at.now.image at.now.plan at.now.point.addr
-        at.now.point.state found.now.shape found.now.size) result }
+    ensures found { FindsLeastBrokenByDuties at.now (next_duties_at at.now found.now) result }
     ensures results { IsCorrectCache at.now.bounds scratch.new.cache }
     ensures registers { scratch.new.registers ≡ scratch.old.registers }
 {

@@ -11,11 +11,11 @@ use Rattle.depth_maker.specs.declared.covered.CoveredEntries.{CoveredEntries}
 use Rattle.depth_maker.specs.declared.last_call.LastCall.{LastCall}
 use Rattle.depth_cert.specs.Keys.{call_kind}
 
--- the key of the frame of the function at this address, as a noted call enters it
+-- the key of the frame of the function at this address, as a cached call enters it
 abbrev pub called_key : LastCall → ℕ → Key
 called_key h t = record { kind = call_kind; entry = t; prio = h.prio; is = h.is }
 
--- the entry points of the functions of this noted call cover the state with which they are called
+-- the entry points of the functions of this cached call cover the state with which they are called
 pub record AreCallsCovered (b : Limits) (a : Assignment) (h : LastCall) : Type 0 where
   pub well_formed : IsWellFormedKnown b h.entry
   pub each : (t : ℕ) → Contains h.targets.items t → AssignmentCovers a (point (called_key h t) t) h.entry
@@ -31,7 +31,7 @@ pub record IsCallOf (h : LastCall) (k : Key) (ts : List ℕ) (v : Known) : Type 
 abbrev pub AreLastCallsCovered : Limits → Assignment → List LastCall → Type 0
 AreLastCallsCovered b a calls = (h : LastCall) → Contains calls h → AreCallsCovered b a h
 
--- the entries that the maker's table notes as covered are so: those of the last interrupt contexts
+-- the entries that the maker's table caches as covered are so: those of the last interrupt contexts
 -- and of the last calls
 abbrev pub AreNotedEntriesCovered : Limits → PlanData → Assignment → CoveredEntries → Type 0
 AreNotedEntriesCovered b plan a covered = AreContextsCovered b plan a covered.interrupts × AreLastCallsCovered b a covered.calls.items

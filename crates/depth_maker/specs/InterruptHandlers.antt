@@ -19,27 +19,27 @@ use Rattle.frame_places.specs.Numbers.{AreFrameNumbers, frame_number_in}
 use Rattle.depth_maker.specs.declared.interrupt_handlers.Handler.{Handler}
 use Rattle.depth_maker.specs.declared.table.Table as made
 
--- the value of A10 at the entries of the interrupt handlers, from a context that the maker notes
+-- the value of A10 at the entries of the interrupt handlers, from a context that the maker caches
 abbrev pub context_stack : PlanData → InterruptContext → Val
 context_stack plan h = if h.is then h.sp else word_val plan.isp
 
 -- the interrupt handler of priority p has its entry covered in the assignment, as it is entered
--- from the noted context
+-- from the cached context
 pub record IsHandlerCovered (b : Limits) (plan : PlanData) (a : Assignment) (h : InterruptContext) (p : ℕ) : Type 0 where
   pub well_formed : IsWellFormedState b (state_with_stack (context_stack plan h) false p true)
   pub covers : AssignmentCovers a (point (irq_key plan p) (irq_key plan p).entry) (state (state_with_stack (context_stack plan h) false p true))
 
--- all interrupt handlers above the noted context's priority have their entries covered in the
+-- all interrupt handlers above the cached context's priority have their entries covered in the
 -- assignment
 pub record AreHandlersCovered (b : Limits) (plan : PlanData) (a : Assignment) (h : InterruptContext) : Type 0 where
   pub stack : IsInLattice b h.sp
   pub each : (p : ℕ) → Contains plan.irqs p → h.ccpn < p → IsHandlerCovered b plan a h p
 
--- the handlers' entries are covered in a noted interrupt context; nothing is said if none is noted
+-- the handlers' entries are covered in a cached interrupt context; nothing is said without one
 abbrev pub IsContextCovered : Limits → PlanData → Assignment → Option InterruptContext → Type 0
 IsContextCovered b plan a interrupts = IfSome interrupts (AreHandlersCovered b plan a)
 
--- the handlers' entries are covered in both interrupt contexts that the maker's table notes
+-- the handlers' entries are covered in both interrupt contexts that the maker's table caches
 abbrev pub AreContextsCovered : Limits → PlanData → Assignment → LastInterrupts → Type 0
 AreContextsCovered b plan a interrupts = IsContextCovered b plan a interrupts.last × IsContextCovered b plan a interrupts.before
 
@@ -50,17 +50,17 @@ pub record IsContextOf (h : InterruptContext) (inner : Bool) (s : State) : Type 
   pub sp : h.sp ≡ a10_of s
   pub ccpn : h.ccpn ≡ s.ccpn
 
--- the noted interrupt context differs from that of a frame with this state at most in the stack
+-- the cached interrupt context differs from that of a frame with this state at most in the stack
 -- pointer A10
 pub record IsEqualExceptStack (h : InterruptContext) (inner : Bool) (s : State) : Type 0 where
   pub same : h.is ≡ inner
   pub ccpn : h.ccpn ≡ s.ccpn
 
--- the noted interrupt context h with its A10 joined with the value v
+-- the cached interrupt context h with its A10 joined with the value v
 abbrev pub joined_context : Limits → InterruptContext → Val → InterruptContext
 joined_context b h v = record h { sp = join_of b h.sp v }
 
--- a frame with this state enters handlers only in states that the noted context covers: CCPN no
+-- a frame with this state enters handlers only in states that the cached context covers: CCPN no
 -- lower, A10 below on the interrupt stack
 pub record IsWithinContext (h : InterruptContext) (inner : Bool) (s : State) : Type 0 where
   pub same : h.is ≡ inner
@@ -88,7 +88,7 @@ pub record AreNumberedHandlers {S : Type 0} (plan : PlanData) (numbers : IndexMa
   pub all : AreFrameNumbers numbers frames frames
   pub taken : AreHandlersOfIrqs plan frames plan.irqs handlers
 
--- the last noted interrupt context covers the handlers' entries from each frame with this CCPN, on
+-- the last cached interrupt context covers the handlers' entries from each frame with this CCPN, on
 -- this stack
 pub record AreInterruptsCoveredForCcpn (t : made.Table) (is : Bool) (ccpn : ℕ) : Type 0 where
   pub context : InterruptContext

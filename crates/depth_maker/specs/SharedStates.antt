@@ -1,5 +1,5 @@
 -- Points whose instruction only passes the state on: a new successor shares it.
-use Rattle.std.specs.Prelude.{◌≡◌, ◌<◌, ℕ, Bool, true, false, ◌∷◌, Some, Result, Ok, Err}
+use Rattle.std.specs.Prelude.{◌≡◌, ◌<◌, ℕ, Bool, true, false, ◌∷◌, Some, IfSome, Result, Ok, Err}
 use Rattle.elf_image.specs.Images.{ImageData}
 use Rattle.tcd_plan.specs.PlanData.{PlanData}
 use Rattle.tc_isa.specs.declared.shapes.Shape.{Shape}
@@ -8,7 +8,7 @@ use Rattle.value_domain.specs.declared.states.State.{State}
 use Rattle.value_domain.specs.Limits.{Limits}
 use Rattle.depth_cert.specs.declared.keys.Key.{Key}
 use Rattle.depth_cert.specs.Known.{state}
-use Rattle.cfg_recover.specs.Code.{IsCode}
+use Rattle.cfg_recover.specs.Code.{IsCode, FindsShapeAndSize}
 use Rattle.cfg_recover.specs.LocalRules.{LocalRuleHolds}
 use Rattle.cfg_recover.specs.Duties.{duties_of, interrupt_duties_of, jump, owed}
 use Rattle.frame_places.specs.declared.places.Spot.TheVariants.{Point}
@@ -21,6 +21,15 @@ use Rattle.depth_maker.specs.VisitDuties.{AreDutiesJoined}
 use Rattle.depth_maker.specs.Visits.{VisitJoinsDutiesForInputs}
 use Rattle.depth_maker.specs.declared.inputs_and_limits.Site.{Site}
 use Rattle.depth_maker.specs.declared.table.Table as made
+
+-- what was located at the point is the shape and size of the instruction there, or none only if no
+-- instruction is there
+abbrev pub LocatesInstructionIfAny : Site → Type 0
+LocatesInstructionIfAny v = FindsShapeAndSize (v.ground.now).image.now (v.ground.now).plan.now v.addr v.located.now
+
+-- the shape that was located at the point, if any, has all its fields in bounds
+abbrev pub IsLocatedShapeInBounds : Site → Type 0
+IsLocatedShapeInBounds v = IfSome v.located.now (λ found. IsShape found.shape)
 
 -- the instruction at p breaks no rule and changes no state: a point there owes the same state at
 -- `next`, and interrupts

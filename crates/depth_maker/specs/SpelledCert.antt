@@ -129,10 +129,14 @@ pub record AppendsTableNodes (o : Ordered) (ks : List Key) (old new : List ℕ) 
 abbrev pub AreTableFrames : Ordered → List Key → Type 0
 AreTableFrames o ks = IsPermutation ((o.source.now).table.now).frames.items ks
 
+-- the address of the place of an entry of the maker's table: that of a point, 0 for an exit
+abbrev pub address_of_entry : Source → PointEntry → ℕ
+address_of_entry s x = spot_address (place_of_entry (s.table.now).places x)
+
 -- this is the entry of a point of frame k in the maker's table
 pub record IsTablePointEntry (s : Source) (k : Key) (x : PointEntry) : Type 0 where
   pub within : x.entry < length (keys (s.table.now).places)
-  pub is : place_of_entry (s.table.now).places x ≡ Point k (spot_address (place_of_entry (s.table.now).places x))
+  pub is : place_of_entry (s.table.now).places x ≡ Point k (address_of_entry s x)
 
 -- these are entries of points of frame k in the maker's table
 abbrev pub AreTablePointEntries : Source → Key → List PointEntry → Type 0

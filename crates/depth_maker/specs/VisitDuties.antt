@@ -1,5 +1,5 @@
 -- What the visited point owes, and what of it was joined.
-use Rattle.std.specs.Prelude.{◌≡◌, ℕ, Bool, false, Option, List, Contains, map}
+use Rattle.std.specs.Prelude.{◌≡◌, ℕ, Bool, false, Option, Some, List, ◌∷◌, Contains, map, unwrap_or, []}
 use Rattle.std.specs.List.{flat_map}
 use Rattle.elf_image.specs.Images.{ImageData}
 use Rattle.tcd_plan.specs.PlanData.{PlanData}
@@ -7,15 +7,17 @@ use Rattle.value_domain.specs.declared.states.State.{State}
 use Rattle.value_domain.specs.Limits.{Limits}
 use Rattle.depth_cert.specs.declared.keys.Key.{Key}
 use Rattle.tc_isa.specs.declared.shapes.Shape.{Shape}
+use Rattle.tc_isa.specs.declared.shapes.Target.{Target}
 use Rattle.vd_transfer.specs.Branches.{refine_of}
 use Rattle.vd_transfer.specs.EffectsOnStates.{transfer_of}
 use Rattle.cfg_recover.specs.declared.local_rules.Located.{Located}
 use Rattle.cfg_recover.specs.LocalFaults.{IsFaultlessShape, IsFaultless}
+use Rattle.cfg_recover.specs.LocalRules.{targets_of}
 use Rattle.cfg_recover.specs.Code.{IsCode}
 use Rattle.cfg_recover.specs.Entries.{call_key, call_entry, sys_key, sys_entry}
-use Rattle.cfg_recover.specs.Duties.{Duty, Owed, duties_of, entry_and_return, entry_duties_of, interrupt_duties_of, value_loaded_by_shape, misaligned_entry, misaligned_duties_of, next_duty_of, owed, successor_duties_of, enter, resume}
+use Rattle.cfg_recover.specs.Duties.{Duty, Owed, duties_of, entry_and_return, entry_duties_of, interrupt_duties_of, jump_on, value_loaded_by_shape, misaligned_entry, misaligned_duties_of, next_duty_of, owed, successor_duties_of, enter, resume}
 use Rattle.cfg_recover.specs.Assignments.{AssignmentCovers, point}
-use Rattle.depth_cert.specs.Known.{Known}
+use Rattle.depth_cert.specs.Known.{Known, state}
 use Rattle.depth_cert.specs.WellFormed.{IsWellFormedKnown}
 use Rattle.depth_maker.specs.TableView.{view_of_table}
 use Rattle.depth_maker.specs.TableInvariant.{IsDutySettled, TableInvariantHolds}
@@ -43,6 +45,10 @@ pub record VisitedPointOwes (b : Limits) (image : ImageData) (plan : PlanData) (
   pub listed : Contains (duties_of b image plan k p u shape size) owed
   pub is : owed.duty ≡ d
 
+-- the table still has the state with which the point is visited
+abbrev pub IsVisitStateCurrent : Visit → made.Table → Type 0
+IsVisitStateCurrent v t = (view_of_table t).cells (point v.key v.addr) ≡ Some (state v.state.now)
+
 -- the visited point has no fault of its own, and owes this duty
 abbrev pub OwesDuty : Visit → Duty → Type 0
 OwesDuty v d = VisitedPointOwes (v.ground.now).bounds.now (v.ground.now).image.now (v.ground.now).plan.now v.key v.addr v.state.now d
@@ -56,6 +62,16 @@ OwesDuties v ds = (d : Owed) → Contains ds d → VisitedPointOwes (v.ground.no
 abbrev pub JoinedBy : Visit → made.Table → made.Table → List Owed → Type 0
 JoinedBy v s t ds = AreDutiesJoined (v.ground.now).bounds.now (v.ground.now).image.now (v.ground.now).plan.now s t v.key v.addr v.state.now ds
 
+-- these duties of the visited point are covered in the table already, unless the point has new
+-- work, so joining them changes nothing
+abbrev pub AreDutiesCovered : Visit → made.Table → List Owed → Type 0
+AreDutiesCovered v t ds = JoinedBy v t t ds
+
+-- the visit takes the first table to the second by joining this one duty, unless the point has new
+-- work
+abbrev pub JoinsDuty : Visit → made.Table → made.Table → Owed → Type 0
+JoinsDuty v s t d = JoinedBy v s t (d ∷ [])
+
 -- the located instruction stands at the visited point, and breaks no rule with the point's state
 abbrev pub IsFaultlessInstruction : Visit → Located → Type 0
 IsFaultlessInstruction v found = IsFaultlessShape (v.ground.now).bounds.now (v.ground.now).image.now (v.ground.now).plan.now v.key v.addr v.state.now found
@@ -63,6 +79,11 @@ IsFaultlessInstruction v found = IsFaultlessShape (v.ground.now).bounds.now (v.g
 -- the state that the visited point owes on one side of its branch, if that side is possible
 abbrev pub side_state : Visit → Shape → Bool → Option State
 side_state v shape taken = refine_of (v.ground.now).bounds.now (v.ground.now).plan.now shape v.state.now taken
+
+-- the visited branch's duty on one side: to jump to q with the state refined for that side, if the
+-- side is possible
+abbrev pub branch_duties : Visit → ℕ → Shape → Bool → List Owed
+branch_duties v q shape taken = jump_on q (side_state v shape taken)
 
 -- the visited point's state after an instruction of this shape
 abbrev pub state_after_step : Visit → Shape → State
@@ -76,6 +97,11 @@ next_duties v found = next_duty_of (v.ground.now).bounds.now (v.ground.now).imag
 -- the visited point's duties to go on in its frame, at each successor of its instruction
 abbrev pub successor_duties : Visit → Located → List Owed
 successor_duties v found = successor_duties_of (v.ground.now).bounds.now (v.ground.now).image.now (v.ground.now).plan.now v.addr v.state.now found.shape found.size
+
+-- the addresses to which the visited point may jump or call by this target; none if they are
+-- unknown
+abbrev pub possible_targets : Visit → Target → List ℕ
+possible_targets v to = unwrap_or (targets_of (v.ground.now).plan.now v.state.now v.addr to) []
 
 -- the visited point's duties by a call: to enter each function that the call may name, and to go on
 -- at `back` after each return

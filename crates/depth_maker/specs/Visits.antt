@@ -26,6 +26,10 @@ use Rattle.depth_maker.specs.declared.table.Table as made
 use Rattle.depth_maker.specs.Answers.{RefusalIsRight}
 use Rattle.depth_maker.specs.VisitDuties.{AllDutiesSettled}
 
+-- the place x is the visited one, by the number that the maker's table has of that place
+abbrev pub IsVisitedPlace : made.Table → Spot → Type 0
+IsVisitedPlace t x = PlaceHasNumber t.places t.near x
+
 -- a visit of x is under way, and no other place is being visited
 pub record IsVisitOpenAt (t : made.Table) (x : Spot) : Type 0 where
   pub at : mark_of_place t.places x ≡ Some Open

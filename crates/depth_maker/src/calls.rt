@@ -1,11 +1,10 @@
 // Joins the entries of the functions that the visited point calls, and the states after them.
-ghost use Rattle.std.specs.Prelude.{◌≡◌, OnOk, IfErr, IfOk, IsTrue, [], unwrap_or};
+ghost use Rattle.std.specs.Prelude.{◌≡◌, OnOk, IfErr, IfOk, IsTrue};
 ghost use Rattle.tc_isa.specs.InBounds.{IsTarget};
 ghost use Rattle.vd_transfer.specs.Changes.{state_after};
-ghost use Rattle.cfg_recover.specs.Entries as entries;
-ghost use Rattle.cfg_recover.specs.LocalRules.{targets_of};
+ghost use Rattle.cfg_recover.specs.Entries.{call_entry};
 ghost use Rattle.depth_maker.specs.Answers.{RefusalIsRight};
-ghost use Rattle.depth_maker.specs.VisitDuties.{enter_duties, resume_duties, OwesDuties, JoinedBy, KeepsDutiesJoined, IsCoveredEntry, call_duties};
+ghost use Rattle.depth_maker.specs.VisitDuties.{enter_duties, resume_duties, AreDutiesCovered, OwesDuties, JoinedBy, KeepsDutiesJoined, IsCoveredEntry, call_duties, possible_targets};
 ghost use Rattle.depth_maker.specs.Visits.{VisitInvariantHolds};
 
 use crate::inputs_and_limits::Visit;
@@ -34,10 +33,9 @@ pub(crate) fn join_call_duties(
 ) -> Result<(), Refusal>
     requires visited { VisitInvariantHolds v.now table.old }
     requires target { IsTarget to }
-    requires owes { OwesDuties v.now (call_duties v.now back
-        (unwrap_or (targets_of v.now.ground.now.plan.now v.now.state.now v.now.addr to) [])) }
-    ensures ok { OnOk result (JoinedBy v.now table.old table.new (call_duties v.now back
-        (unwrap_or (targets_of v.now.ground.now.plan.now v.now.state.now v.now.addr to) []))) }
+    requires owes { OwesDuties v.now (call_duties v.now back (possible_targets v.now to)) }
+    ensures ok { OnOk result (JoinedBy v.now table.old table.new
+        (call_duties v.now back (possible_targets v.now to))) }
     ensures err { IfErr result (RefusalIsRight v.now.ground.now) }
 {
     write_call_entry_change(c, v.state);
@@ -54,7 +52,7 @@ pub(crate) fn join_call_duties(
 /// function's entry.
 #[inline(always)]
 fn write_call_entry_change(c: &mut Change, s: &State)
-    ensures { state_after s.now c.new ≡ entries.call_entry s.now }
+    ensures { state_after s.now c.new ≡ call_entry s.now }
 {
     c.set_to_identity(s);
     c.lower = false;
@@ -74,11 +72,10 @@ fn join_indirect_calls(
 ) -> Result<(), Refusal>
     requires visited { VisitInvariantHolds v.now table.old }
     requires target { IsTarget to }
-    requires entry { state_after v.now.state.now entry.now ≡ entries.call_entry v.now.state.now }
-    requires owes { OwesDuties v.now (call_duties v.now back
-        (unwrap_or (targets_of v.now.ground.now.plan.now v.now.state.now v.now.addr to) [])) }
-    ensures ok { OnOk result (JoinedBy v.now table.old table.new (call_duties v.now back
-        (unwrap_or (targets_of v.now.ground.now.plan.now v.now.state.now v.now.addr to) []))) }
+    requires entry { state_after v.now.state.now entry.now ≡ call_entry v.now.state.now }
+    requires owes { OwesDuties v.now (call_duties v.now back (possible_targets v.now to)) }
+    ensures ok { OnOk result (JoinedBy v.now table.old table.new
+        (call_duties v.now back (possible_targets v.now to))) }
     ensures err { IfErr result (RefusalIsRight v.now.ground.now) }
 {
     let targets = targets(v.ground.plan, v.state, v.addr, to);
@@ -96,7 +93,7 @@ fn join_indirect_call_entries(
     targets: &ArrayVec<u32, 128>,
 ) -> Result<(), Refusal>
     requires visited { VisitInvariantHolds v.now table.old }
-    requires entry { state_after v.now.state.now entry.now ≡ entries.call_entry v.now.state.now }
+    requires entry { state_after v.now.state.now entry.now ≡ call_entry v.now.state.now }
     requires owes { OwesDuties v.now (enter_duties v.now targets.now.items) }
     ensures ok { OnOk result
         (JoinedBy v.now table.old table.new (enter_duties v.now targets.now.items)) }
@@ -136,9 +133,9 @@ fn join_call_returns(
 /// visited point's state after the change `entry`.
 fn are_calls_covered(table: &Table, v: &Visit, entry: &Change, targets: &ArrayVec<u32, 128>) -> bool
     requires visited { VisitInvariantHolds v.now table.now }
-    requires entry { state_after v.now.state.now entry.now ≡ entries.call_entry v.now.state.now }
+    requires entry { state_after v.now.state.now entry.now ≡ call_entry v.now.state.now }
     ensures { IsTrue result
-        → JoinedBy v.now table.now table.now (enter_duties v.now targets.now.items) }
+        → AreDutiesCovered v.now table.now (enter_duties v.now targets.now.items) }
 {
     match find_call(table.covered.calls.as_slice(), &v.key, targets) {
         Some(last) => {
@@ -160,7 +157,7 @@ fn note_covered_call(
     targets: &ArrayVec<u32, 128>,
 ) -> Result<(), Refusal>
     requires visited { VisitInvariantHolds v.now table.old }
-    requires entry { state_after v.now.state.now entry.now ≡ entries.call_entry v.now.state.now }
+    requires entry { state_after v.now.state.now entry.now ≡ call_entry v.now.state.now }
     ensures ok { OnOk result
         (KeepsDutiesJoined v.now table.old table.new (enter_duties v.now targets.now.items)) }
     ensures err { IfErr result (RefusalIsRight v.now.ground.now) }
@@ -188,7 +185,7 @@ fn covered_entry(
     targets: &ArrayVec<u32, 128>,
 ) -> Result<SmallKnown, AllocError>
     requires visited { VisitInvariantHolds v.now table.now }
-    requires entry { state_after v.now.state.now entry.now ≡ entries.call_entry v.now.state.now }
+    requires entry { state_after v.now.state.now entry.now ≡ call_entry v.now.state.now }
     ensures { IfOk result (IsCoveredEntry v.now table.now targets.now.items) }
 {
     let b = v.ground.bounds;

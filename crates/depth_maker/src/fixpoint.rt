@@ -1,7 +1,7 @@
 // The worklist algorithm: visits all points with work.
 ghost use Rattle.std.specs.Prelude.{◌≡◌, IfOk, IfErr, None};
 ghost use Rattle.indexmap.specs.IndexMap.{get};
-ghost use Rattle.frame_places.specs.declared.places.Spot as spots;
+ghost use Rattle.frame_places.specs.declared.places.Spot.{Spot};
 ghost use Rattle.frame_places.specs.Spots.{spot_eq};
 ghost use Rattle.cfg_recover.specs.SetOperations.{IsCorrectCache};
 ghost use Rattle.depth_maker.specs.TableInvariant.{TableInvariantHoldsForInputs, IsLeastClosedTable};
@@ -110,7 +110,7 @@ fn visit_listed_places(
 /// Returns an empty map from exits to the points that read them: at the start of the fixpoint no
 /// point reads an exit.
 fn empty_exit_readers(alloc: Global) -> IndexMap<Spot, Vec<Spot>>
-    ensures { (z : spots.Spot) → get spot_eq result z ≡ None }
+    ensures { (z : Spot) → get spot_eq result z ≡ None }
 {
     IndexMap::new(alloc)
 }

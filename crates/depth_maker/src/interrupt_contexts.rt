@@ -6,10 +6,9 @@ ghost use Rattle.depth_maker.specs.InterruptHandlers.{IsEqualExceptStack, IsCont
 ghost use Rattle.vd_transfer.specs.Registers.{a10_of};
 ghost use Rattle.depth_cert.specs.WellFormed.{IsWellFormedState};
 ghost use Rattle.frame_places.specs.declared.places.Spot.TheVariants.{Point};
-ghost use Rattle.frame_places.specs.Numbers.{PlaceHasNumber};
 ghost use Rattle.depth_maker.specs.TableInvariant.{TableInvariantHoldsForInputs};
-ghost use Rattle.depth_maker.specs.VisitDuties.{OwesDuties, JoinedBy, KeepsDutiesJoined, interrupt_duties};
-ghost use Rattle.depth_maker.specs.Visits.{VisitInvariantHolds};
+ghost use Rattle.depth_maker.specs.VisitDuties.{AreDutiesCovered, OwesDuties, KeepsDutiesJoined, interrupt_duties};
+ghost use Rattle.depth_maker.specs.Visits.{IsVisitedPlace, VisitInvariantHolds};
 ghost use Rattle.depth_cert.specs.Known.{state};
 
 use crate::inputs_and_limits::Visit;
@@ -102,7 +101,7 @@ impl InterruptContext {
 /// no handler in a state that isn't covered.
 pub(crate) fn are_interrupts_covered(table: &Table, v: &Visit) -> bool
     requires { VisitInvariantHolds v.now table.now }
-    ensures { IsTrue result → JoinedBy v.now table.now table.now (interrupt_duties v.now) }
+    ensures { IsTrue result → AreDutiesCovered v.now table.now (interrupt_duties v.now) }
 {
     if let Some(last) = &table.covered.interrupts.last {
         if last.covers(v.key.is, v.state) {
@@ -133,7 +132,7 @@ pub(crate) fn are_interrupts_covered_for_ccpn(table: &Table, is: bool, ccpn: u8)
 #[inline(never)]
 pub(crate) fn note_covered_interrupts(table: &mut Table, v: &Visit)
     requires fine { TableInvariantHoldsForInputs v.now.ground.now table.old }
-    requires near { PlaceHasNumber table.old.places table.old.near (Point v.now.key v.now.addr) }
+    requires near { IsVisitedPlace table.old (Point v.now.key v.now.addr) }
     requires well_formed { IsWellFormedState v.now.ground.now.bounds.now v.now.state.now }
     requires on { IsTrue v.now.state.now.ie }
     requires owes { OwesDuties v.now (interrupt_duties v.now) }

@@ -1,7 +1,7 @@
 // The frames of the handlers of interrupts, by their numbers.
 ghost use Rattle.std.specs.Prelude.{◌≡◌, ◌≤◌, ◌<◌, ◌+◌, ◌++◌, ◌∷◌, [], List, IfOk, OnOk, length, vec_len, vec_capacity};
-ghost use Rattle.depth_cert.specs.declared.keys.Key as keys;
-ghost use Rattle.frame_places.specs.Numbers.{AreFrameNumbers};
+ghost use Rattle.depth_cert.specs.declared.keys.Key.{Key};
+ghost use Rattle.frame_places.specs.Numbers.{AreNumbersOfFrames};
 ghost use Rattle.depth_maker.specs.InterruptHandlers.{AreHandlersOfIrqs, handler_nodes_above, taken_handlers};
 
 use cfg_recover::irq_key;
@@ -25,8 +25,8 @@ pub(crate) fn all_handlers(
     plan: &Plan,
     numbers: &IndexMap<Key, usize>,
 ) -> Result<Vec<Handler>, AllocError>
-    ensures { IfOk result (λ handlers. (frames : List keys.Key)
-        → AreFrameNumbers numbers.now frames frames
+    ensures { IfOk result (λ handlers. (frames : List Key)
+        → AreNumbersOfFrames numbers.now frames
         → AreHandlersOfIrqs plan.now frames plan.now.irqs handlers.items) }
 {
     let irqs = plan.irqs.as_slice();

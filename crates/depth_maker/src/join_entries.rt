@@ -2,14 +2,13 @@
 ghost use Rattle.std.specs.Prelude.{◌≡◌, OnOk, IfErr, [], ◌∷◌, ℕ};
 ghost use Rattle.tc_isa.specs.InBounds.{IsShape};
 ghost use Rattle.vd_transfer.specs.Changes.{state_after};
-ghost use Rattle.cfg_recover.specs.Entries.{possible_irqs_of};
+ghost use Rattle.cfg_recover.specs.Entries.{call_entry, possible_irqs_of};
 ghost use Rattle.cfg_recover.specs.FlowDuties.{duties_of_irqs};
 ghost use Rattle.frame_places.specs.declared.places.Spot.TheVariants.{Point, Exit};
 ghost use Rattle.depth_maker.specs.Answers.{RefusalIsRight};
-ghost use Rattle.depth_maker.specs.VisitDuties.{OwesDuties, JoinedBy, IsFaultlessInstruction, access_duties, entry_duties, interrupt_duties, misaligned_duty, system_call_duties, enter_duties, OwesDuty};
+ghost use Rattle.depth_maker.specs.VisitDuties.{OwesDuties, JoinedBy, JoinsDuty, IsFaultlessInstruction, access_duties, entry_duties, interrupt_duties, misaligned_duty, system_call_duties, enter_duties, OwesDuty};
 ghost use Rattle.depth_maker.specs.Visits.{VisitInvariantHolds};
-ghost use Rattle.cfg_recover.specs.Entries as entries;
-ghost use Rattle.cfg_recover.specs.Duties.{owed, enter, resume, entry_and_return};
+ghost use Rattle.cfg_recover.specs.Duties.{enter, enter_duty, entry_and_return, resume, resume_duty};
 ghost use Rattle.depth_cert.specs.Known.{state};
 
 use crate::calls::join_call_duties;
@@ -106,7 +105,7 @@ pub(crate) fn join_call_entries(
     targets: &[u32],
 ) -> Result<(), Refusal>
     requires visited { VisitInvariantHolds v.now table.old }
-    requires entry { state_after v.now.state.now entry.now ≡ entries.call_entry v.now.state.now }
+    requires entry { state_after v.now.state.now entry.now ≡ call_entry v.now.state.now }
     requires owes { OwesDuties v.now (enter_duties v.now targets.now) }
     ensures ok { OnOk result (JoinedBy v.now table.old table.new (enter_duties v.now targets.now)) }
     ensures err { IfErr result (RefusalIsRight v.now.ground.now) }
@@ -129,10 +128,8 @@ pub(crate) fn join_entry(
 ) -> Result<(), Refusal>
     requires visited { VisitInvariantHolds v.now table.old }
     requires owes { OwesDuty v.now (enter key (state_after v.now.state.now c.now)) }
-    ensures ok { (rule : ℕ)
-        → OnOk result
-        (JoinedBy v.now table.old table.new
-        (owed rule (enter key (state_after v.now.state.now c.now)) ∷ [])) }
+    ensures ok { (rule : ℕ) → OnOk result (JoinsDuty v.now table.old table.new
+        (enter_duty rule key (state_after v.now.state.now c.now))) }
     ensures err { IfErr result (RefusalIsRight v.now.ground.now) }
 {
     if is_place_queued(&table.places, table.near) {
@@ -153,7 +150,7 @@ pub(crate) fn register_and_join_return(
 ) -> Result<(), Refusal>
     requires visited { VisitInvariantHolds v.now table.old }
     requires owes { OwesDuty v.now (resume key back) }
-    ensures ok { OnOk result (JoinedBy v.now table.old table.new (owed 4 (resume key back) ∷ [])) }
+    ensures ok { OnOk result (JoinsDuty v.now table.old table.new (resume_duty key back)) }
     ensures err { IfErr result (RefusalIsRight v.now.ground.now) }
 {
     register_reader(
@@ -178,9 +175,7 @@ pub(crate) fn join_entry_and_return(
     requires visited { VisitInvariantHolds v.now table.old }
     requires enters { OwesDuty v.now (enter key (state_after v.now.state.now c.now)) }
     requires resumes { OwesDuty v.now (resume key back) }
-    ensures ok { (rule : ℕ)
-        → OnOk result
-        (JoinedBy v.now table.old table.new
+    ensures ok { (rule : ℕ) → OnOk result (JoinedBy v.now table.old table.new
         (entry_and_return rule key (state_after v.now.state.now c.now) back)) }
     ensures err { IfErr result (RefusalIsRight v.now.ground.now) }
 {
@@ -215,7 +210,7 @@ fn join_system_call_duties(
 fn join_misaligned_entry(alloc: Global, table: &mut Table, v: &Visit) -> Result<(), Refusal>
     requires visited { VisitInvariantHolds v.now table.old }
     requires owes { OwesDuties v.now (misaligned_duty v.now ∷ []) }
-    ensures ok { OnOk result (JoinedBy v.now table.old table.new (misaligned_duty v.now ∷ [])) }
+    ensures ok { OnOk result (JoinsDuty v.now table.old table.new (misaligned_duty v.now)) }
     ensures err { IfErr result (RefusalIsRight v.now.ground.now) }
 {
     let g = v.ground;

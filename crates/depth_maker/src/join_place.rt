@@ -1,8 +1,6 @@
 // Joins what flows from the visited point into a place.
-ghost use Rattle.std.specs.Prelude.{◌≡◌, IfErr, None, OnOk, Some, map};
+ghost use Rattle.std.specs.Prelude.{◌≡◌, IfErr, None, OnOk, map};
 ghost use Rattle.indexmap.specs.IndexMap.{get};
-ghost use Rattle.cfg_recover.specs.Assignments.{point};
-ghost use Rattle.depth_cert.specs.Known.{state};
 ghost use Rattle.small_states.specs.Incoming.{incoming_known, sender_state};
 ghost use Rattle.frame_places.specs.declared.places.Spot.TheVariants.{Point};
 ghost use Rattle.frame_places.specs.Marks.{AreQueuedPlacesListed, AreKnownPlaces, ForgetsReaders, IsAmongReaders, RequeuesPlaces};
@@ -10,10 +8,11 @@ ghost use Rattle.frame_places.specs.Work.{all_work};
 ghost use Rattle.frame_places.specs.Numbers.{PlaceHasNumber};
 ghost use Rattle.frame_places.specs.Spots.{spot_eq};
 ghost use Rattle.depth_maker.specs.TableInvariant.{OnlyExitsHaveReaders, TableInvariantHoldsForInputs};
-ghost use Rattle.depth_maker.specs.TableView.{view_of_table};
 ghost use Rattle.depth_maker.specs.AssignmentCounts.{AreWithinCertLimits};
 ghost use Rattle.depth_maker.specs.SpotsAsPlaces.{place_of_spot};
 ghost use Rattle.depth_maker.specs.Answers.{RefusalIsRight};
+ghost use Rattle.depth_maker.specs.VisitDuties.{IsVisitStateCurrent};
+ghost use Rattle.depth_maker.specs.Visits.{IsVisitedPlace};
 ghost use Rattle.depth_maker.specs.Joins.{AddsPlaceIfNew, FlowsInto, JoinsAtPlace, JoinsWithoutRequeuing};
 ghost use Rattle.depth_maker.specs.declared.inputs_and_limits.Ground.{Ground};
 
@@ -61,9 +60,8 @@ pub(crate) fn join_at_place(
     incoming: &Incoming,
 ) -> Result<(), Refusal>
     requires fine { TableInvariantHoldsForInputs v.now.ground.now table.old }
-    requires near { PlaceHasNumber table.old.places table.old.near (Point v.now.key v.now.addr) }
-    requires at { (view_of_table table.old).cells (point v.now.key v.now.addr)
-        ≡ Some (state v.now.state.now) }
+    requires near { IsVisitedPlace table.old (Point v.now.key v.now.addr) }
+    requires at { IsVisitStateCurrent v.now table.old }
     requires own { sender_state incoming.now ≡ v.now.state.now }
     requires incoming { FlowsInto v.now.ground.now table.old y.now (incoming_known incoming.now) }
     ensures ok { OnOk result
@@ -95,9 +93,8 @@ fn join_without_requeuing(
     incoming: &Incoming,
 ) -> Result<bool, Refusal>
     requires fine { TableInvariantHoldsForInputs v.now.ground.now table.old }
-    requires near { PlaceHasNumber table.old.places table.old.near (Point v.now.key v.now.addr) }
-    requires at { (view_of_table table.old).cells (point v.now.key v.now.addr)
-        ≡ Some (state v.now.state.now) }
+    requires near { IsVisitedPlace table.old (Point v.now.key v.now.addr) }
+    requires at { IsVisitStateCurrent v.now table.old }
     requires own { sender_state incoming.now ≡ v.now.state.now }
     requires incoming { FlowsInto v.now.ground.now table.old y.now (incoming_known incoming.now) }
     ensures { JoinsWithoutRequeuing v.now.ground.now table.old table.new y.now
@@ -153,9 +150,8 @@ fn join_known_place(
 ) -> Result<bool, Refusal>
     requires fine { TableInvariantHoldsForInputs v.now.ground.now table.old }
     requires there { PlaceHasNumber table.old.places number y.now }
-    requires near { PlaceHasNumber table.old.places table.old.near (Point v.now.key v.now.addr) }
-    requires at { (view_of_table table.old).cells (point v.now.key v.now.addr)
-        ≡ Some (state v.now.state.now) }
+    requires near { IsVisitedPlace table.old (Point v.now.key v.now.addr) }
+    requires at { IsVisitStateCurrent v.now table.old }
     requires own { sender_state incoming.now ≡ v.now.state.now }
     requires incoming { FlowsInto v.now.ground.now table.old y.now (incoming_known incoming.now) }
     ensures { JoinsWithoutRequeuing v.now.ground.now table.old table.new y.now

@@ -1,15 +1,11 @@
 // Joins the successors of the visited point in its frame.
-ghost use Rattle.std.specs.Prelude.{◌≡◌, OnOk, IfErr, Some, [], ◌++◌, unwrap_or, false, true, ℕ, ◌∷◌};
+ghost use Rattle.std.specs.Prelude.{OnOk, IfErr, ◌++◌, false, true, ℕ};
 ghost use Rattle.tc_isa.specs.InBounds.{IsShape, IsTarget};
 ghost use Rattle.vd_transfer.specs.Changes.{state_after};
-ghost use Rattle.cfg_recover.specs.Assignments.{point};
-ghost use Rattle.cfg_recover.specs.LocalRules.{targets_of};
 ghost use Rattle.cfg_recover.specs.SetOperations.{IsCorrectCache};
-ghost use Rattle.cfg_recover.specs.Duties.{jumps_to, jump_on, owed, jump, resume, leave, exit_duties_of};
-ghost use Rattle.depth_cert.specs.Known.{state};
-ghost use Rattle.depth_maker.specs.TableView.{view_of_table};
+ghost use Rattle.cfg_recover.specs.Duties.{exit_duties_of, jump, jump_duty, jumps_to, leave, leave_duty, resume, resume_duty};
 ghost use Rattle.depth_maker.specs.Answers.{RefusalIsRight};
-ghost use Rattle.depth_maker.specs.VisitDuties.{OwesDuties, JoinedBy, IsFaultlessInstruction, next_duties, side_state, successor_duties, OwesDuty};
+ghost use Rattle.depth_maker.specs.VisitDuties.{OwesDuties, JoinedBy, JoinsDuty, IsFaultlessInstruction, IsVisitStateCurrent, branch_duties, next_duties, possible_targets, successor_duties, OwesDuty};
 ghost use Rattle.depth_maker.specs.Visits.{VisitInvariantHolds};
 ghost use Rattle.indexmap.specs.IndexMap.{get};
 ghost use Rattle.depth_cert.specs.Exits.{exit_of_state};
@@ -48,8 +44,7 @@ pub(crate) fn join_successors(
     cache: &mut OperationCache,
 ) -> Result<(), Refusal>
     requires visited { VisitInvariantHolds v.now table.old }
-    requires at { (view_of_table table.old).cells (point v.now.key v.now.addr)
-        ≡ Some (state v.now.state.now) }
+    requires at { IsVisitStateCurrent v.now table.old }
     requires found { IsFaultlessInstruction v.now found.now }
     requires owes { OwesDuties v.now (successor_duties v.now found.now) }
     requires results { IsCorrectCache v.now.ground.now.bounds.now cache.old }
@@ -91,9 +86,8 @@ pub(crate) fn join_successor(
 ) -> Result<(), Refusal>
     requires visited { VisitInvariantHolds v.now table.old }
     requires owes { OwesDuty v.now (jump to (state_after v.now.state.now c.now)) }
-    ensures ok { OnOk result
-        (JoinedBy v.now table.old table.new
-        (owed 4 (jump to (state_after v.now.state.now c.now)) ∷ [])) }
+    ensures ok { OnOk result (JoinsDuty v.now table.old table.new
+        (jump_duty to (state_after v.now.state.now c.now))) }
     ensures err { IfErr result (RefusalIsRight v.now.ground.now) }
 {
     if is_place_queued(&table.places, table.near) {
@@ -112,12 +106,10 @@ pub(crate) fn join_first_successor(
     c: &Change,
 ) -> Result<(), Refusal>
     requires visited { VisitInvariantHolds v.now table.old }
-    requires at { (view_of_table table.old).cells (point v.now.key v.now.addr)
-        ≡ Some (state v.now.state.now) }
+    requires at { IsVisitStateCurrent v.now table.old }
     requires owes { OwesDuty v.now (jump to (state_after v.now.state.now c.now)) }
-    ensures ok { OnOk result
-        (JoinedBy v.now table.old table.new
-        (owed 4 (jump to (state_after v.now.state.now c.now)) ∷ [])) }
+    ensures ok { OnOk result (JoinsDuty v.now table.old table.new
+        (jump_duty to (state_after v.now.state.now c.now))) }
     ensures err { IfErr result (RefusalIsRight v.now.ground.now) }
 {
     let incoming = Incoming::Changed(v.state, c);
@@ -129,8 +121,8 @@ pub(crate) fn join_first_successor(
 pub(crate) fn join_exit(alloc: Global, table: &mut Table, v: &Visit) -> Result<(), Refusal>
     requires visited { VisitInvariantHolds v.now table.old }
     requires owes { OwesDuty v.now (leave (exit_of_state v.now.state.now)) }
-    ensures ok { (rule : ℕ) → OnOk result (JoinedBy v.now table.old table.new
-        (owed rule (leave (exit_of_state v.now.state.now)) ∷ [])) }
+    ensures ok { (rule : ℕ) → OnOk result (JoinsDuty v.now table.old table.new
+        (leave_duty rule (exit_of_state v.now.state.now))) }
     ensures err { IfErr result (RefusalIsRight v.now.ground.now) }
 {
     if is_place_queued(&table.places, table.near) {
@@ -153,7 +145,7 @@ pub(crate) fn join_return(
     requires registered { IsAmongReaders (get spot_eq table.old.readers (Exit key))
         (Point v.now.key v.now.addr) }
     requires owes { OwesDuty v.now (resume key back) }
-    ensures ok { OnOk result (JoinedBy v.now table.old table.new (owed 4 (resume key back) ∷ [])) }
+    ensures ok { OnOk result (JoinsDuty v.now table.old table.new (resume_duty key back)) }
     ensures err { IfErr result (RefusalIsRight v.now.ground.now) }
 {
     if is_place_queued(&table.places, table.near) {
@@ -209,13 +201,11 @@ fn join_branch_sides(
     requires visited { VisitInvariantHolds v.now table.old }
     requires next { IsShape next.shape }
     requires taken { IsShape taken.shape }
-    requires owes { OwesDuties v.now
-        (jump_on next.to (side_state v.now next.shape next.taken)
-        ++ jump_on taken.to (side_state v.now taken.shape taken.taken)) }
-    ensures ok { OnOk result
-        (JoinedBy v.now table.old table.new
-        (jump_on next.to (side_state v.now next.shape next.taken)
-        ++ jump_on taken.to (side_state v.now taken.shape taken.taken))) }
+    requires owes { OwesDuties v.now (branch_duties v.now next.to next.shape next.taken
+        ++ branch_duties v.now taken.to taken.shape taken.taken) }
+    ensures ok { OnOk result (JoinedBy v.now table.old table.new
+        (branch_duties v.now next.to next.shape next.taken
+        ++ branch_duties v.now taken.to taken.shape taken.taken)) }
     ensures err { IfErr result (RefusalIsRight v.now.ground.now) }
 {
     join_branch_side(alloc, table, v, next, c)?;
@@ -232,15 +222,11 @@ fn join_jump_targets(
     c: &mut Change,
 ) -> Result<(), Refusal>
     requires visited { VisitInvariantHolds v.now table.old }
-    requires at { (view_of_table table.old).cells (point v.now.key v.now.addr)
-        ≡ Some (state v.now.state.now) }
+    requires at { IsVisitStateCurrent v.now table.old }
     requires target { IsTarget to }
-    requires owes { OwesDuties v.now
-        (jumps_to v.now.state.now
-        (unwrap_or (targets_of v.now.ground.now.plan.now v.now.state.now v.now.addr to) [])) }
+    requires owes { OwesDuties v.now (jumps_to v.now.state.now (possible_targets v.now to)) }
     ensures ok { OnOk result (JoinedBy v.now table.old table.new
-        (jumps_to v.now.state.now
-        (unwrap_or (targets_of v.now.ground.now.plan.now v.now.state.now v.now.addr to) []))) }
+        (jumps_to v.now.state.now (possible_targets v.now to))) }
     ensures err { IfErr result (RefusalIsRight v.now.ground.now) }
 {
     match direct_target(v.addr, to) {
@@ -263,8 +249,7 @@ fn join_next_instruction(
     cache: &mut OperationCache,
 ) -> Result<(), Refusal>
     requires visited { VisitInvariantHolds v.now table.old }
-    requires at { (view_of_table table.old).cells (point v.now.key v.now.addr)
-        ≡ Some (state v.now.state.now) }
+    requires at { IsVisitStateCurrent v.now table.old }
     requires found { IsFaultlessInstruction v.now found.now }
     requires owes { OwesDuties v.now (next_duties v.now found.now) }
     requires results { IsCorrectCache v.now.ground.now.bounds.now cache.old }
@@ -287,10 +272,9 @@ fn join_branch_side(
 ) -> Result<(), Refusal>
     requires visited { VisitInvariantHolds v.now table.old }
     requires shape { IsShape side.shape }
-    requires owes { OwesDuties v.now (jump_on side.to (side_state v.now side.shape side.taken)) }
-    ensures ok { OnOk result
-        (JoinedBy v.now table.old table.new
-        (jump_on side.to (side_state v.now side.shape side.taken))) }
+    requires owes { OwesDuties v.now (branch_duties v.now side.to side.shape side.taken) }
+    ensures ok { OnOk result (JoinedBy v.now table.old table.new
+        (branch_duties v.now side.to side.shape side.taken)) }
     ensures err { IfErr result (RefusalIsRight v.now.ground.now) }
 {
     let g = v.ground;
@@ -311,12 +295,9 @@ fn join_indirect_jump_targets(
 ) -> Result<(), Refusal>
     requires visited { VisitInvariantHolds v.now table.old }
     requires target { IsTarget to }
-    requires owes { OwesDuties v.now
-        (jumps_to v.now.state.now
-        (unwrap_or (targets_of v.now.ground.now.plan.now v.now.state.now v.now.addr to) [])) }
+    requires owes { OwesDuties v.now (jumps_to v.now.state.now (possible_targets v.now to)) }
     ensures ok { OnOk result (JoinedBy v.now table.old table.new
-        (jumps_to v.now.state.now
-        (unwrap_or (targets_of v.now.ground.now.plan.now v.now.state.now v.now.addr to) []))) }
+        (jumps_to v.now.state.now (possible_targets v.now to))) }
     ensures err { IfErr result (RefusalIsRight v.now.ground.now) }
 {
     let targets = targets(v.ground.plan, v.state, v.addr, to);

@@ -1,7 +1,7 @@
 // The least needs of the frames of a closed table.
-ghost use Rattle.std.specs.Prelude.{◌≡◌, ◌≤◌, ◌-◌, IfOk, None};
+ghost use Rattle.std.specs.Prelude.{◌≡◌, ◌≤◌, ◌-◌, IfOk};
 ghost use Rattle.depth_maker.specs.Rows.{IsRowSource, RowsOn};
-ghost use Rattle.depth_maker.specs.Needs.{IsLeastNeedsOrRecursion, AreLeastNeedsOrTooMany};
+ghost use Rattle.depth_maker.specs.Needs.{IsLeastNeedsOrRecursion, StartNeedsTooManyAreas};
 ghost use Rattle.depth_maker.specs.Answers.{MakeErrHolds};
 ghost use Rattle.depth_maker.specs.Recursing.{IsFirstRecursion};
 
@@ -58,7 +58,7 @@ pub(crate) fn least_frame_needs(
 /// start's entry if there is none.
 pub(crate) fn need_refusal(source: &Source, place: Option<(Key, u32)>) -> MakeErr
     requires source { IsRowSource source.now }
-    requires none { AreLeastNeedsOrTooMany source.now None }
+    requires none { StartNeedsTooManyAreas source.now }
     requires place { IsFirstRecursion source.now place }
     ensures { MakeErrHolds source.now.ground.now result }
 {

@@ -1,12 +1,10 @@
 // Fast path: points whose instruction only passes the state on. Their successor shares it if it is
 // new, and a nop takes some 400 instructions less of `cert`.
 ghost use Rattle.std.specs.Prelude.{IsTrue, IfSome};
-ghost use Rattle.cfg_recover.specs.Code.{FindsShapeAndSize};
 ghost use Rattle.frame_places.specs.declared.places.Spot.TheVariants.{Point};
-ghost use Rattle.frame_places.specs.Numbers.{PlaceHasNumber};
-ghost use Rattle.depth_maker.specs.SharedStates.{MayShareState, JoinsBySharing, PassesStateTo};
+ghost use Rattle.depth_maker.specs.SharedStates.{IsLocatedShapeInBounds, LocatesInstructionIfAny, MayShareState, JoinsBySharing, PassesStateTo};
 ghost use Rattle.depth_maker.specs.TableInvariant.{TableInvariantHoldsForInputs};
-ghost use Rattle.tc_isa.specs.InBounds.{IsShape};
+ghost use Rattle.depth_maker.specs.Visits.{IsVisitedPlace};
 
 use crate::inputs_and_limits::Site;
 use crate::interrupt_contexts::are_interrupts_covered_for_ccpn;
@@ -23,11 +21,9 @@ use tc_isa::Shape;
 /// successors are mostly known.
 pub(crate) fn join_shared(alloc: Global, table: &mut Table, site: &Site) -> Result<bool, Refusal>
     requires fine { TableInvariantHoldsForInputs site.now.ground.now table.old }
-    requires near { PlaceHasNumber table.old.places table.old.near
-        (Point site.now.key site.now.addr) }
-    requires code { FindsShapeAndSize site.now.ground.now.image.now site.now.ground.now.plan.now
-        site.now.addr site.now.located.now }
-    requires shape { IfSome site.now.located.now (λ found. IsShape found.shape) }
+    requires near { IsVisitedPlace table.old (Point site.now.key site.now.addr) }
+    requires code { LocatesInstructionIfAny site.now }
+    requires shape { IsLocatedShapeInBounds site.now }
     ensures { JoinsBySharing site.now table.old table.new result }
 {
     let Some(to) = unchanged_state_successor(site) else {
@@ -50,9 +46,8 @@ pub(crate) fn join_shared(alloc: Global, table: &mut Table, site: &Site) -> Resu
 /// address, or None for others.
 #[inline(always)]
 fn unchanged_state_successor(site: &Site) -> Option<u32>
-    requires code { FindsShapeAndSize site.now.ground.now.image.now site.now.ground.now.plan.now
-        site.now.addr site.now.located.now }
-    requires shape { IfSome site.now.located.now (λ found. IsShape found.shape) }
+    requires code { LocatesInstructionIfAny site.now }
+    requires shape { IsLocatedShapeInBounds site.now }
     ensures { IfSome result
         (PassesStateTo site.now.ground.now.image.now site.now.ground.now.plan.now site.now.addr) }
 {
@@ -71,8 +66,7 @@ fn unchanged_state_successor(site: &Site) -> Option<u32>
 #[inline(always)]
 fn may_share_state(table: &Table, site: &Site) -> bool
     requires fine { TableInvariantHoldsForInputs site.now.ground.now table.now }
-    requires near { PlaceHasNumber table.now.places table.now.near
-        (Point site.now.key site.now.addr) }
+    requires near { IsVisitedPlace table.now (Point site.now.key site.now.addr) }
     ensures { IsTrue result → MayShareState site.now table.now }
 {
     if table.near < table.places.len().saturating_sub(1) {

@@ -1,7 +1,7 @@
 // The rows of all points: the frames that each enters, by numbers, and its number of locals.
 ghost use Rattle.std.specs.Prelude.{◌≡◌, ◌+◌, ◌<◌, List, IfOk, IsTrue, OnOk};
 ghost use Rattle.indexmap.specs.IndexMap.{index_map_len};
-ghost use Rattle.depth_cert.specs.declared.keys.Key as keys;
+ghost use Rattle.depth_cert.specs.declared.keys.Key.{Key};
 ghost use Rattle.depth_cert.specs.WellFormed.{IsWellFormedState};
 ghost use Rattle.frame_places.specs.Numbers.{frame_number_in};
 ghost use Rattle.depth_maker.specs.InterruptHandlers.{AreNumberedHandlers};
@@ -80,7 +80,7 @@ fn visited_point_row(
 ) -> Result<NeedRow, AllocError>
     requires found { IsFaultlessInstruction v.now found.now }
     requires well_formed { IsWellFormedState v.now.ground.now.bounds.now v.now.state.now }
-    ensures { IfOk result (λ row. (frames : List keys.Key)
+    ensures { IfOk result (λ row. (frames : List Key)
         → AreNumberedHandlers v.now.ground.now.plan.now source.now.numbers.now
         source.now.handlers.now frames
         → AreRowFramesAmong v.now frames → node ≡ frame_number_in frames v.now.key

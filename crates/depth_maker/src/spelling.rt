@@ -1,10 +1,8 @@
 // Writes the certificate of a table, point by point.
 ghost use Rattle.std.specs.Prelude.{◌≡◌, ◌<◌, ◌^◌, ◌⊎◌, OnOk, IfOk};
-ghost use Rattle.frame_places.specs.PointEntries.{place_of_entry};
-ghost use Rattle.frame_places.specs.Spots.{spot_address};
 ghost use Rattle.depth_maker.specs.Needs.{need_of_frame, AreLeastTableNeeds};
 ghost use Rattle.depth_maker.specs.Rows.{IsRowSource};
-ghost use Rattle.depth_maker.specs.SpelledCert.{AreTableFrames, AreTablePointEntries, IsTableFrame, SourceHasLimitsOfFormat, IsOrderedCertSource, IsTablePointEntry, AreClosedCertBytesFromSource, AppendsTableExit, AppendsTableNode, AppendsTableNodes, AppendsTablePoint, AppendsTablePoints};
+ghost use Rattle.depth_maker.specs.SpelledCert.{address_of_entry, AreTableFrames, AreTablePointEntries, IsTableFrame, SourceHasLimitsOfFormat, IsOrderedCertSource, IsTablePointEntry, AreClosedCertBytesFromSource, AppendsTableExit, AppendsTableNode, AppendsTableNodes, AppendsTablePoint, AppendsTablePoints};
 ghost use Rattle.depth_maker.specs.SpotsAsPlaces.{spots_of_entries};
 
 use crate::rows::Source;
@@ -34,8 +32,7 @@ fn append_table_point(
     requires source { IsRowSource source.now }
     requires point { IsTablePointEntry source.now _key point.now }
     ensures { OnOk result (AppendsTablePoint source.now _key
-        (spot_address (place_of_entry source.now.table.now.places point.now))
-        out.old.items out.new.items) }
+        (address_of_entry source.now point.now) out.old.items out.new.items) }
 {
     let Some((place, known)) = source.table.places.get_index(point.entry) else {
         unreachable!();

@@ -1,17 +1,13 @@
 // A visit joins all that a point owes, in the order of its duties.
-ghost use Rattle.std.specs.Prelude.{◌≡◌, IsTrue, OnOk, IfErr, IfOk, IfSome, Some};
-ghost use Rattle.cfg_recover.specs.Assignments.{point};
-ghost use Rattle.cfg_recover.specs.Code.{FindsShapeAndSize};
-ghost use Rattle.depth_cert.specs.Known.{state};
+ghost use Rattle.std.specs.Prelude.{◌≡◌, IsTrue, OnOk, IfErr, IfOk};
 ghost use Rattle.frame_places.specs.declared.places.Spot.TheVariants.{Point};
 ghost use Rattle.cfg_recover.specs.SetOperations.{IsCorrectCache};
+ghost use Rattle.depth_maker.specs.SharedStates.{IsLocatedShapeInBounds, LocatesInstructionIfAny};
 ghost use Rattle.depth_maker.specs.EnteredFrames.{InstructionEntersNoFrame, PlaceEntersNoFrame};
-ghost use Rattle.depth_maker.specs.VisitDuties.{JoinedBy, IsFaultlessInstruction, visit_duties, state_after_step};
-ghost use Rattle.depth_maker.specs.TableView.{view_of_table};
+ghost use Rattle.depth_maker.specs.VisitDuties.{JoinedBy, IsFaultlessInstruction, IsVisitStateCurrent, visit_duties, state_after_step};
 ghost use Rattle.depth_maker.specs.Answers.{RefusalIsRight};
-ghost use Rattle.depth_maker.specs.Visits.{VisitJoinsDutiesForInputs, VisitInvariantHolds};
-ghost use Rattle.frame_places.specs.declared.places.Spot as spots;
-ghost use Rattle.frame_places.specs.Numbers.{PlaceHasNumber};
+ghost use Rattle.depth_maker.specs.Visits.{IsVisitedPlace, VisitJoinsDutiesForInputs, VisitInvariantHolds};
+ghost use Rattle.frame_places.specs.declared.places.Spot.{Spot};
 ghost use Rattle.depth_maker.specs.TableInvariant.{TableInvariantHoldsForInputs};
 ghost use Rattle.tc_isa.specs.InBounds.{IsShape};
 ghost use Rattle.value_domain.specs.State.{AreInLattice};
@@ -43,9 +39,9 @@ pub(crate) fn visit_place(
 ) -> Result<bool, Refusal>
     requires fine { TableInvariantHoldsForInputs ground.now table.old }
     requires results { IsCorrectCache ground.now.bounds.now cache.old }
-    ensures ok { (x : spots.Spot) → PlaceHasNumber table.old.places table.old.near x
+    ensures ok { (x : Spot) → IsVisitedPlace table.old x
         → OnOk result (VisitJoinsDutiesForInputs ground.now table.old table.new x) }
-    ensures plain { (x : spots.Spot) → PlaceHasNumber table.old.places table.old.near x
+    ensures plain { (x : Spot) → IsVisitedPlace table.old x
         → IfOk result (λ plain. IsTrue plain
         → PlaceEntersNoFrame ground.now.image.now ground.now.plan.now x) }
     ensures err { IfErr result (RefusalIsRight ground.now) }
@@ -99,8 +95,7 @@ fn join_visit_duties(
     cache: &mut OperationCache,
 ) -> Result<(), Refusal>
     requires visited { VisitInvariantHolds v.now table.old }
-    requires at { (view_of_table table.old).cells (point v.now.key v.now.addr)
-        ≡ Some (state v.now.state.now) }
+    requires at { IsVisitStateCurrent v.now table.old }
     requires found { IsFaultlessInstruction v.now found.now }
     requires results { IsCorrectCache v.now.ground.now.bounds.now cache.old }
     ensures ok { OnOk result (JoinedBy v.now table.old table.new (visit_duties v.now found.now)) }
@@ -125,11 +120,9 @@ fn visit_point(
     cache: &mut OperationCache,
 ) -> Result<bool, Refusal>
     requires fine { TableInvariantHoldsForInputs site.now.ground.now table.old }
-    requires near { PlaceHasNumber table.old.places table.old.near
-        (Point site.now.key site.now.addr) }
-    requires code { FindsShapeAndSize site.now.ground.now.image.now site.now.ground.now.plan.now
-        site.now.addr site.now.located.now }
-    requires shape { IfSome site.now.located.now (λ found. IsShape found.shape) }
+    requires near { IsVisitedPlace table.old (Point site.now.key site.now.addr) }
+    requires code { LocatesInstructionIfAny site.now }
+    requires shape { IsLocatedShapeInBounds site.now }
     requires results { IsCorrectCache site.now.ground.now.bounds.now cache.old }
     ensures ok { OnOk result (VisitJoinsDutiesForInputs site.now.ground.now table.old table.new
         (Point site.now.key site.now.addr)) }

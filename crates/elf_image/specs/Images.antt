@@ -40,6 +40,10 @@ are_all_segments_disjoint (s ∷ ss) = list_all (are_segments_disjoint s) ss && 
 abbrev pub AreSegmentBytes : List SegmentData → Type 0
 AreSegmentBytes segments = All (λ (s : SegmentData). All (λ b. b < 2 ^ 8) s.bytes) segments
 
+-- the number of bytes that these segments have together
+abbrev pub total_segment_size : List SegmentData → ℕ
+total_segment_size segments = sum_by (λ s. length s.bytes) segments
+
 -- an image is within its limits: at most 64 segments with at most 2^24 bytes together, none empty
 -- or past 2^32, no two at one address
 pub record IsImage (i : ImageData) : Type 0 where
@@ -48,7 +52,7 @@ pub record IsImage (i : ImageData) : Type 0 where
   pub segments : IsTrue (list_all is_segment i.segments)
   pub bytes : AreSegmentBytes i.segments
   pub apart : IsTrue (are_all_segments_disjoint i.segments)
-  pub small : sum_by (λ s. length s.bytes) i.segments ≤ 2 ^ 24
+  pub small : total_segment_size i.segments ≤ 2 ^ 24
 
 -- the address x is that of a byte of the segment
 abbrev pub segment_contains : SegmentData → ℕ → Bool

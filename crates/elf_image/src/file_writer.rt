@@ -1,6 +1,6 @@
 // Writes the ELF file of an image, part by part.
-ghost use Rattle.std.specs.Prelude.{◌≡◌, ◌++◌, ◌≤◌, ◌^◌, length, map, sum_by, OnOk, IfOk, IfErr};
-ghost use Rattle.elf_image.specs.Images.{segment_data};
+ghost use Rattle.std.specs.Prelude.{◌≡◌, ◌++◌, ◌≤◌, ◌^◌, length, map, OnOk, IfOk, IfErr};
+ghost use Rattle.elf_image.specs.Images.{segment_data, total_segment_size};
 ghost use Rattle.elf_image.specs.WrittenElf.{elf_header, program_header, program_headers, elf_contents, elf_contents_offset, elf_file};
 
 use crate::{ImageErr, Segment};
@@ -10,7 +10,7 @@ use std::alloc::Global;
 #[tactic(auto, unfolding(crate::specs::WrittenElf::elf_file))]
 pub(crate) fn elf_file(alloc: Global, entry: u32, segments: &[Segment]) -> Result<Vec<u8>, ImageErr>
     requires few { length segments.now ≤ 64 }
-    requires small { sum_by (λ s. length s.bytes) (map segment_data segments.now) ≤ 2 ^ 24 }
+    requires small { total_segment_size (map segment_data segments.now) ≤ 2 ^ 24 }
     ensures ok { IfOk result (λ v.
         v.items ≡ elf_file (record { entry = entry; segments = map segment_data segments.now })) }
     ensures err { IfErr result (λ e. e ≡ ImageErr.NoMemory) }
@@ -42,7 +42,7 @@ fn elf_header(entry: u32, count: u16) -> [u8; 52]
 #[tactic(auto, unfolding(crate::specs::WrittenElf::program_headers))]
 fn append_program_headers(out: &mut Vec<u8>, segments: &[Segment]) -> Result<(), ImageErr>
     requires few { length segments.now ≤ 64 }
-    requires small { sum_by (λ s. length s.bytes) (map segment_data segments.now) ≤ 2 ^ 24 }
+    requires small { total_segment_size (map segment_data segments.now) ≤ 2 ^ 24 }
     ensures ok { let all = map segment_data segments.now in
         OnOk result
         (out.new.items ≡ out.old.items ++ program_headers (elf_contents_offset all) all) }

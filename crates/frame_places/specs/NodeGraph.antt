@@ -1,4 +1,5 @@
--- The graph of entries, by the numbers of its nodes: which nodes are reached from which.
+-- The call graph of frames, by the numbers of its nodes: which nodes are reached from which. Its
+-- edges are entries of frames by calls, interrupts and traps.
 use Rattle.std.specs.Prelude.{◌≡◌, ◌<◌, ◌≤◌, ◌+◌, ◌*◌, ◌⊎◌, nat_eq, ℕ, Bool, true, false, List, ◌∷◌, length, Contains, slice_index, Option, Some, None, slice_index_or, []}
 use Rattle.std.specs.declared.vec.Vec.{Vec}
 use Rattle.std.specs.declared.alloc.Global.{Global}
@@ -6,36 +7,36 @@ use Rattle.indexmap.specs.IndexMap.{IndexMap, get}
 use Rattle.frame_places.specs.declared.needs.reach.FrameEdge.{FrameEdge}
 use Rattle.frame_places.specs.declared.needs.row.NeedRow.{NeedRow}
 
--- the edge of the graph of entries from the node k to the node t
+-- the edge of the call graph from the node k to the node t
 abbrev pub edge_between : ℕ → ℕ → FrameEdge
 edge_between k t = record { node = k; into = t }
 
--- some row of the node k enters the node t, so the graph of entries has an edge from k to t
+-- some row of the node k enters the node t, so the call graph has an edge from k to t
 abbrev pub SomeRowEnters : List NeedRow → ℕ → ℕ → Type 0
 SomeRowEnters rows k t = (row : NeedRow) × Contains rows row × (row.node ≡ k) × Contains row.into.items t
 
--- the edges of the graph of entries are those of the rows: from a row's node to each node entered
+-- the edges of the call graph are those of the rows: from a row's node to each node entered
 pub record AreEdgesOfRows (rows : List NeedRow) (edges : List FrameEdge) : Type 0 where
   pub sound : (k t : ℕ) → Contains edges (edge_between k t) → SomeRowEnters rows k t
   pub complete : (k t : ℕ) → SomeRowEnters rows k t → Contains edges (edge_between k t)
 
--- the graph of entries gets the edges of one more row: from its node to each node that it enters
+-- the call graph gets the edges of one more row: from its node to each node that it enters
 pub record AddsEdges (old new : List FrameEdge) (node : ℕ) (into : List ℕ) : Type 0 where
   pub keeps : (e : FrameEdge) → Contains old e → Contains new e
   pub sound : (e : FrameEdge) → Contains new e → Contains old e ⊎ ((e.node ≡ node) × Contains into e.into)
   pub complete : (t : ℕ) → Contains into t → Contains new (edge_between node t)
 
--- the edges of the graph of entries join nodes with numbers below `nodes`
+-- the edges of the call graph join nodes with numbers below `nodes`
 pub record AreEdgesBelow (edges : List FrameEdge) (nodes : ℕ) : Type 0 where
   pub node : (e : FrameEdge) → Contains edges e → e.node < nodes
   pub into : (e : FrameEdge) → Contains edges e → e.into < nodes
 
--- in the graph of entries, the node j is reached from a node along edges, none or more
+-- in the call graph, the node j is reached from a node along edges, none or more
 pub data IsNodeReachedFrom (edges : List FrameEdge) (j : ℕ) : ℕ → Type 0 where
   here : IsNodeReachedFrom edges j j
   along : (k t : ℕ) → Contains edges (edge_between k t) → IsNodeReachedFrom edges j t → IsNodeReachedFrom edges j k
 
--- the node lies on a cycle of the graph of entries, so its frame is recursive
+-- the node lies on a cycle of the call graph, so its frame is recursive
 pub record IsRecursiveNode (edges : List FrameEdge) (k : ℕ) : Type 0 where
   pub next : ℕ
   pub enters : Contains edges (edge_between k next)
@@ -43,17 +44,17 @@ pub record IsRecursiveNode (edges : List FrameEdge) (k : ℕ) : Type 0 where
 
 -- ---- marks
 
--- the number of nodes of the graph of entries without a mark
+-- the number of nodes of the call graph without a mark
 abbrev pub count_unmarked : List Bool → ℕ
 count_unmarked [] = 0
 count_unmarked (true ∷ ms) = count_unmarked ms
 count_unmarked (false ∷ ms) = count_unmarked ms + 1
 
--- in the graph of entries this node is marked, as one from which a given node is reached
+-- in the call graph this node is marked, as one from which a given node is reached
 abbrev pub IsNodeMarked : List Bool → ℕ → Type 0
 IsNodeMarked marks k = slice_index_or marks k false ≡ true
 
--- in the graph of entries, the node j is reached from each marked node
+-- in the call graph, the node j is reached from each marked node
 abbrev pub IsNodeReachedFromMarked : List FrameEdge → ℕ → List Bool → Type 0
 IsNodeReachedFromMarked edges j marks = (k : ℕ) → IsNodeMarked marks k → IsNodeReachedFrom edges j k
 
@@ -77,7 +78,7 @@ pub record AddsPredecessor {S T : Type 0} (old : IndexMap ℕ (Vec ℕ Global) S
   pub there : IsAmongPredecessors (get nat_eq new t) k
   pub sound : (j u : ℕ) → IsAmongPredecessors (get nat_eq new u) j → IsAmongPredecessors (get nat_eq old u) j ⊎ ((j ≡ k) × (u ≡ t))
 
--- these nodes of the graph of entries are marked, those that weren't are queued, and nothing else
+-- these nodes of the call graph are marked, those that weren't are queued, and nothing else
 -- changes
 pub record MarksAndQueues (nodes : List ℕ) (old new : List Bool) (work later : List ℕ) : Type 0 where
   pub keeps : (k : ℕ) → IsNodeMarked old k → IsNodeMarked new k
@@ -105,7 +106,7 @@ FinishesMarking sources old new work =
     (edges : List FrameEdge) (j : ℕ) → ArePredecessors edges sources → SearchInvariantHolds edges (length old) j old work
     → SearchInvariantHolds edges (length old) j new []
 
--- the marks are those of exactly the nodes of the graph of entries from which the node j is reached
+-- the marks are those of exactly the nodes of the call graph from which the node j is reached
 pub record AreReachingMarks (edges : List FrameEdge) (nodes j : ℕ) (marks : List Bool) : Type 0 where
   pub each : length marks ≡ nodes
   pub sound : IsNodeReachedFromMarked edges j marks
@@ -115,12 +116,12 @@ pub record AreReachingMarks (edges : List FrameEdge) (nodes j : ℕ) (marks : Li
 abbrev pub AreReachingByPredecessors : {S : Type 0} → IndexMap ℕ (Vec ℕ Global) S → ℕ → ℕ → List Bool → Type 0
 AreReachingByPredecessors sources nodes j marks = (edges : List FrameEdge) → ArePredecessors edges sources → AreReachingMarks edges nodes j marks
 
--- the node k has an edge of the graph of entries to a marked node
+-- the node k has an edge of the call graph to a marked node
 abbrev pub HasMarkedSuccessor : List Bool → List FrameEdge → ℕ → Type 0
 HasMarkedSuccessor marks edges k = (t : ℕ) × Contains edges (edge_between k t) × IsNodeMarked marks t
 
 -- ---- the first
--- the node on a cycle of the graph of entries that has the least of these numbers; or no node is on
+-- the node on a cycle of the call graph that has the least of these numbers; or no node is on
 -- a cycle
 abbrev pub IsFirstRecursiveNode : List ℕ → List FrameEdge → Option ℕ → Type 0
 IsFirstRecursiveNode orders edges None = (k : ℕ) → IsRecursiveNode edges k → ⊥

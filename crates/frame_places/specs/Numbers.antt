@@ -21,6 +21,10 @@ frame_number_in (j ∷ js) k = if is_same_key j k then 0 else frame_number_in js
 pub record AreFrameNumbers {S : Type 0} (numbers : IndexMap Key ℕ S) (frames : List Key) (known : List Key) : Type 0 where
   pub each : (k : Key) → Contains known k → get frame_key_eq numbers k ≡ Some (frame_number_in frames k)
 
+-- the map gives each of these frames its number, the position in this list
+abbrev pub AreNumbersOfFrames : {S : Type 0} → IndexMap Key ℕ S → List Key → Type 0
+AreNumbersOfFrames numbers frames = AreFrameNumbers numbers frames frames
+
 -- the place x has this number, the position in the map of places
 abbrev pub PlaceHasNumber : {X S : Type 0} → IndexMap Spot X S → ℕ → Spot → Type 0
 PlaceHasNumber m number x = slice_get (keys m) number ≡ Some x

@@ -2,8 +2,8 @@
 ghost use Rattle.std.specs.Prelude.{◌≡◌, List, Contains, IfOk, map};
 ghost use Rattle.std.specs.List.{IsDistinct};
 ghost use Rattle.depth_cert.specs.Keys.{is_same_key};
-ghost use Rattle.depth_cert.specs.declared.keys.Key as keys;
-ghost use Rattle.frame_places.specs.Numbers.{AreFrameNumbers, frame_number_in};
+ghost use Rattle.depth_cert.specs.declared.keys.Key.{Key};
+ghost use Rattle.frame_places.specs.Numbers.{AreNumbersOfFrames, frame_number_in};
 
 use depth_cert::Key;
 use indexmap::IndexMap;
@@ -15,7 +15,7 @@ pub fn frame_number_map(
     frames: &[Key],
 ) -> Result<IndexMap<Key, usize>, AllocFailed<(Key, usize)>>
     requires { IsDistinct is_same_key frames.now }
-    ensures { IfOk result (λ numbers. AreFrameNumbers numbers frames.now frames.now) }
+    ensures { IfOk result (λ numbers. AreNumbersOfFrames numbers frames.now) }
 {
     let mut numbers = IndexMap::new(alloc);
     for (i, key) in frames.iter().enumerate() {
@@ -26,7 +26,7 @@ pub fn frame_number_map(
 
 /// Returns the number of the frame with this key, or 0 if the map has none.
 pub fn frame_number(numbers: &IndexMap<Key, usize>, key: Key) -> usize
-    ensures { (frames : List keys.Key) → AreFrameNumbers numbers.now frames frames
+    ensures { (frames : List Key) → AreNumbersOfFrames numbers.now frames
         → Contains frames key
         → result ≡ frame_number_in frames key }
 {
@@ -40,7 +40,7 @@ pub fn frame_number(numbers: &IndexMap<Key, usize>, key: Key) -> usize
 /// tried first.
 #[inline(always)]
 pub fn frame_number_near(numbers: &IndexMap<Key, usize>, near: usize, key: &Key) -> usize
-    ensures { (frames : List keys.Key) → AreFrameNumbers numbers.now frames frames
+    ensures { (frames : List Key) → AreNumbersOfFrames numbers.now frames
         → Contains frames key.now → result ≡ frame_number_in frames key.now }
 {
     if let Some((other, number)) = numbers.get_index(near) {
@@ -58,9 +58,9 @@ pub fn entered_frame_numbers(
     entered: &[Key],
     more: usize,
 ) -> Result<Vec<usize>, AllocError>
-    ensures { IfOk result (λ into. (frames : List keys.Key)
-        → AreFrameNumbers numbers.now frames frames
-        → ((k : keys.Key) → Contains entered.now k → Contains frames k)
+    ensures { IfOk result (λ into. (frames : List Key)
+        → AreNumbersOfFrames numbers.now frames
+        → ((k : Key) → Contains entered.now k → Contains frames k)
         → into.items ≡ map (frame_number_in frames) entered.now) }
 {
     let mut into = Vec::with_capacity(alloc, entered.len().saturating_add(more))?;

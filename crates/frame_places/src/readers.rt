@@ -1,12 +1,10 @@
 // Which points read which exits.
 ghost use Rattle.std.specs.Prelude.{◌↔◌, ◌⊎◌, ◌≡◌, Contains, OnOk, None, Some, IfOk};
-ghost use Rattle.frame_places.specs.declared.places.Spot as spots;
 ghost use Rattle.frame_places.specs.Marks.{RegistersReader, ForgetsReaders, AreQueuedPlacesListed, AreKnownPlaces, IsAmongReaders, RequeuesPlaces};
 ghost use Rattle.indexmap.specs.IndexMap.{get};
 ghost use Rattle.frame_places.specs.declared.places.Spot.{Spot};
 ghost use Rattle.frame_places.specs.Spots.{spot_eq};
 ghost use Rattle.frame_places.specs.Work.{all_work};
-ghost use Rattle.frame_places.specs.declared.places.Spot as spots;
 
 use crate::marks::requeue_places;
 use crate::places::{Marked, Spot};
@@ -19,7 +17,7 @@ const MANY: usize = 1024;
 
 /// Appends a point to a list of an exit's readers, unless the list ends in that point.
 pub(crate) fn push_reader_unless_last(out: &mut Vec<Spot>, x: Spot) -> Result<(), AllocError>
-    ensures { OnOk result ((q : spots.Spot)
+    ensures { OnOk result ((q : Spot)
         → Contains out.new.items q ↔ (Contains out.old.items q ⊎ (q ≡ x))) }
 {
     if let Some(last) = out.as_slice().last() {
@@ -77,8 +75,7 @@ pub fn requeue_readers_of<V>(
 /// Returns a copy of a list of readers without those that equal the one before: of a sorted list,
 /// without duplicates.
 pub(crate) fn dedup_readers(alloc: Global, list: &[Spot]) -> Result<Vec<Spot>, AllocError>
-    ensures { IfOk result (λ out. (q : spots.Spot)
-        → Contains out.items q ↔ Contains list.now q) }
+    ensures { IfOk result (λ out. (q : Spot) → Contains out.items q ↔ Contains list.now q) }
 {
     let mut out = Vec::new(alloc);
     for x in list {
@@ -91,7 +88,7 @@ pub(crate) fn dedup_readers(alloc: Global, list: &[Spot]) -> Result<Vec<Spot>, A
 /// duplicates are looked for.
 #[inline(always)]
 fn push_reader(alloc: Global, list: &mut Vec<Spot>, x: Spot) -> Result<(), AllocError>
-    ensures { OnOk result ((q : spots.Spot)
+    ensures { OnOk result ((q : Spot)
         → Contains list.new.items q ↔ (Contains list.old.items q ⊎ (q ≡ x))) }
 {
     list.push(x)?;
@@ -104,8 +101,7 @@ fn push_reader(alloc: Global, list: &mut Vec<Spot>, x: Spot) -> Result<(), Alloc
 /// Sorts an exit's readers, and drops duplicates if they are at least half of the list.
 #[inline(never)]
 fn sort_and_dedup_readers(alloc: Global, list: &mut Vec<Spot>) -> Result<(), AllocError>
-    ensures { OnOk result ((q : spots.Spot)
-        → Contains list.new.items q ↔ Contains list.old.items q) }
+    ensures { OnOk result ((q : Spot) → Contains list.new.items q ↔ Contains list.old.items q) }
 {
     list.sort_by_key(|x| x.order_number())?;
     let out = dedup_readers(alloc, list.as_slice())?;

@@ -1,13 +1,17 @@
 -- The row of changed values in the state of a point: where it is, and what is outside it.
 use Rattle.std.specs.Prelude.{◌≡◌, ◌≤◌, ◌<◌, ◌⊎◌, slice_index_or, ◌+◌, ℕ, List, length}
 use Rattle.value_domain.specs.declared.values.Val.{Val}
-use Rattle.value_domain.specs.Values.{any_val}
+use Rattle.value_domain.specs.Values.{any_val, IsBelow}
 use Rattle.packed_cert.specs.declared.places.ValueRow.{ValueRow}
 use Rattle.packed_cert.specs.ValuesInBytes.{place_after_values}
 
 -- a register's number is before or after a row of changed values
 abbrev pub IsOutsideRow : ValueRow → ℕ → Type 0
 IsOutsideRow row k = (k < row.first) ⊎ (row.behind ≤ k)
+
+-- in each slot of a row of changed values, the value of one list is below that of another
+abbrev pub AreBelowInRow : ValueRow → List Val → List Val → Type 0
+AreBelowInRow row vs ws = (i : ℕ) → row.first ≤ i → i < row.behind → IsBelow (slice_index_or vs i any_val) (slice_index_or ws i any_val)
 
 -- a state's values before and after differ only in this row: there are as many, and those outside
 -- the row are as they were

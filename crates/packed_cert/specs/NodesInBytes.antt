@@ -1,8 +1,8 @@
 -- Nodes and certificates in the bytes.
-use Rattle.std.specs.Prelude.{ℕ, List, map, Option, IfSome, ◌≡◌, ◌≤◌, ◌^◌, length, Ok, ◌+◌}
+use Rattle.std.specs.Prelude.{ℕ, List, map, Option, IfSome, ◌≡◌, ◌≤◌, ◌^◌, length, Ok, ◌+◌, nat_lt, true, false, sum_by}
 use Rattle.std.specs.Option.{option_map}
 use Rattle.std.specs.List.{All}
-use Rattle.std.specs.List.Sorted.{IsStrictlyIncreasing}
+use Rattle.std.specs.List.Sorted.{IsStrictlyIncreasing, IsPartitionPoint}
 use Rattle.tcd_base.specs.Place.{Place}
 use Rattle.depth_cert.specs.declared.keys.Key.{Key}
 use Rattle.depth_cert.specs.Keys.{number_of_key}
@@ -14,6 +14,7 @@ use Rattle.depth_cert.specs.Spelling.{bytes_of_cert}
 use Rattle.packed_cert.specs.declared.places.ExitPlaces.{ExitPlaces}
 use Rattle.packed_cert.specs.declared.places.NodePlaces.{NodePlaces}
 use Rattle.packed_cert.specs.declared.places.PointPlace.{PointPlace}
+use Rattle.packed_cert.specs.declared.point_reader.ExitRoom.{ExitRoom}
 use Rattle.packed_cert.specs.ValuesInBytes.{place_in_bytes, read_from_bytes_or}
 use Rattle.packed_cert.specs.PointsInBytes.{points_in_bytes, HasStateInBytes}
 use Rattle.packed_cert.specs.Moves.{AllDifferOnlyInRows}
@@ -36,6 +37,10 @@ pub record AreExitPlaces (version : ℕ) (bytes : List ℕ) (p : ExitPlaces) : T
   pub order : p.start ≤ p.end
   pub within : p.end ≤ length bytes
   pub read : IsExitBetween version (place_in_bytes bytes p.start) (place_in_bytes bytes p.end)
+
+-- the room for exits of a certificate's reader has the offsets of the exit read last, if any
+abbrev pub HasLastExit : ℕ → List ℕ → ExitRoom → Type 0
+HasLastExit version bytes room = IfSome room.last (AreExitPlaces version bytes)
 
 -- what always holds of an `ExitAt`: an exit is at its place, and IE's and CCPN's bytes are inside
 pub record IsExitAt (version : ℕ) (bytes : List ℕ) (place : ℕ) : Type 0 where
@@ -68,6 +73,18 @@ nodes_in_bytes version bytes ns = map (node_in_bytes version bytes) ns
 pub record AreNodePlaces (version : ℕ) (bytes : List ℕ) (n : NodePlaces) : Type 0 where
   pub number : n.number ≡ number_of_key n.key
   pub node : IsNodeAt version bytes n.exit n.points.items
+
+-- the nodes are in ascending order of the numbers of their keys
+abbrev pub AscendByKey : List NodePlaces → Type 0
+AscendByKey ns = IsStrictlyIncreasing (map (λ n. n.number) ns)
+
+-- of nodes by ascending key, the first k have keys below that of this number and the others don't
+abbrev pub IsCountOfNodesBelow : ℕ → List NodePlaces → ℕ → Type 0
+IsCountOfNodesBelow number ns k = IsPartitionPoint (λ n. nat_lt n.number number ≡ true) (λ n. nat_lt n.number number ≡ false) ns k
+
+-- the number of points that nodes have together
+abbrev pub count_node_points : List NodePlaces → ℕ
+count_node_points ns = sum_by (λ n. length n.points.items) ns
 
 -- the certificate of this format whose nodes have these places in the bytes, as plain data
 abbrev pub cert_in_bytes : ℕ → List ℕ → List NodePlaces → CertData

@@ -6,6 +6,7 @@ use Rattle.value_domain.specs.declared.values.Val.{Val}
 use Rattle.value_domain.specs.Values.{any_val}
 use Rattle.depth_cert.specs.Grammar.{value_at}
 use Rattle.tcd_base.specs.declared.errors.FormErr.{FormErr}
+use Rattle.packed_cert.specs.declared.restored_values.ValuesAt.{ValuesAt}
 
 -- n words from a place of a certificate's bytes on
 unfoldable pub words_in_bytes : List ℕ → ℕ → ℕ → List ℕ
@@ -61,3 +62,19 @@ AreValuesBetween version bytes place (v ∷ vs) end = (value_at version (place_i
 -- their end, to another
 abbrev pub AreValuesInBytes : ℕ → List ℕ → List Val → ℕ → ℕ → Type 0
 AreValuesInBytes version bytes vs x end = (x ≤ length bytes) × AreValuesBetween version bytes x vs end
+
+-- the abstract value that is decoded at the offset of v
+abbrev pub decoded_value : ValuesAt → Val
+decoded_value v = value_in_bytes v.version v.bytes.now v.place
+
+-- the n abstract values that are decoded from the offset of v on
+abbrev pub decoded_values : ValuesAt → ℕ → List Val
+decoded_values v n = values_in_bytes v.version v.bytes.now v.place n
+
+-- an abstract value begins at the offset of v
+abbrev pub PointsToValue : ValuesAt → Type 0
+PointsToValue v = HasValueInBytes v.version v.bytes.now v.place
+
+-- n abstract values begin at the offset of v
+abbrev pub PointsToValues : ValuesAt → ℕ → Type 0
+PointsToValues v n = HaveValuesInBytes v.version v.bytes.now v.place n

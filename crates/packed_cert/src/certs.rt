@@ -1,9 +1,8 @@
 // The type `Cert`: a certificate that stays on the bytes of its file.
-ghost use Rattle.std.specs.Prelude.{◌≡◌, ◌≤◌, ◌<◌, ◌^◌, ℕ, nat_lt, true, false, map, sum_by, length, slice_index, Ok, IfOk, IfErr, IfSome, IsTrue};
+ghost use Rattle.std.specs.Prelude.{◌≡◌, ◌≤◌, ◌<◌, ◌^◌, ℕ, nat_lt, length, slice_index, Ok, IfOk, IfErr, IfSome, IsTrue};
 ghost use Rattle.std.specs.List.{All, slice_get};
-ghost use Rattle.std.specs.List.Sorted.{IsStrictlyIncreasing, IsPartitionPoint};
 ghost use Rattle.depth_cert.specs.Answers.{IsFaultOf};
-ghost use Rattle.packed_cert.specs.NodesInBytes.{AreNodePlaces};
+ghost use Rattle.packed_cert.specs.NodesInBytes.{AreNodePlaces, AscendByKey, IsCountOfNodesBelow, count_node_points};
 ghost use Rattle.packed_cert.specs.EnteredAlike.{HasEntryAndExitAt};
 
 use crate::cert_reader::read_cert_parts;
@@ -137,7 +136,7 @@ fn entry_and_exit_places(
     key: &Key,
 ) -> Option<(u32, Option<u32>)>
     requires places { All (AreNodePlaces version bytes.now) nodes.now }
-    requires rising { IsStrictlyIncreasing (map (λ n. n.number) nodes.now) }
+    requires rising { AscendByKey nodes.now }
     ensures { IfSome result (λ r. HasEntryAndExitAt version bytes.now nodes.now key.now r.0 r.1) }
 {
     let number = key_number(key);
@@ -161,8 +160,8 @@ pub(crate) fn cert_bytes_below_256(bytes: &[u8])
 
 /// Returns the number of points that the nodes of a `Cert` have together.
 fn count_points_of_nodes(nodes: &[NodePlaces]) -> usize
-    requires { sum_by (λ n. length n.points.items) nodes.now ≤ 2 ^ 16 }
-    ensures { result ≡ sum_by (λ n. length n.points.items) nodes.now }
+    requires { count_node_points nodes.now ≤ 2 ^ 16 }
+    ensures { result ≡ count_node_points nodes.now }
 {
     let mut total = 0;
     for node in nodes {
@@ -174,9 +173,8 @@ fn count_points_of_nodes(nodes: &[NodePlaces]) -> usize
 /// Returns the number of a certificate's nodes whose keys are below the key of this number, by
 /// binary search.
 fn count_nodes_below(nodes: &[NodePlaces], number: u64) -> usize
-    requires { IsStrictlyIncreasing (map (λ n. n.number) nodes.now) }
-    ensures { IsPartitionPoint (λ n. nat_lt n.number number ≡ true)
-        (λ n. nat_lt n.number number ≡ false) nodes.now result }
+    requires { AscendByKey nodes.now }
+    ensures { IsCountOfNodesBelow number nodes.now result }
 {
     nodes.partition_point(|n| is_cert_node_below(n, number))
 }

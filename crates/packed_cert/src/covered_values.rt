@@ -3,7 +3,7 @@ ghost use Rattle.std.specs.Prelude.{◌≡◌, ◌≤◌, ◌<◌, ◌↔◌, Is
 ghost use Rattle.value_domain.specs.Values.{any_val, IsBelow, IsWellFormed};
 ghost use Rattle.value_domain.specs.State.{AreBelow, AreWellFormed};
 ghost use Rattle.packed_cert.specs.ToCover.{values_to_cover};
-ghost use Rattle.packed_cert.specs.ValuesInBytes.{values_in_bytes, HaveValuesInBytes, value_in_bytes, HasValueInBytes, words_in_bytes};
+ghost use Rattle.packed_cert.specs.ValuesInBytes.{values_in_bytes, HaveValuesInBytes, value_in_bytes, HasValueInBytes, words_in_bytes, decoded_value, PointsToValue};
 ghost use Rattle.tcd_base.specs.Bytes.{word_in_bytes};
 ghost use Rattle.value_domain.specs.declared.values.Val.{Val};
 ghost use Rattle.value_domain.specs.Sets.{IsAscending, Within};
@@ -60,11 +60,9 @@ pub(crate) fn are_values_covered_at(
 /// value at the place `high`. The first one is decoded.
 #[inline(never)]
 pub(crate) fn is_below_at_places(low: ValuesAt<'_>, high: ValuesAt<'_>) -> bool
-    requires low { HasValueInBytes low.version low.bytes.now low.place }
-    requires high { HasValueInBytes high.version high.bytes.now high.place }
-    ensures { IsTrue result
-        ↔ IsBelow (value_in_bytes low.entry.version low.entry.bytes.now low.entry.place)
-        (value_in_bytes high.entry.version high.entry.bytes.now high.entry.place) }
+    requires low { PointsToValue low }
+    requires high { PointsToValue high }
+    ensures { IsTrue result ↔ IsBelow (decoded_value low.entry) (decoded_value high.entry) }
 {
     cert_bytes_below_256(low.bytes);
     let v = value_at_place(low.bytes, low.version, low.place);

@@ -1,6 +1,6 @@
 // The type `ExitAt`: an exit that stays in the bytes of its certificate.
 ghost use Rattle.std.specs.Prelude.{◌≡◌, ◌≤◌, ◌^◌, ◌↔◌, IsTrue, length, Ok, Err, OnOk, IfOk, IfErr, IfSome};
-ghost use Rattle.packed_cert.specs.NodesInBytes.{exit_in_bytes, HasExitInBytes, AreExitPlaces};
+ghost use Rattle.packed_cert.specs.NodesInBytes.{exit_in_bytes, HasExitInBytes, HasLastExit};
 ghost use Rattle.std.specs.Option.{option_map};
 ghost use Rattle.depth_cert.specs.Grammar.{optional_exit_at, exit_at};
 
@@ -38,7 +38,7 @@ impl<'a> Model for ExitAt<'a> {
 impl<'a> ExitAt<'a> {
     ghost use Rattle.value_domain.specs.State.{AreInLattice, AreWellFormed};
     ghost use Rattle.depth_cert.specs.Exits.{exit_of_state, ExitCovers};
-    ghost use Rattle.packed_cert.specs.ValuesInBytes.{values_in_bytes, HaveValuesInBytes};
+    ghost use Rattle.packed_cert.specs.ValuesInBytes.{decoded_values, PointsToValues};
 
     /// Returns the exit of a certificate's node at a place of the bytes.
     pub(crate) fn new(bytes: &'a [u8], version: u8, place: usize) -> ExitAt<'a>
@@ -69,9 +69,8 @@ impl<'a> ExitAt<'a> {
 
     /// Returns the place of this exit's 14 values of lower registers in the certificate's bytes.
     pub(crate) fn lower(&self) -> ValuesAt<'a>
-        ensures have { HaveValuesInBytes result.version result.bytes.now result.place 14 }
-        ensures values { self.now.lower
-            ≡ values_in_bytes result.version result.bytes.now result.place 14 }
+        ensures have { PointsToValues result 14 }
+        ensures values { self.now.lower ≡ decoded_values result 14 }
     {
         cert_bytes_below_256(self.bytes);
         ValuesAt {
@@ -135,13 +134,13 @@ pub(crate) fn read_optional_exit(
     room: &mut ExitRoom,
 ) -> Result<Option<u32>, FormErr>
     requires same { c.old.bytes ≡ bytes.now }
-    requires last { IfSome room.old.last (AreExitPlaces version bytes.now) }
+    requires last { HasLastExit version bytes.now room.old }
     ensures ok { IfOk result (λ e.
         optional_exit_at version kind c.old
         ≡ Ok (option_map (exit_in_bytes version bytes.now) e, c.new)) }
     ensures err { IfErr result (λ e. optional_exit_at version kind c.old ≡ Err e) }
     ensures exit { IfOk result (λ e. IfSome e (HasExitInBytes version bytes.now)) }
-    ensures last { OnOk result (IfSome room.new.last (AreExitPlaces version bytes.now)) }
+    ensures last { OnOk result (HasLastExit version bytes.now room.new) }
     ensures bytes { c.new.bytes ≡ c.old.bytes }
 {
     if !read_has_exit(c, kind)? {
@@ -159,12 +158,12 @@ pub(crate) fn read_or_skip_exit(
     room: &mut ExitRoom,
 ) -> Result<u32, FormErr>
     requires same { c.old.bytes ≡ bytes.now }
-    requires last { IfSome room.old.last (AreExitPlaces version bytes.now) }
+    requires last { HasLastExit version bytes.now room.old }
     ensures ok { IfOk result (λ p.
         exit_at version c.old ≡ Ok (exit_in_bytes version bytes.now p, c.new)) }
     ensures err { IfErr result (λ e. exit_at version c.old ≡ Err e) }
     ensures exit { IfOk result (HasExitInBytes version bytes.now) }
-    ensures last { OnOk result (IfSome room.new.last (AreExitPlaces version bytes.now)) }
+    ensures last { OnOk result (HasLastExit version bytes.now room.new) }
     ensures bytes { c.new.bytes ≡ c.old.bytes }
 {
     let start = c.place();

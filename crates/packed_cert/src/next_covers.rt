@@ -1,15 +1,14 @@
 // Fast path: does the state of the next point cover the one at hand, changed?
 // A point keeps the row of values outside which its state is that of the point before. So only what
 // is put, and the values of that row, are compared, and not all 27.
-ghost use Rattle.std.specs.Prelude.{◌≡◌, ◌≤◌, ◌<◌, ◌-◌, ℕ, IsTrue, Some, slice_index_or, false};
-ghost use Rattle.value_domain.specs.Values.{IsBelow, any_val};
+ghost use Rattle.std.specs.Prelude.{◌≡◌, ◌<◌, ◌-◌, ℕ, IsTrue, Some, false};
 ghost use Rattle.value_domain.specs.State.{AreWellFormed, Covers};
 ghost use Rattle.vd_transfer.specs.Changes.{state_after};
 ghost use Rattle.vd_transfer.specs.declared.change.Base.TheVariants.{Same};
 ghost use Rattle.packed_cert.specs.PointsInBytes.{state_in_bytes, HasStateInBytes};
 ghost use Rattle.packed_cert.specs.Moves.{DiffersOnlyInRow};
 ghost use Rattle.packed_cert.specs.ToCover.{IsChangedValueBelow};
-ghost use Rattle.packed_cert.specs.ChangedRows.{IsOutsideRow};
+ghost use Rattle.packed_cert.specs.ChangedRows.{AreBelowInRow, IsOutsideRow};
 
 use crate::places::{PointPlace, VALUES, ValueRow};
 use crate::states::StateAt;
@@ -49,9 +48,8 @@ pub(crate) fn is_changed_row_below(
 ) -> bool
     requires well { AreWellFormed (state_after s.now c.now).regs }
     requires moved { DiffersOnlyInRow version bytes.now s.now point }
-    ensures { IsTrue result → (i : ℕ) → point.row.first ≤ i → i < point.row.behind
-        → IsBelow (slice_index_or (state_after s.now c.now).regs i any_val)
-        (slice_index_or (state_in_bytes version bytes.now point.place).regs i any_val) }
+    ensures { IsTrue result → AreBelowInRow point.row (state_after s.now c.now).regs
+        (state_in_bytes version bytes.now point.place).regs }
 {
     let _regs = &s.regs[..];
     let any = Val::any();

@@ -1,11 +1,11 @@
 // Reads nodes: their keys, needs, and the places of their exits and points.
-ghost use Rattle.std.specs.Prelude.{◌≡◌, ◌≤◌, ◌+◌, ◌^◌, length, map, Ok, OnOk, IfOk, IfErr, IfSome};
+ghost use Rattle.std.specs.Prelude.{◌≡◌, ◌≤◌, ◌+◌, ◌^◌, length, map, Ok, OnOk, IfOk, IfErr};
 ghost use Rattle.std.specs.List.{All};
 ghost use Rattle.depth_cert.specs.Answers.{IsFaultOf};
 ghost use Rattle.depth_cert.specs.Grammar.{node_after, last_number_read};
 ghost use Rattle.depth_cert.specs.Nodes.{count_points};
-ghost use Rattle.packed_cert.specs.NodesInBytes.{node_in_bytes, nodes_in_bytes, AreNodePlaces, AreExitPlaces};
-ghost use Rattle.packed_cert.specs.PointsInBytes.{AreStatePlaces};
+ghost use Rattle.packed_cert.specs.NodesInBytes.{node_in_bytes, nodes_in_bytes, AreNodePlaces, HasLastExit};
+ghost use Rattle.packed_cert.specs.PointsInBytes.{HasLastState};
 
 use crate::exits::read_optional_exit;
 use crate::places::NodePlaces;
@@ -29,8 +29,8 @@ pub(crate) fn read_node(
     requires places { All (AreNodePlaces version bytes.now) before.now }
     requires used { room.old.used ≡ count_points (nodes_in_bytes version bytes.now before.now) }
     requires few { room.old.used ≤ 2 ^ 16 }
-    requires exit { IfSome room.old.exit.last (AreExitPlaces version bytes.now) }
-    requires state { IfSome room.old.last (AreStatePlaces version bytes.now room.old.state) }
+    requires exit { HasLastExit version bytes.now room.old.exit }
+    requires state { HasLastState version bytes.now room.old }
     ensures ok { IfOk result (λ n.
         node_after version (nodes_in_bytes version bytes.now before.now) c.old
         ≡ Ok (node_in_bytes version bytes.now n, c.new)) }
@@ -39,9 +39,8 @@ pub(crate) fn read_node(
     ensures places { IfOk result (AreNodePlaces version bytes.now) }
     ensures used { IfOk result (λ n. room.new.used ≡ room.old.used + length n.points.items) }
     ensures few { OnOk result (room.new.used ≤ 2 ^ 16) }
-    ensures exit { OnOk result (IfSome room.new.exit.last (AreExitPlaces version bytes.now)) }
-    ensures state { OnOk result
-        (IfSome room.new.last (AreStatePlaces version bytes.now room.new.state)) }
+    ensures exit { OnOk result (HasLastExit version bytes.now room.new.exit) }
+    ensures state { OnOk result (HasLastState version bytes.now room.new) }
     ensures bytes { c.new.bytes ≡ c.old.bytes }
 {
     let _place = c.place(); // so that the prover knows that the bytes are few

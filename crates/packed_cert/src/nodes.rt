@@ -1,8 +1,8 @@
 // The type `Node`: a node whose exit and states stay in the bytes of its certificate.
-ghost use Rattle.std.specs.Prelude.{◌≡◌, ◌<◌, nat_lt, ◌==◌, true, false, map, length};
+ghost use Rattle.std.specs.Prelude.{◌≡◌, ◌<◌, nat_lt, ◌==◌, length};
 ghost use Rattle.std.specs.Option.{option_map};
-ghost use Rattle.std.specs.List.Sorted.{IsStrictlyIncreasing, IsPartitionPoint};
 ghost use Rattle.packed_cert.specs.NodesInBytes.{node_in_bytes, AreNodePlaces};
+ghost use Rattle.packed_cert.specs.PointsInBytes.{AscendByAddress, IsCountOfPointsBelow};
 
 use crate::exits::ExitAt;
 use crate::places::{NodePlaces, PointPlace};
@@ -113,9 +113,8 @@ impl<'a> Node<'a> {
 /// Returns the number of points whose addresses are below `addr`. Points number `near` and `near +
 /// 1` are tried first, then a guess, then a binary search.
 pub(crate) fn count_points_below(points: &[PointPlace], addr: u32, near: usize) -> usize
-    requires { IsStrictlyIncreasing (map (λ p. p.addr) points.now) }
-    ensures { IsPartitionPoint (λ p. nat_lt p.addr addr ≡ true) (λ p. nat_lt p.addr addr ≡ false)
-        points.now result }
+    requires { AscendByAddress points.now }
+    ensures { IsCountOfPointsBelow addr points.now result }
 {
     if near < points.len() && points[near].addr == addr {
         return near;

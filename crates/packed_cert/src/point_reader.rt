@@ -3,14 +3,12 @@
 // If all come again, they are passed over, and else only the values whose bytes differ are read. In
 // bench/, a point of *functions*, whose state has 106 bytes, takes some 180 instructions if they
 // come again, and 480 more if they don't.
-ghost use Rattle.std.specs.Prelude.{◌≡◌, ◌≤◌, ◌<◌, ◌+◌, ◌-◌, ◌^◌, ℕ, List, map, vec_len, false, Ok, Err, OnOk, IfOk, IfErr, IfSome, IsTrue, IsFalse};
-ghost use Rattle.std.specs.List.{All};
+ghost use Rattle.std.specs.Prelude.{◌≡◌, ◌≤◌, ◌<◌, ◌+◌, ◌-◌, ◌^◌, ℕ, List, vec_len, false, Ok, Err, OnOk, IfOk, IfErr, IfSome, IsTrue, IsFalse};
 ghost use Rattle.depth_cert.specs.Grammar.{state_at, points_at};
 ghost use Rattle.depth_cert.specs.Answers.{IsFaultOf};
-ghost use Rattle.std.specs.List.Sorted.{IsStrictlyIncreasing};
 ghost use Rattle.packed_cert.specs.ValuesInBytes.{AreValuesInBytes};
 ghost use Rattle.packed_cert.specs.ChangedRows.{ChangesOnlyRow, RowBeginsAtPlace, IsWholeRow};
-ghost use Rattle.packed_cert.specs.PointsInBytes.{HasStateInBytes, AreStatePlaces, points_in_bytes};
+ghost use Rattle.packed_cert.specs.PointsInBytes.{AreStatePlaces, AscendByAddress, HasLastState, PointsHaveStates, points_in_bytes};
 ghost use Rattle.packed_cert.specs.RepeatedBytes.{IsRepeatedStateAt};
 ghost use Rattle.packed_cert.specs.Moves.{AllDifferOnlyInRows};
 
@@ -68,19 +66,17 @@ pub(crate) fn read_points(
 ) -> Result<Vec<PointPlace>, CertErr>
     requires same { c.old.bytes ≡ bytes.now }
     requires used { room.old.used ≤ 2 ^ 16 }
-    requires state { IfSome room.old.last (AreStatePlaces version bytes.now room.old.state) }
+    requires state { HasLastState version bytes.now room.old }
     ensures ok { IfOk result (λ ps. points_at version room.old.used c.old
         ≡ Ok (points_in_bytes version bytes.now ps.items, c.new)) }
     ensures err { IfErr result (IsFaultOf (points_at version room.old.used c.old)) }
-    ensures states { IfOk result
-        (λ ps. All (λ p. HasStateInBytes version bytes.now p.place) ps.items) }
-    ensures rising { IfOk result (λ ps. IsStrictlyIncreasing (map (λ p. p.addr) ps.items)) }
+    ensures states { IfOk result (λ ps. PointsHaveStates version bytes.now ps.items) }
+    ensures rising { IfOk result (λ ps. AscendByAddress ps.items) }
     ensures moves { IfOk result (λ ps. AllDifferOnlyInRows version bytes.now ps.items) }
     ensures used { IfOk result (λ ps. room.new.used ≡ room.old.used + vec_len ps) }
     ensures few { OnOk result (room.new.used ≤ 2 ^ 16) }
     ensures exit { room.new.exit ≡ room.old.exit }
-    ensures state { OnOk result
-        (IfSome room.new.last (AreStatePlaces version bytes.now room.new.state)) }
+    ensures state { OnOk result (HasLastState version bytes.now room.new) }
     ensures bytes { c.new.bytes ≡ c.old.bytes }
 {
     let _place = c.place(); // so that the prover knows that the bytes are few

@@ -2,10 +2,9 @@
 // That state has the lower registers' values of the exit, which stay in the bytes too.
 ghost use Rattle.std.specs.Prelude.{◌≡◌, ◌<◌, ◌↔◌, if◌then◌else◌, IsTrue, slice_index_or};
 ghost use Rattle.value_domain.specs.Values.{any_val, IsBelow};
-ghost use Rattle.value_domain.specs.State.{AreWellFormed, AreBelow};
-ghost use Rattle.value_domain.specs.State as states;
-ghost use Rattle.depth_cert.specs.Exits.{values_after_return_from};
-ghost use Rattle.packed_cert.specs.ValuesInBytes.{place_after_value, value_in_bytes, HasValueInBytes, values_in_bytes, HaveValuesInBytes};
+ghost use Rattle.value_domain.specs.State.{AreWellFormed, AreBelow, is_lower_slot};
+ghost use Rattle.depth_cert.specs.Exits.{values_after_return};
+ghost use Rattle.packed_cert.specs.ValuesInBytes.{place_after_value, decoded_value, decoded_values, PointsToValue, PointsToValues};
 
 use crate::certs::cert_bytes_below_256;
 use crate::covered_values::is_below_at_places;
@@ -27,13 +26,11 @@ pub(crate) struct ValuesAt<'a> {
 /// registers have the exit's values at `lower`, others the caller's `regs`.
 pub(crate) fn are_restored_below(regs: &[Val; 27], lower: ValuesAt<'_>, high: ValuesAt<'_>) -> bool
     requires well { AreWellFormed regs.now }
-    requires low { HaveValuesInBytes lower.version lower.bytes.now lower.place 14 }
-    requires high { HaveValuesInBytes high.version high.bytes.now high.place 27 }
+    requires low { PointsToValues lower 14 }
+    requires high { PointsToValues high 27 }
     ensures { IsTrue result
-        ↔ AreBelow
-        (values_after_return_from 0
-        (values_in_bytes lower.entry.version lower.entry.bytes.now lower.entry.place 14) regs.now)
-        (values_in_bytes high.entry.version high.entry.bytes.now high.entry.place 27) }
+        ↔ AreBelow (values_after_return (decoded_values lower.entry 14) regs.now)
+        (decoded_values high.entry 27) }
 {
     cert_bytes_below_256(high.bytes);
     let mut from = lower.place;
@@ -63,15 +60,12 @@ pub(crate) fn are_restored_below(regs: &[Val; 27], lower: ValuesAt<'_>, high: Va
 fn is_restored_below(regs: &[Val; 27], i: usize, low: ValuesAt<'_>, high: ValuesAt<'_>) -> bool
     requires place { i < 27 }
     requires well { AreWellFormed regs.now }
-    requires low { IsTrue (states.is_lower_slot i)
-        → HasValueInBytes low.version low.bytes.now low.place }
-    requires high { HasValueInBytes high.version high.bytes.now high.place }
+    requires low { IsTrue (is_lower_slot i) → PointsToValue low }
+    requires high { PointsToValue high }
     ensures { IsTrue result
         ↔ IsBelow
-        (if states.is_lower_slot i
-        then value_in_bytes low.entry.version low.entry.bytes.now low.entry.place
-        else slice_index_or regs.now i any_val)
-        (value_in_bytes high.entry.version high.entry.bytes.now high.entry.place) }
+        (if is_lower_slot i then decoded_value low.entry else slice_index_or regs.now i any_val)
+        (decoded_value high.entry) }
 {
     cert_bytes_below_256(low.bytes);
     cert_bytes_below_256(high.bytes);
@@ -88,10 +82,9 @@ fn is_restored_below(regs: &[Val; 27], i: usize, low: ValuesAt<'_>, high: Values
 /// Returns the place of the exit's value for the next lower register: the one after `low` if slot
 /// `i` is a lower register's, else `low`.
 fn next_exit_value_place(i: usize, low: ValuesAt<'_>) -> usize
-    requires { IsTrue (states.is_lower_slot i)
-        → HasValueInBytes low.version low.bytes.now low.place }
+    requires { IsTrue (is_lower_slot i) → PointsToValue low }
     ensures { result
-        ≡ (if states.is_lower_slot i then place_after_value low.entry.bytes.now low.entry.place
+        ≡ (if is_lower_slot i then place_after_value low.entry.bytes.now low.entry.place
         else low.entry.place) }
 {
     cert_bytes_below_256(low.bytes);

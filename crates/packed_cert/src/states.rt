@@ -2,6 +2,7 @@
 ghost use Rattle.std.specs.Prelude.{◌≡◌, ◌≤◌, ◌+◌, ◌↔◌, ◌==◌, if◌then◌else◌, IsTrue, length, ◌<◌, ◌-◌, false};
 ghost use Rattle.value_domain.specs.State.{AreWellFormed, Covers};
 ghost use Rattle.vd_transfer.specs.Changes.{state_after};
+ghost use Rattle.depth_cert.specs.Keys.{call_kind};
 ghost use Rattle.packed_cert.specs.ValuesInBytes.{values_in_bytes, HaveValuesInBytes};
 ghost use Rattle.packed_cert.specs.PointsInBytes.{flags_in_bytes, state_in_bytes, HasStateInBytes, IsStateAt};
 
@@ -157,8 +158,8 @@ impl<'a> StateAt<'a> {
 
 /// Returns IE and CCPN after a return: the exit's after a call, the caller's after a system call.
 fn ie_and_ccpn_after_return(s: &State, exit: &ExitAt<'_>, kind: u8) -> (bool, u8)
-    ensures ie { result.0 ≡ (if kind == 1 then exit.now.ie else s.now.ie) }
-    ensures ccpn { result.1 ≡ (if kind == 1 then exit.now.ccpn else s.now.ccpn) }
+    ensures ie { result.0 ≡ (if kind == call_kind then exit.now.ie else s.now.ie) }
+    ensures ccpn { result.1 ≡ (if kind == call_kind then exit.now.ccpn else s.now.ccpn) }
 {
     if kind == CALL {
         return (exit.ie(), exit.ccpn());

@@ -2,9 +2,8 @@
 // Fast path: a value whose bytes come again isn't read. Bytes are compared for many values at once.
 ghost use Rattle.std.specs.Prelude.{◌≡◌, ◌≤◌, ◌<◌, ◌+◌, ◌-◌, ℕ, List, length, Ok, Err, OnOk, IfOk, IfErr, IfSome};
 ghost use Rattle.packed_cert.specs.RepeatedBytes.{AreBytesRepeated, IsRepeatedStateAt};
-ghost use Rattle.packed_cert.specs.ValuesInBytes.{AreValuesInBytes, place_after_values};
+ghost use Rattle.packed_cert.specs.ValuesInBytes.{AreValuesInBytes, place_after_values, value_length_by_tag};
 ghost use Rattle.packed_cert.specs.ChangedRows.{ChangesOnlyRow, RowBeginsAtPlace, IsRowWithReadValue};
-ghost use Rattle.packed_cert.specs.ValuesInBytes as standing;
 ghost use Rattle.depth_cert.specs.Grammar.{values_at};
 
 use crate::places::{RepeatedState, StatePlaces, ValueRow, empty_row};
@@ -71,7 +70,7 @@ pub(crate) fn read_changed_values(
 /// Returns how many bytes an abstract value has in a certificate, by the first of them.
 #[inline(always)]
 pub(crate) fn value_length_by_tag(tag: u8) -> usize
-    ensures { result ≡ standing.value_length_by_tag tag }
+    ensures { result ≡ value_length_by_tag tag }
 {
     if tag <= MOST_WORDS {
         1 + 4 * tag as usize

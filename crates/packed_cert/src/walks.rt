@@ -1,6 +1,5 @@
 // The type `PointWalk`: the points of a node one after another, with room for one state.
-ghost use Rattle.std.specs.Prelude.{◌≡◌, ◌≤◌, ◌<◌, ◌-◌, ◌↔◌, [], drop, map, IfSome, IsTrue};
-ghost use Rattle.std.specs.List.Sorted.{IsStrictlyIncreasing};
+ghost use Rattle.std.specs.Prelude.{◌≡◌, ◌≤◌, ◌<◌, ◌-◌, ◌↔◌, [], drop, IfSome, IsTrue};
 ghost use Rattle.packed_cert.specs.PointsInBytes.{state_in_bytes, HasStateInBytes};
 ghost use Rattle.packed_cert.specs.ChangedRows.{ChangesOnlyRow};
 ghost use Rattle.packed_cert.specs.ValuesInBytes.{values_in_bytes, HaveValuesInBytes};
@@ -48,8 +47,7 @@ impl<'a> Model for PointWalk<'a> {
 }
 
 impl<'a> PointWalk<'a> {
-    ghost use Rattle.std.specs.List.{All};
-    ghost use Rattle.packed_cert.specs.PointsInBytes.{points_in_bytes, HasStateInBytes};
+    ghost use Rattle.packed_cert.specs.PointsInBytes.{points_in_bytes, AscendByAddress, PointsHaveStates};
     ghost use Rattle.value_domain.specs.State.{AreWellFormed};
     ghost use Rattle.vd_transfer.specs.Changes.{state_after};
     ghost use Rattle.packed_cert.specs.Moves.{AllDifferOnlyInRows};
@@ -72,8 +70,8 @@ impl<'a> PointWalk<'a> {
     /// Starts this walk again, before the first of these points of a certificate's node. The state
     /// at hand stays, as room for theirs.
     pub(crate) fn restart(&mut self, bytes: &'a [u8], version: u8, points: &'a [PointPlace])
-        requires states { All (λ p. HasStateInBytes version bytes.now p.place) points.now }
-        requires rising { IsStrictlyIncreasing (map (λ p. p.addr) points.now) }
+        requires states { PointsHaveStates version bytes.now points.now }
+        requires rising { AscendByAddress points.now }
         requires moves { AllDifferOnlyInRows version bytes.now points.now }
         ensures left { self.new.left ≡ points_in_bytes version bytes.now points.now }
         ensures points { self.new.points ≡ points_in_bytes version bytes.now points.now }

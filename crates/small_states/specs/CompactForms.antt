@@ -49,9 +49,17 @@ abbrev pub IsOutline : Known → Outline → Type 0
 IsOutline (state s) o = (s.ie ≡ o.ie) × (s.ccpn ≡ o.ccpn) × (length s.locals.items ≡ o.held)
 IsOutline (leaving x) o = ⊥
 
+-- the index in a compact list that is `others` unknown values after the first n known ones
+abbrev pub index_after_known : Values → ℕ → ℕ → ℕ
+index_after_known v n others = length (values_to_last_known (take n v.known.items)) + others
+
+-- a compact list has at least `others` unknown values right before its known value number n
+abbrev pub HasUnknownsBefore : Values → ℕ → ℕ → Type 0
+HasUnknownsBefore v n others = (d : SpacedValue) → others ≤ (slice_index_or v.known.items n d).anys
+
 -- the index i of a compact list is after n known values and `others` unknown ones, before the next
 -- known value
 pub record IsIndexAfter (v : Values) (i n others : ℕ) : Type 0 where
   pub within : n ≤ length v.known.items
-  pub at : i ≡ length (values_to_last_known (take n v.known.items)) + others
-  pub before : n < length v.known.items → (d : SpacedValue) → others ≤ (slice_index_or v.known.items n d).anys
+  pub at : i ≡ index_after_known v n others
+  pub before : n < length v.known.items → HasUnknownsBefore v n others

@@ -1,13 +1,12 @@
 // Lists of compact values: made from what flows in, compared with it, joined with it.
-ghost use Rattle.std.specs.Prelude.{◌≡◌, ◌↔◌, IsTrue, IfOk, OnOk, length, ◌<◌, ◌-◌, ◌==◌, nat_lt, slice_index_or, if◌then◌else◌, ◌≤◌};
+ghost use Rattle.std.specs.Prelude.{◌≡◌, ◌↔◌, IsTrue, IfOk, OnOk, length, ◌<◌, ◌-◌, ◌==◌, slice_index_or, ◌≤◌};
 ghost use Rattle.value_domain.specs.State.{AreBelow, AreInLattice, AreWellFormed, joined_regs};
-ghost use Rattle.vd_transfer.specs.Changes.{base_values, with_write, state_after};
-ghost use Rattle.vd_transfer.specs.EffectsOnStates.{with_lower_unknown_from};
+ghost use Rattle.vd_transfer.specs.Changes.{base_values, changed_values, with_write, state_after};
+ghost use Rattle.vd_transfer.specs.EffectsOnStates.{with_lower_unknown};
 ghost use Rattle.small_states.specs.Incoming.{sender_state, incoming_values, incoming_value_of};
 ghost use Rattle.small_states.specs.CompactForms.{all_values};
 ghost use Rattle.value_domain.specs.Values.{any_val};
-ghost use Rattle.value_domain.specs.State as states;
-ghost use Rattle.depth_cert.specs.Exits.{values_after_return_from};
+ghost use Rattle.depth_cert.specs.Exits.{value_after_return, values_after_return};
 
 use crate::SmallExit;
 use crate::incoming::{Given, Incoming};
@@ -203,9 +202,8 @@ fn copy_from_sender(alloc: Global, own: &Values, incoming: &Incoming) -> Result<
 #[inline(always)]
 fn apply_change(alloc: Global, own: &Rc<Values>, c: &Change) -> Result<Rc<Values>, AllocError>
     requires { length (all_values own.now.value) ≡ 27 }
-    ensures { IfOk result (λ values. all_values values.value ≡ with_write (with_write
-        (with_write (base_values c.now.base (all_values own.now.value)) c.now.first) c.now.second)
-        c.now.third) }
+    ensures { IfOk result (λ values. all_values values.value
+        ≡ changed_values c.now (all_values own.now.value)) }
 {
     if c.first.at.is_none() && c.second.at.is_none() && c.third.at.is_none() {
         if let Base::Same = c.base {
@@ -252,8 +250,7 @@ fn apply_write(alloc: Global, values: &mut Values, write: &RegisterWrite) -> Res
 #[inline(never)]
 fn without_lower_values(alloc: Global, own: &Values) -> Result<Values, AllocError>
     requires { length (all_values own.now) ≡ 27 }
-    ensures { IfOk result (λ values. all_values values
-        ≡ with_lower_unknown_from 0 (all_values own.now)) }
+    ensures { IfOk result (λ values. all_values values ≡ with_lower_unknown (all_values own.now)) }
 {
     let mut values = Values {
         known: Vec::with_capacity(alloc, own.known.len() + 1)?,
@@ -293,7 +290,7 @@ fn value_after_return<'a>(s: &'a State, exit: &'a SmallExit, any: &'a Small, i: 
     requires place { i < 27 }
     requires any { any.now ≡ any_val }
     ensures { incoming_value_of result
-        ≡ slice_index_or (values_after_return_from 0 (all_values exit.now.lower.value) s.now.regs) i
+        ≡ slice_index_or (values_after_return (all_values exit.now.lower.value) s.now.regs) i
         any_val }
 {
     let _regs = &s.regs[..];
@@ -328,10 +325,7 @@ fn base_value<'a>(s: &'a State, base: Base, any: &'a Small, i: usize) -> Given<'
 fn lower_or_caller_value<'a>(i: usize, exit: &'a SmallExit, any: &'a Small, v: &'a Val) -> Given<'a>
     requires { any.now ≡ any_val }
     ensures { incoming_value_of result
-        ≡ (if states.is_lower_slot i
-        then slice_index_or (all_values exit.now.lower.value)
-        (if nat_lt i 8 then i else i - 8) any_val
-        else v.now) }
+        ≡ value_after_return i (all_values exit.now.lower.value) v.now }
 {
     if i < 8 {
         exit.lower.as_ref().value_or_any(any, i)

@@ -2,7 +2,7 @@
 ghost use Rattle.std.specs.Prelude.{◌≡◌, ◌++◌, All, OnOk, Some, replicate};
 ghost use Rattle.std.specs.List.{flat_map};
 ghost use Rattle.value_domain.specs.Values.{IsWellFormed};
-ghost use Rattle.depth_cert.specs.Keys as keys;
+ghost use Rattle.depth_cert.specs.Keys.{cert_flag_byte};
 ghost use Rattle.depth_cert.specs.Spelling.{bytes_of_exit, bytes_of_state, bytes_of_value};
 ghost use Rattle.small_states.specs.CompactForms.{all_values, whole_exit, whole_state};
 
@@ -15,7 +15,7 @@ use tcd_base::NoMemory;
 /// Returns the byte that spells a flag of a compact state or exit: 1 or 0.
 #[inline(always)]
 fn flag_as_byte(x: bool) -> u8
-    ensures { result ≡ keys.cert_flag_byte x }
+    ensures { result ≡ cert_flag_byte x }
 {
     if x { 1 } else { 0 }
 }

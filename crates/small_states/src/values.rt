@@ -1,9 +1,8 @@
 // Sparse lists of values: only known values take room. A value is unknown if it holds all words.
 ghost use Rattle.std.specs.Prelude.{◌≡◌, ◌+◌, ◌-◌, ◌^◌, ◌<◌, ◌≤◌, ◌++◌, ◌∷◌, [], IfOk, OnOk, length, replicate, take, slice_index_or, slice_set, IsTrue};
 ghost use Rattle.value_domain.specs.Values.{any_val};
-ghost use Rattle.small_states.specs.CompactForms.{all_values, values_to_last_known, values_from, IsIndexAfter};
+ghost use Rattle.small_states.specs.CompactForms.{all_values, HasUnknownsBefore, index_after_known, values_to_last_known, values_from, IsIndexAfter};
 ghost use Rattle.small_states.specs.Incoming.{incoming_value_of};
-ghost use Rattle.small_states.specs.declared.values.SpacedValue as spaced;
 ghost use Rattle.value_domain.specs.State.{AreBelow, AreWellFormed};
 
 use crate::incoming::Given;
@@ -213,12 +212,10 @@ impl Values {
     /// next known value, or an unknown one before.
     fn set_before_known(&mut self, n: usize, anys: usize, value: Small) -> Result<(), AllocError>
         requires within { n < length self.old.known.items }
-        requires before { (d : spaced.SpacedValue)
-            → anys ≤ (slice_index_or self.old.known.items n d).anys }
+        requires before { HasUnknownsBefore self.old n anys }
         ensures { OnOk result
             (all_values self.new
-            ≡ slice_set (all_values self.old)
-            (length (values_to_last_known (take n self.old.known.items)) + anys) value) }
+            ≡ slice_set (all_values self.old) (index_after_known self.old n anys) value) }
     {
         let past = self.known[n].anys as usize - anys;
         if past == 0 {

@@ -1,5 +1,5 @@
 -- The value that a load from the members of a value gives.
-use Rattle.std.specs.Prelude.{◌<◌, ◌+◌, ◌-◌, ◌*◌, ◌^◌, ◌==◌, ℕ, zero, suc, Bool, List, [], ◌∷◌, map, find, if◌then◌else◌, Option, Some, None, IsSome, option_and_then}
+use Rattle.std.specs.Prelude.{◌<◌, ◌+◌, ◌-◌, ◌*◌, ◌^◌, ◌==◌, ◌&&◌, ℕ, zero, suc, Bool, List, [], ◌∷◌, map, find, if◌then◌else◌, Option, Some, None, IsSome, option_and_then}
 use Rattle.std.specs.List.{list_all, list_any, flat_map}
 use Rattle.std.specs.Option.{option_map}
 use Rattle.csa_chain.specs.MemoryBytes.{Memory, loaded_number, load_result, HasOnlyBytes}
@@ -28,6 +28,10 @@ number_in_image image x (suc n) = option_and_then (λ b. option_map (λ w. b + 2
 -- the number that a load gets from n bytes at x, if one rom range and segments hold them; else none
 abbrev pub rom_number : ImageData → PlanData → ℕ → ℕ → Option ℕ
 rom_number image plan x n = if list_any (is_within_range x n) plan.rom then number_in_image image x n else None
+
+-- the first of these peripherals whose range holds an access of n bytes both at low and at high
+abbrev pub first_device_holding : List Device → ℕ → ℕ → ℕ → Option Device
+first_device_holding devices low high n = find (λ d. is_within_range low n d.range && is_within_range high n d.range) devices
 
 -- the first peripheral whose range holds a word at each address; None for accesses of other sizes
 abbrev pub device_of_loads : PlanData → ℕ → List ℕ → Option Device

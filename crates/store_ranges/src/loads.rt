@@ -1,13 +1,11 @@
 // The value that a load from the members of a value gives.
-ghost use Rattle.std.specs.Prelude.{◌≡◌, ◌≤◌, ◌<◌, ◌+◌, ◌-◌, ◌*◌, ◌^◌, ◌++◌, ◌&&◌, ◌==◌, if◌then◌else◌, find, length, IfSome, false};
+ghost use Rattle.std.specs.Prelude.{◌≡◌, ◌≤◌, ◌<◌, ◌+◌, ◌-◌, ◌*◌, ◌^◌, ◌++◌, ◌==◌, if◌then◌else◌, length, IfSome, false};
 ghost use Rattle.std.specs.List.{flat_map};
-ghost use Rattle.csa_chain.specs.MemoryBytes as memory;
-ghost use Rattle.tcd_base.specs.Ranges.{is_within_range};
+ghost use Rattle.csa_chain.specs.MemoryBytes.{load_result};
 ghost use Rattle.value_domain.specs.Values.{IsInLattice, cover, members};
 ghost use Rattle.value_domain.specs.declared.values.Val.TheVariants.{Set, Span};
 ghost use Rattle.store_ranges.specs.Accesses.{IsAccessSize};
-ghost use Rattle.store_ranges.specs.Loads as loads;
-ghost use Rattle.store_ranges.specs.Loads.{HoldsLoads, all_loaded_words, loaded_words_at, load_value_of};
+ghost use Rattle.store_ranges.specs.Loads.{HoldsLoads, all_loaded_words, answers_to_load, device_of_loads, first_device_holding, loaded_words_at, load_value_of};
 
 use crate::ranges::device_of_accesses;
 use crate::rom::rom_number;
@@ -77,8 +75,8 @@ fn write_loads(b: &Bounds, image: &Image, plan: &Plan, words: &[u32], load: Load
 fn write_loads_from_span(b: &Bounds, plan: &Plan, at: &Val, load: LoadKind, out: &mut Val)
     requires at { IsInLattice b.now at.now }
     requires size { IsAccessSize load.size }
-    ensures loaded { out.new ≡ cover b.now (loads.answers_to_load load.size load.signed
-        (loads.device_of_loads plan.now load.size (members at.now))) }
+    ensures loaded { out.new ≡ cover b.now (answers_to_load load.size load.signed
+        (device_of_loads plan.now load.size (members at.now))) }
     ensures value { IsInLattice b.now out.new }
 {
     let e = extent_of(at);
@@ -122,10 +120,7 @@ fn join_load_at(b: &Bounds, image: &Image, plan: &Plan, x: u32, load: LoadKind, 
 /// gets its word. `None` if there is none, or for fewer than 4 bytes.
 fn device_of_load(plan: &Plan, low: u32, high: u32, size: u8) -> Option<Device>
     ensures device { result
-        ≡ (if size == 4
-        then find (λ d. is_within_range low 4 d.range && is_within_range high 4 d.range)
-        plan.now.devices
-        else None) }
+        ≡ (if size == 4 then first_device_holding plan.now.devices low high 4 else None) }
     ensures bounds { IfSome result (λ d. d.lo ≤ d.hi) }
 {
     if size != 4 {
@@ -139,7 +134,7 @@ fn device_of_load(plan: &Plan, low: u32, high: u32, size: u8) -> Option<Device>
 fn extend_loaded_number(number: u32, load: LoadKind) -> u32
     requires size { IsAccessSize load.size }
     requires below { number < 2 ^ (8 * load.size) }
-    ensures { result ≡ memory.load_result load.signed load.size number }
+    ensures { result ≡ load_result load.signed load.size number }
 {
     if load.signed {
         sext(number, 8 * load.size)
@@ -153,9 +148,9 @@ fn extend_loaded_number(number: u32, load: LoadKind) -> u32
 fn write_peripheral_answers(b: &Bounds, device: Option<Device>, load: LoadKind, out: &mut Val)
     requires size { IsAccessSize load.size }
     requires bounds { IfSome device (λ d. d.lo ≤ d.hi) }
-    ensures cover { out.new ≡ cover b.now (loads.answers_to_load load.size load.signed device) }
+    ensures cover { out.new ≡ cover b.now (answers_to_load load.size load.signed device) }
     ensures value { IsInLattice b.now out.new }
-    ensures some { 1 ≤ length (loads.answers_to_load load.size load.signed device) }
+    ensures some { 1 ≤ length (answers_to_load load.size load.signed device) }
 {
     match device {
         Some(device) => write_cover(b, device.lo, device.hi, 0, out),
@@ -214,7 +209,7 @@ fn join_peripheral_answers(b: &Bounds, device: Option<Device>, load: LoadKind, o
     requires bounds { IfSome device (λ d. d.lo ≤ d.hi) }
     requires value { IsInLattice b.now out.old }
     ensures cover { out.new
-        ≡ cover b.now (members out.old ++ loads.answers_to_load load.size load.signed device) }
+        ≡ cover b.now (members out.old ++ answers_to_load load.size load.signed device) }
     ensures value { IsInLattice b.now out.new }
 {
     let mut answers = Val::any();

@@ -2,8 +2,9 @@
 ghost use Rattle.std.specs.Prelude.{◌≡◌, ◌&&◌, find, ◌≤◌, ◌<◌, ◌-◌, ◌*◌, ◌/◌, ◌↔◌, All, IsTrue, MatchOption, ◌+◌, ◌^◌};
 ghost use Rattle.tcd_base.specs.Ranges.{is_within_range};
 ghost use Rattle.tcd_plan.specs.MappedAddresses.{IsStoreInRange};
-ghost use Rattle.value_domain.specs.Sets as sets;
+ghost use Rattle.value_domain.specs.Sets.{alignment_log2};
 ghost use Rattle.value_domain.specs.declared.values.Val.TheVariants.{Span};
+ghost use Rattle.store_ranges.specs.Loads.{first_device_holding};
 ghost use Rattle.store_ranges.specs.Accesses.{AreStoresInRange, AreStoresInRangeUntil, IsNextStoreAddress};
 
 use tcd_base::Range;
@@ -20,8 +21,7 @@ pub(crate) fn range_of_store(ranges: &[Range], x: u32, n: u8) -> Option<Range>
 /// Returns the first peripheral whose range holds an access of `n` bytes both at `low` and at
 /// `high`, or `None`.
 pub(crate) fn device_of_accesses(devices: &[Device], low: u32, high: u32, n: u8) -> Option<Device>
-    ensures { result ≡ find (λ d. is_within_range low n d.range && is_within_range high n d.range)
-        devices.now }
+    ensures { result ≡ first_device_holding devices.now low high n }
 {
     let n = u32::from(n);
     devices
@@ -55,7 +55,7 @@ pub fn is_store_in_range(plan: &Plan, x: u32, size: u8) -> bool
 /// asks. Walks from range to range, not from member to member.
 pub(crate) fn is_span_store_in_range(plan: &Plan, least: u32, last: u32, step: u8, size: u8) -> bool
     requires step { step ≤ 2 }
-    requires least { step ≤ sets.alignment_log2 least }
+    requires least { step ≤ alignment_log2 least }
     ensures { IsTrue result ↔ AreStoresInRange plan.now (Span least last step) size }
 {
     let mut x = u64::from(least);

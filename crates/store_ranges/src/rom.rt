@@ -4,8 +4,7 @@ ghost use Rattle.std.specs.Bool.{OnTrue};
 ghost use Rattle.std.specs.List.{list_any};
 ghost use Rattle.elf_image.specs.Images.{image_byte};
 ghost use Rattle.tcd_base.specs.Ranges.{is_within_range};
-ghost use Rattle.store_ranges.specs.Loads as loads;
-ghost use Rattle.store_ranges.specs.Loads.{IsLoadedRom};
+ghost use Rattle.store_ranges.specs.Loads.{IsLoadedRom, number_in_image, rom_number};
 
 use elf_image::Image;
 use tcd_base::is_in_one_range;
@@ -26,7 +25,7 @@ pub fn loaded_rom(image: &Image, plan: &Plan, addr: u32, len: u8) -> bool
 /// no rom range or segment has them.
 pub(crate) fn rom_number(image: &Image, plan: &Plan, x: u32, n: u8) -> Option<u32>
     requires { n ≤ 4 }
-    ensures value { result ≡ loads.rom_number image.now plan.now x n }
+    ensures value { result ≡ rom_number image.now plan.now x n }
     ensures small { IfSome result (λ w. w < 2 ^ (8 * n)) }
 {
     if !is_in_rom(plan, x, n) {
@@ -61,7 +60,7 @@ fn are_bytes_in_image(image: &Image, x: u32, n: u8) -> bool
 fn number_in_image(image: &Image, x: u32, n: u8) -> Option<u32>
     requires few { n ≤ 4 }
     requires fits { x + n ≤ 2 ^ 32 }
-    ensures value { result ≡ loads.number_in_image image.now x n }
+    ensures value { result ≡ number_in_image image.now x n }
     ensures small { IfSome result (λ w. w < 2 ^ (8 * n)) }
 {
     let mut number = 0;

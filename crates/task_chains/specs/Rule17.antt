@@ -88,6 +88,10 @@ pub record MayHavePointAt (tasks : TasksData) (key : Key) (p : ℕ) : Type 0 whe
 abbrev pub KeepsRule17AtPoint : Limits → ImageData → PlanData → TasksData → Key → Point → Type 0
 KeepsRule17AtPoint b view plan tasks key point = (shape : Shape) (n : ℕ) → IsCode view plan point.addr shape n → KeepsRule17ByShape b plan tasks key point.addr point.state shape
 
+-- K17 at all points of a node, under these limits
+abbrev pub KeepsRule17InNode : Limits → ImageData → PlanData → TasksData → NodeData → Type 0
+KeepsRule17InNode b view plan tasks node = All (KeepsRule17AtPoint b view plan tasks node.key) node.points
+
 -- p is the least address of a node's points at which K17 fails
 pub record IsRule17NodeFault (b : Limits) (view : ImageData) (plan : PlanData) (tasks : TasksData) (node : NodeData) (p : ℕ) : Type 0 where
   pub point : Point

@@ -2,7 +2,7 @@
 ghost use Rattle.std.specs.Prelude.{All, IfNone, IfSome};
 ghost use Rattle.value_domain.specs.State.{AreInLattice};
 ghost use Rattle.cfg_recover.specs.RulesHoldOrFail.{Accepts};
-ghost use Rattle.task_chains.specs.Rule17.{KeepsRule17, IsRule17Fault, KeepsRule17AtPoint, IsRule17NodeFault};
+ghost use Rattle.task_chains.specs.Rule17.{KeepsRule17, IsRule17Fault, KeepsRule17InNode, IsRule17NodeFault};
 
 use crate::Tasks;
 use crate::rule_17::{TasksRule, keeps_rule_17};
@@ -52,9 +52,7 @@ fn first_fault_in_node<'a>(
 ) -> Option<u32>
     requires { All (λ p. AreInLattice rule.now.bounds.now p.state.regs) node.now.points }
     ensures none { let r = rule.now in
-        IfNone result
-        (All (KeepsRule17AtPoint r.bounds.now r.view.now r.plan.now r.tasks.now node.now.key)
-        node.now.points) }
+        IfNone result (KeepsRule17InNode r.bounds.now r.view.now r.plan.now r.tasks.now node.now) }
     ensures some { let r = rule.now in
         IfSome result (IsRule17NodeFault r.bounds.now r.view.now r.plan.now r.tasks.now node.now) }
 {

@@ -1,8 +1,8 @@
 // The bytes of the switch routine and of a view's, and the test that an image has the routine.
-ghost use Rattle.std.specs.Prelude.{◌≡◌, ◌≤◌, ◌<◌, ◌+◌, ◌*◌, ◌/◌, ◌%◌, ◌^◌, ◌↔◌, IsTrue, IfNone, IfSome, slice_index, ◌-◌, ℕ};
+ghost use Rattle.std.specs.Prelude.{◌≡◌, ◌≤◌, ◌<◌, ◌+◌, ◌*◌, ◌/◌, ◌%◌, ◌^◌, ◌↔◌, IsTrue, IfNone, IfSome, slice_index, ◌-◌};
 ghost use Rattle.std.specs.List.{flat_map};
 ghost use Rattle.tcd_base.specs.Bytes.{four_bytes};
-ghost use Rattle.task_chains.specs.SwitchRoutine.{switch_routine_of, bytes_of_instructions, switch_routine_bytes, HasRoutineByte, HasRoutine, IsRoutineFault, view_routine_of, view_routine_bytes};
+ghost use Rattle.task_chains.specs.SwitchRoutine.{switch_routine_of, bytes_of_instructions, switch_routine_bytes, HasRoutineByte, HasRoutine, IsRoutineFault, IsRoutineInstruction, view_routine_of, view_routine_bytes};
 ghost use Rattle.tcd_base.specs.Ranges.{IsInOneRange};
 
 use crate::Tasks;
@@ -65,7 +65,7 @@ pub fn routine_fault(image: &Image, plan: &Plan, tasks: &Tasks) -> Option<u32>
 
 /// Returns whether an address is that of one of the switch routine's 18 instructions.
 pub(crate) fn is_routine_instruction(tasks: &Tasks, addr: u32) -> bool
-    ensures { IsTrue result ↔ ((i : ℕ) × (i < 18) × (addr ≡ tasks.now.switch + 4 * i)) }
+    ensures { IsTrue result ↔ IsRoutineInstruction tasks.now addr }
 {
     if addr < tasks.switch {
         return false;

@@ -112,6 +112,11 @@ unfoldable pub with_reference : DraftData → ℕ → Option ReferenceData → D
 with_reference d size None = d
 with_reference d size (Some r) = if is_source_name r.name then with_use (record d { symbols = with_name d.symbols r.name }) size r else d
 
+-- the draft of the first pass with the symbol of a reference, if there is one, in its table: a use
+-- by no bytes isn't noted
+abbrev pub with_symbol_of_reference : DraftData → Option ReferenceData → DraftData
+with_symbol_of_reference d r = with_reference d 0 r
+
 -- the draft after bytes are added at the end of its current section, with their symbol if they have
 -- one
 abbrev pub with_content : DraftData → List ℕ → Option ReferenceData → DraftData

@@ -8,7 +8,7 @@ use Rattle.tc_stmt.specs.Items.{ReferenceData, ItemData, code}
 use Rattle.tc_stmt.specs.Lines.{lines_in, items_in}
 use Rattle.tc_asm.specs.Drafts.{empty_draft}
 use Rattle.tc_asm.specs.DraftedSources.{symbols_of_lines}
-use Rattle.tc_asm.specs.Rules.{LinesKeepRules}
+use Rattle.tc_asm.specs.Rules.{AllLinesKeepRules}
 use Rattle.tc_asm.specs.Statements.{statement_data, statements_from, statements_in}
 
 -- what the law of instructions says of assembled bytes: they spell an instruction of the listed row
@@ -37,5 +37,5 @@ pub record IsAssembledInstruction (source : List ℕ) (before : List ItemData) (
 
 -- each instruction among the items of a source that breaks no rule spells its row
 abbrev pub InstructionsLaw : Type 0
-InstructionsLaw = (source : List ℕ) (before after : List ItemData) (place : ℕ) (f : Fields) (o : Option ReferenceData) → LinesKeepRules (lines_in source) (length (lines_in source))
+InstructionsLaw = (source : List ℕ) (before after : List ItemData) (place : ℕ) (f : Fields) (o : Option ReferenceData) → AllLinesKeepRules (lines_in source)
     → items_in (lines_in source) ≡ before ++ code place f o ∷ after → IsAssembledInstruction source before place f o

@@ -37,10 +37,14 @@ abbrev pub relocs_of_sections : List SymbolData → ℕ → List DraftSectionDat
 relocs_of_sections ss section [] = []
 relocs_of_sections ss section (p ∷ ps) = map (reloc_of ss section) p.uses ++ relocs_of_sections ss (section + 1) ps
 
+-- the relocations of all sections of a draft, one for each use of a symbol, in order
+abbrev pub relocs_of_all_sections : List SymbolData → List DraftSectionData → List Reloc
+relocs_of_all_sections ss ps = relocs_of_sections ss 0 ps
+
 -- the object: sections and symbols in the order of the source, relocations in the order of their
 -- places
 abbrev pub object_of_draft : DraftData → ObjectData
-object_of_draft d = record { sections = map section_of d.parts; symbols = map symbol_of d.symbols; relocs = relocs_of_sections d.symbols 0 d.parts }
+object_of_draft d = record { sections = map section_of d.parts; symbols = map symbol_of d.symbols; relocs = relocs_of_all_sections d.symbols d.parts }
 
 -- the law of the object that a draft becomes: its sections are those that the source's statements
 -- make

@@ -86,6 +86,10 @@ rule_of_source_line lines k l = line_rule (symbols_of_lines lines) (draft_from_l
 abbrev pub LinesKeepRules : List LineData → ℕ → Type 0
 LinesKeepRules lines n = (k : ℕ) (d : LineData) → k < n → rule_of_source_line lines k (slice_index_or lines k d) ≡ no_rule
 
+-- no line of a source breaks a rule
+abbrev pub AllLinesKeepRules : List LineData → Type 0
+AllLinesKeepRules lines = LinesKeepRules lines (length lines)
+
 -- the number of the first line of a source that breaks a rule, and the least of the rules that it
 -- breaks after the draft of the lines before it
 pub record IsFirstBrokenLine (lines : List LineData) (line rule : ℕ) : Type 0 where

@@ -1,6 +1,6 @@
 -- Jumps and calls of 16 bits: the distances that they take, and the law that they reach their
 -- labels.
-use Rattle.std.specs.Prelude.{◌≡◌, ◌+◌, ◌%◌, ◌^◌, ℕ, if◌then◌else◌, List, length, slice_get, Some}
+use Rattle.std.specs.Prelude.{◌≡◌, ◌+◌, ◌%◌, ◌^◌, ℕ, if◌then◌else◌, List, slice_get, Some}
 use Rattle.tc_isa.specs.declared.fields.Fields.{Fields}
 use Rattle.tc_isa.specs.Rows.{RowData}
 use Rattle.tc_isa.specs.Forms.{is_sbr_form}
@@ -10,7 +10,7 @@ use Rattle.tc_asm.specs.declared.symbols.Place.{Place}
 use Rattle.tc_stmt.specs.Lines.{lines_in}
 use Rattle.tc_asm.specs.Symbols.{place_in}
 use Rattle.tc_asm.specs.DraftedSources.{symbols_in}
-use Rattle.tc_asm.specs.Rules.{LinesKeepRules}
+use Rattle.tc_asm.specs.Rules.{AllLinesKeepRules}
 use Rattle.tc_asm.specs.Objects.{assembled_addend}
 use Rattle.tc_asm.specs.Statements.{StatementData, statement_offset, statements_in}
 use Rattle.tc_asm.specs.InstructionLaws.{InstructionSpellsRow}
@@ -34,5 +34,5 @@ pub record ReachesLabel (source : List ℕ) (index : ℕ) (t : StatementData) (r
 -- each statement of a source that breaks no rule, if its symbol takes no relocation, reaches the
 -- symbol's label
 abbrev pub ShortJumpsLaw : Type 0
-ShortJumpsLaw = (source : List ℕ) (index : ℕ) (t : StatementData) (r : ReferenceData) → LinesKeepRules (lines_in source) (length (lines_in source)) → slice_get (statements_in source) index ≡ Some t → t.reference ≡ Some r → r.kind ≡ 0
+ShortJumpsLaw = (source : List ℕ) (index : ℕ) (t : StatementData) (r : ReferenceData) → AllLinesKeepRules (lines_in source) → slice_get (statements_in source) index ≡ Some t → t.reference ≡ Some r → r.kind ≡ 0
     → ReachesLabel source index t r

@@ -7,7 +7,7 @@ use Rattle.tc_object.specs.declared.relocs.Reloc.{Reloc}
 use Rattle.tc_stmt.specs.Lines.{lines_in}
 use Rattle.tc_asm.specs.Symbols.{SymbolData, symbol_number}
 use Rattle.tc_asm.specs.DraftedSources.{draft_in, symbols_in, section_names_in}
-use Rattle.tc_asm.specs.Rules.{LinesKeepRules}
+use Rattle.tc_asm.specs.Rules.{AllLinesKeepRules}
 use Rattle.tc_asm.specs.Objects.{object_of_draft, assembled_addend}
 use Rattle.tc_asm.specs.Statements.{StatementData, statements_in, has_unresolved_symbol}
 
@@ -39,7 +39,7 @@ relocs_of_statements symbols ts section (name ∷ names) = section_relocs_of sym
 
 -- the relocations of an object are those of the statements that wait for addresses
 abbrev pub RelocationsLaw : Type 0
-RelocationsLaw = (source : List ℕ) → LinesKeepRules (lines_in source) (length (lines_in source))
+RelocationsLaw = (source : List ℕ) → AllLinesKeepRules (lines_in source)
     → (object_of_draft (draft_in source)).relocs ≡ relocs_of_statements (symbols_in source) (statements_in source) 0 (section_names_in source)
 
 -- the fields that relocations fill are zero: writing zero there changes nothing

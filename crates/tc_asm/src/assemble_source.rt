@@ -4,8 +4,8 @@ ghost use Rattle.tc_stmt.specs.Items.{item_of};
 ghost use Rattle.tc_stmt.specs.Lines.{lines_in, items_in};
 ghost use Rattle.tc_asm.specs.ItemInvariants.{IsAddedItem};
 ghost use Rattle.tc_asm.specs.Drafts.{empty_draft, draft_after_item};
-ghost use Rattle.tc_asm.specs.DraftedSources.{draft_from_lines, symbols_of_lines as symbols_in};
-ghost use Rattle.tc_asm.specs.Rules.{LinesKeepRules, IsFirstBrokenLine};
+ghost use Rattle.tc_asm.specs.DraftedSources.{draft_from_lines, draft_in, symbols_of_lines};
+ghost use Rattle.tc_asm.specs.Rules.{AllLinesKeepRules, IsFirstBrokenLine};
 ghost use Rattle.tc_asm.specs.KnownSymbols.{kept, are_new};
 ghost use Rattle.tc_asm.specs.Objects.{object_of_draft};
 ghost use Rattle.tc_asm.specs.Errors.{IfBadLine};
@@ -25,11 +25,8 @@ use tc_stmt::{Item, NO_RULE, Source, read_source};
 /// counted from 1, with the least such rule.
 pub fn assemble(alloc: Global, source: &[u8]) -> Result<Object, AsmErr>
     requires { length source.now ≤ 2 ^ 30 }
-    ensures ok { IfOk result
-        (λ o. o ≡ object_of_draft (draft_from_lines (symbols_in (lines_in source.now))
-        (lines_in source.now))) }
-    ensures kept { OnOk result
-        (LinesKeepRules (lines_in source.now) (length (lines_in source.now))) }
+    ensures ok { IfOk result (λ o. o ≡ object_of_draft (draft_in source.now)) }
+    ensures kept { OnOk result (AllLinesKeepRules (lines_in source.now)) }
     ensures bad { IfErr result (IfBadLine (IsFirstBrokenLine (lines_in source.now))) }
 {
     let read = read_source(alloc, source)?;
@@ -50,13 +47,12 @@ fn draft_of_lines<'a>(
     source: &Source<'a>,
 ) -> Result<Draft<'a>, AsmErr>
     requires few { length source.now.lines.items < 2 ^ 32 }
-    requires labels { labels.now ≡ symbols_in (source_lines source.now) }
+    requires labels { labels.now ≡ symbols_of_lines (source_lines source.now) }
     requires known { known ≡ true
         → are_new labels.now empty_draft (items_in (source_lines source.now)) ≡ true }
     ensures ok { IfOk result
         (λ d. kept known d ≡ kept known (draft_from_lines labels.now (source_lines source.now))) }
-    ensures rules { OnOk result
-        (LinesKeepRules (source_lines source.now) (length (source_lines source.now))) }
+    ensures rules { OnOk result (AllLinesKeepRules (source_lines source.now)) }
     ensures whole { OnOk result (IsDraft (draft_from_lines labels.now (source_lines source.now))) }
     ensures bad { IfErr result (IfBadLine (IsFirstBrokenLine (source_lines source.now))) }
 {

@@ -49,11 +49,11 @@ pub(crate) const MOST_SECTIONS: usize = 64;
 const NO_NUMBER: usize = 64;
 
 impl<'a> Draft<'a> {
-    ghost use Rattle.std.specs.Prelude.{◌≡◌, [], OnOk, IfOk, Some, option_map, replicate};
-    ghost use Rattle.tc_stmt.specs.Items.{reference_of, item_of, label, code, bytes as data_item};
+    ghost use Rattle.std.specs.Prelude.{◌≡◌, [], OnOk, IfOk, Some, replicate};
+    ghost use Rattle.tc_stmt.specs.Items.{reference_of, reference_if_any, item_of, label, code, bytes as data_item};
     ghost use Rattle.tc_asm.specs.ItemInvariants.{IsAddedCode, IsAddedData, IsAddedItem, AddedSymbolIsNamed};
-    ghost use Rattle.tc_asm.specs.AlikeDrafts.{HaveSameSizesAndSymbols};
-    ghost use Rattle.tc_asm.specs.Drafts.{DraftData, empty_draft, next_byte_offset, has_current_section, has_room, with_label, with_current_section, with_global, with_bytes, with_use, with_reference, with_content, draft_after_item};
+    ghost use Rattle.tc_asm.specs.AlikeDrafts.{TracksSizesAndSymbols};
+    ghost use Rattle.tc_asm.specs.Drafts.{empty_draft, next_byte_offset, has_current_section, has_room, with_label, with_current_section, with_global, with_bytes, with_use, with_reference, with_symbol_of_reference, with_content, draft_after_item};
     ghost use Rattle.tc_asm.specs.Symbols.{with_name};
     ghost use Rattle.tc_asm.specs.KnownSymbols.{is_new};
 
@@ -136,7 +136,7 @@ impl<'a> Draft<'a> {
         r: &Option<Reference<'a>>,
     ) -> Result<(), AllocError>
         ensures { OnOk result
-            (self.new ≡ with_content self.old bytes.now (option_map reference_of r.now)) }
+            (self.new ≡ with_content self.old bytes.now (reference_if_any r.now)) }
     {
         self.add_reference(bytes.len(), r)?;
         self.add_bytes(bytes)
@@ -183,8 +183,7 @@ impl<'a> Draft<'a> {
     ) -> Result<bool, AllocError>
         requires none { none.now ≡ [] }
         requires added { IsAddedItem (item_of item.now) }
-        ensures alike { OnOk result ((d : DraftData) → HaveSameSizesAndSymbols self.old d
-            → HaveSameSizesAndSymbols self.new (draft_after_item [] d (item_of item.now))) }
+        ensures alike { OnOk result (TracksSizesAndSymbols (item_of item.now) self.old self.new) }
         ensures new { IfOk result (λ new. new ≡ is_new self.old.symbols (item_of item.now)) }
     {
         match item {
@@ -210,8 +209,7 @@ impl<'a> Draft<'a> {
     #[inline(always)]
     #[tactic(auto, unfolding(crate::specs::Drafts::with_reference))]
     fn add_reference(&mut self, size: usize, r: &Option<Reference<'a>>) -> Result<(), AllocError>
-        ensures { OnOk result
-            (self.new ≡ with_reference self.old size (option_map reference_of r.now)) }
+        ensures { OnOk result (self.new ≡ with_reference self.old size (reference_if_any r.now)) }
     {
         match r {
             None => Ok(()),
@@ -307,7 +305,7 @@ impl<'a> Draft<'a> {
     ) -> Result<(), AllocError>
         ensures { OnOk result
             (self.new ≡ draft_after_item labels.now self.old
-            (code row fields.now (option_map reference_of r.now))) }
+            (code row fields.now (reference_if_any r.now))) }
     {
         let code = self.code_bytes(labels, row, fields, r);
         self.add_content(first_assembled_bytes(&code.bytes, code.len), r)
@@ -329,8 +327,8 @@ impl<'a> Draft<'a> {
 
     /// Adds a label to the first pass's draft, and returns whether its name has no label before it.
     fn scan_label(&mut self, name: &'a [u8]) -> Result<bool, AllocError>
-        ensures alike { OnOk result ((d : DraftData) → HaveSameSizesAndSymbols self.old d
-            → HaveSameSizesAndSymbols self.new (draft_after_item [] d (label name.entry.now))) }
+        ensures alike { OnOk result
+            (TracksSizesAndSymbols (label name.entry.now) self.old self.new) }
         ensures new { IfOk result (λ new. new ≡ is_new self.old.symbols (label name.entry.now)) }
     {
         let new = self.add_label(name)?;
@@ -344,10 +342,9 @@ impl<'a> Draft<'a> {
         fields: &Fields,
         r: &Option<Reference<'a>>,
     ) -> Result<(), AllocError>
-        requires { IsAddedCode row fields.now (option_map reference_of r.now) }
-        ensures { OnOk result ((d : DraftData) → HaveSameSizesAndSymbols self.old d
-            → HaveSameSizesAndSymbols self.new (draft_after_item [] d
-            (code row fields.now (option_map reference_of r.now)))) }
+        requires { IsAddedCode row fields.now (reference_if_any r.now) }
+        ensures { OnOk result (TracksSizesAndSymbols
+            (code row fields.now (reference_if_any r.now)) self.old self.new) }
     {
         let size = usize::from(assembled_code_size(row));
         self.add_zeros_for_bytes(size, r)?;
@@ -356,10 +353,9 @@ impl<'a> Draft<'a> {
 
     /// Adds data to the first pass's draft as far as symbols depend on them.
     fn scan_data(&mut self, bytes: &[u8], r: &Option<Reference<'a>>) -> Result<(), AllocError>
-        requires { IsAddedData bytes.now (option_map reference_of r.now) }
-        ensures { OnOk result ((d : DraftData) → HaveSameSizesAndSymbols self.old d
-            → HaveSameSizesAndSymbols self.new (draft_after_item [] d
-            (data_item bytes.now (option_map reference_of r.now)))) }
+        requires { IsAddedData bytes.now (reference_if_any r.now) }
+        ensures { OnOk result (TracksSizesAndSymbols
+            (data_item bytes.now (reference_if_any r.now)) self.old self.new) }
     {
         self.add_zeros_for_bytes(bytes.len(), r)?;
         Ok(())
@@ -375,8 +371,7 @@ impl<'a> Draft<'a> {
     ) -> Result<(), AllocError>
         requires none { none.now ≡ [] }
         requires added { IsAddedItem (item_of item.now) }
-        ensures { OnOk result ((d : DraftData) → HaveSameSizesAndSymbols self.old d
-            → HaveSameSizesAndSymbols self.new (draft_after_item [] d (item_of item.now))) }
+        ensures { OnOk result (TracksSizesAndSymbols (item_of item.now) self.old self.new) }
     {
         self.add_item(alloc, none, item)?;
         Ok(())
@@ -386,10 +381,10 @@ impl<'a> Draft<'a> {
     /// pass needs no more.
     #[inline(always)]
     fn add_zeros_for_bytes(&mut self, n: usize, r: &Option<Reference<'a>>) -> Result<(), AllocError>
-        requires { AddedSymbolIsNamed (option_map reference_of r.now) }
+        requires { AddedSymbolIsNamed (reference_if_any r.now) }
         ensures { OnOk result
-            (self.new ≡ with_bytes (with_reference self.old 0 (option_map reference_of r.now))
-            (replicate n 0)) }
+            (self.new ≡ with_bytes (with_symbol_of_reference self.old
+            (reference_if_any r.now)) (replicate n 0)) }
     {
         self.add_symbol_of_reference(r)?;
         self.add_zeros(n)
@@ -400,9 +395,9 @@ impl<'a> Draft<'a> {
     #[inline(always)]
     #[tactic(auto, unfolding(crate::specs::Drafts::with_reference))]
     fn add_symbol_of_reference(&mut self, r: &Option<Reference<'a>>) -> Result<(), AllocError>
-        requires { AddedSymbolIsNamed (option_map reference_of r.now) }
+        requires { AddedSymbolIsNamed (reference_if_any r.now) }
         ensures { OnOk result
-            (self.new ≡ with_reference self.old 0 (option_map reference_of r.now)) }
+            (self.new ≡ with_symbol_of_reference self.old (reference_if_any r.now)) }
     {
         match r {
             None => Ok(()),

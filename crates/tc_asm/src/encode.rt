@@ -1,8 +1,8 @@
 // The bytes of an instruction, with a target in the same section resolved at once.
-ghost use Rattle.std.specs.Prelude.{◌≡◌, take, if◌then◌else◌, ◌==◌, false, option_map, ◌<◌};
+ghost use Rattle.std.specs.Prelude.{◌≡◌, take, if◌then◌else◌, ◌==◌, false, ◌<◌};
 ghost use Rattle.tc_isa.specs.Rows.{is_32_bit_row, row_of};
 ghost use Rattle.tc_stmt.specs.RowFields.{row_fields_of};
-ghost use Rattle.tc_asm.specs.Drafts.{assembled_code_size as size_of_code, assembled_code, unbroken_fields as found_in};
+ghost use Rattle.tc_asm.specs.Drafts.{assembled_code_size, assembled_code, unbroken_fields};
 ghost use Rattle.tc_stmt.specs.Items.{reference_of};
 
 use crate::draft::Draft;
@@ -36,7 +36,7 @@ pub(crate) fn first_assembled_bytes(bytes: &[u8; 4], len: u8) -> &[u8]
 
 /// The size in bytes of instructions of the row with this number, and 0 if there is no such row.
 pub(crate) fn assembled_code_size(row: u8) -> u8
-    ensures { result ≡ size_of_code row }
+    ensures { result ≡ assembled_code_size row }
 {
     let rows = rows();
     let place = usize::from(row);
@@ -51,7 +51,7 @@ pub(crate) fn assembled_code_size(row: u8) -> u8
 /// noted.
 #[inline(always)]
 fn unbroken_fields<'a>(fields: Fields) -> RowFields<'a>
-    ensures { row_fields_of result ≡ found_in fields }
+    ensures { row_fields_of result ≡ unbroken_fields fields }
 {
     RowFields {
         fields,
@@ -68,9 +68,8 @@ fn assembled_row_size(row: &Row) -> u8
 }
 
 impl<'a> Draft<'a> {
-    ghost use Rattle.std.specs.Prelude.{option_map};
     ghost use Rattle.tc_isa.specs.Rows.{row_of};
-    ghost use Rattle.tc_stmt.specs.Items.{reference_of};
+    ghost use Rattle.tc_stmt.specs.Items.{reference_of, reference_if_any};
     ghost use Rattle.tc_asm.specs.Drafts.{label_distance, fields_with_label_distance, fields_with_target, row_fields_with_target, code_bytes};
 
     /// Returns the fields of the draft's next instruction, of row number `row`. Its target `r` is
@@ -84,8 +83,7 @@ impl<'a> Draft<'a> {
         r: &Option<Reference<'a>>,
     ) -> RowFields<'a>
         ensures { row_fields_of result
-            ≡ row_fields_with_target labels.now self.now row fields.now
-            (option_map reference_of r.now) }
+            ≡ row_fields_with_target labels.now self.now row fields.now (reference_if_any r.now) }
     {
         let rows = rows();
         let place = usize::from(row);
@@ -107,7 +105,7 @@ impl<'a> Draft<'a> {
         r: &Option<Reference<'a>>,
     ) -> Code
         ensures { take result.len result.bytes
-            ≡ code_bytes labels.now self.now row fields.now (option_map reference_of r.now) }
+            ≡ code_bytes labels.now self.now row fields.now (reference_if_any r.now) }
     {
         let found = self.resolve_instruction(labels, row, fields, r);
         assembled_code(row, &found.fields)
@@ -125,7 +123,7 @@ impl<'a> Draft<'a> {
     ) -> RowFields<'a>
         ensures { row_fields_of result
             ≡ fields_with_target labels.now self.now (row_of row.now) fields.now
-            (option_map reference_of r.now) }
+            (reference_if_any r.now) }
     {
         match r {
             None => unbroken_fields(*fields),

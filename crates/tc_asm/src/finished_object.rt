@@ -1,9 +1,9 @@
 // Turns a draft into an object.
 ghost use Rattle.std.specs.Prelude.{◌≡◌, ◌<◌, ◌++◌, ◌+◌, ◌^◌, map, length, All, IfOk, OnOk, is_some, true, string_bytes, ◌≤◌};
-ghost use Rattle.tc_object.specs.Names.{object_name_of as name_in};
+ghost use Rattle.tc_object.specs.Names.{object_name_of};
 ghost use Rattle.tc_asm.specs.DraftViews.{use_of, draft_section_of};
-ghost use Rattle.tc_asm.specs.Objects.{section_of, symbol_of, reloc_of, object_of_draft, relocs_of_sections};
-ghost use Rattle.tc_asm.specs.Symbols.{symbol as known_as};
+ghost use Rattle.tc_asm.specs.Objects.{section_of, symbol_of, reloc_of, object_of_draft, relocs_of_all_sections};
+ghost use Rattle.tc_asm.specs.Symbols.{symbol};
 ghost use Rattle.tc_asm.specs.DraftInvariants.{IsDraft, IsSmallLabelPlace};
 
 use crate::draft::Draft;
@@ -16,7 +16,7 @@ use tc_object::{
 
 /// The symbols of the object, in the order of the draft.
 pub(crate) fn emit_symbols(alloc: Global, known: &Symbols) -> Result<Vec<Symbol>, AllocError>
-    requires names { All (λ s. is_some (name_in s.name) ≡ true) known.now }
+    requires names { All (λ s. is_some (object_name_of s.name) ≡ true) known.now }
     requires small { All (λ s. IsSmallLabelPlace s.entry.place) known.now }
     ensures { IfOk result (λ v. v.items ≡ map symbol_of known.now) }
 {
@@ -74,7 +74,7 @@ pub(crate) fn emit_relocs(
     requires few { length parts.now ≤ 64 }
     requires offsets { All (λ p. All (λ u. u.offset < 2 ^ 32) p.uses.items) parts.now }
     ensures { IfOk result (λ v. v.items
-        ≡ relocs_of_sections known.now 0 (map draft_section_of parts.now)) }
+        ≡ relocs_of_all_sections known.now (map draft_section_of parts.now)) }
 {
     let mut out = Vec::new(alloc);
     for i in 0..parts.len() {
@@ -85,9 +85,9 @@ pub(crate) fn emit_relocs(
 
 /// A symbol of the draft as one of the object.
 fn emit_symbol(alloc: Global, name: &[u8], entry: Entry) -> Result<Symbol, AllocError>
-    requires name { is_some (name_in name.now) ≡ true }
+    requires name { is_some (object_name_of name.now) ≡ true }
     requires small { IsSmallLabelPlace entry.place }
-    ensures { IfOk result (λ s. s ≡ symbol_of (known_as name.now entry)) }
+    ensures { IfOk result (λ s. s ≡ symbol_of (symbol name.now entry)) }
 {
     let name = emit_name(alloc, name)?;
     match entry.place {
@@ -112,7 +112,7 @@ fn emit_symbol(alloc: Global, name: &[u8], entry: Entry) -> Result<Symbol, Alloc
 
 // Copies the name of a section or symbol of the draft into a text that the object owns.
 fn emit_name(alloc: Global, name: &[u8]) -> Result<String, AllocError>
-    requires { is_some (name_in name.now) ≡ true }
+    requires { is_some (object_name_of name.now) ≡ true }
     ensures { IfOk result (λ s. string_bytes s ≡ name.now) }
 {
     String::from_str(alloc, object_name_of(name).unwrap())
@@ -142,7 +142,7 @@ fn emit_reloc(known: &Symbols, section: usize, u: Use<'_>) -> Reloc
 
 /// The sections of the object, in the order of the draft.
 fn emit_sections(alloc: Global, parts: &[Part]) -> Result<Vec<Section>, AllocError>
-    requires { All (λ p. is_some (name_in p.name.now) ≡ true) parts.now }
+    requires { All (λ p. is_some (object_name_of p.name.now) ≡ true) parts.now }
     ensures { IfOk result (λ v. v.items ≡ map section_of (map draft_section_of parts.now)) }
 {
     let mut out = Vec::new(alloc);

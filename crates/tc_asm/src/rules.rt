@@ -1,6 +1,6 @@
 // The rules that depend on the earlier lines or on the whole source.
 ghost use Rattle.std.specs.Prelude.{◌≡◌};
-ghost use Rattle.tc_isa.specs.Relocations.{is_relocation_kind as needs_reloc};
+ghost use Rattle.tc_isa.specs.Relocations.{is_relocation_kind};
 
 use crate::draft::{Draft, MOST_RELOCS, MOST_SECTIONS};
 use crate::encode::first_assembled_bytes;
@@ -17,14 +17,13 @@ const MOST_SYMBOLS: usize = 65535;
 
 /// Whether a reference of this kind needs a relocation. Rule 13 limits the number of relocations.
 pub(crate) fn is_relocation_kind(kind: u8) -> bool
-    ensures { result ≡ needs_reloc kind }
+    ensures { result ≡ is_relocation_kind kind }
 {
     REL24 <= kind && kind <= WORD32
 }
 
 impl<'a> Draft<'a> {
-    ghost use Rattle.std.specs.Prelude.{option_map};
-    ghost use Rattle.tc_stmt.specs.Items.{reference_of, item_of, code};
+    ghost use Rattle.tc_stmt.specs.Items.{reference_of, reference_if_any, item_of, code};
     ghost use Rattle.tc_asm.specs.Rules.{has_symbol_room};
     ghost use Rattle.tc_asm.specs.Rules.{label_rule, section_rule, name_rule, section_limit_rule, symbol_limit_rule, reloc_limit_rule, byte_limit_rule, undefined_global_rule, reference_rule, content_rule, item_rule};
 
@@ -84,7 +83,7 @@ impl<'a> Draft<'a> {
 
     /// The least rule that `size` bytes and their symbol break.
     pub(crate) fn content_rule(&self, size: usize, r: &Option<Reference<'a>>) -> u8
-        ensures { result ≡ content_rule self.now size (option_map reference_of r.now) }
+        ensures { result ≡ content_rule self.now size (reference_if_any r.now) }
     {
         let room = self.byte_limit_rule(size).min(self.reference_rule(r));
         self.section_rule().min(room)
@@ -150,7 +149,7 @@ impl<'a> Draft<'a> {
     // Returns rule 13 if the draft has no room for the symbol of a reference or for its relocation,
     // else no rule.
     fn reference_rule(&self, r: &Option<Reference<'a>>) -> u8
-        ensures { result ≡ reference_rule self.now (option_map reference_of r.now) }
+        ensures { result ≡ reference_rule self.now (reference_if_any r.now) }
     {
         match r {
             None => NO_RULE,
@@ -195,7 +194,7 @@ impl<'a> Draft<'a> {
         r: &Option<Reference<'a>>,
     ) -> u8
         ensures { result
-            ≡ item_rule labels.now self.now (code row fields.now (option_map reference_of r.now)) }
+            ≡ item_rule labels.now self.now (code row fields.now (reference_if_any r.now)) }
     {
         let target = self.resolve_instruction(labels, row, fields, r).rule;
         let code = self.code_bytes(labels, row, fields, r);

@@ -8,6 +8,10 @@ use Rattle.tc_isa.specs.NamedInstructions.{movh, addi, mov, movh_a, mtcr, mov_a,
 use Rattle.tc_isa.specs.Spelling.{instruction_bytes}
 use Rattle.tc_machine.specs.PlanAreas.{first_link}
 
+-- the bytes of these instructions, one after the other
+abbrev pub bytes_of_boot_instructions : List InstData → List ℕ
+bytes_of_boot_instructions insts = flat_map instruction_bytes insts
+
 -- ---- words into registers
 -- the instructions that write x to this core register, by D0; in force from the next one on
 abbrev pub core_register_write : ℕ → ℕ → List InstData
@@ -66,7 +70,7 @@ boot_sequence plan entry = boot_core_setup plan ++ boot_loop_setup plan ++ boot_
 
 -- the bytes of the sequence
 abbrev pub boot_bytes_of : PlanData → ℕ → List ℕ
-boot_bytes_of plan entry = flat_map instruction_bytes (boot_sequence plan entry)
+boot_bytes_of plan entry = bytes_of_boot_instructions (boot_sequence plan entry)
 
 -- the length of the boot sequence in events: three for each CSA in its loop, and one for each of
 -- its other 53 instructions

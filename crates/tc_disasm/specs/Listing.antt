@@ -29,6 +29,18 @@ instruction_or_data_text bytes = decoded_or_data_text (decoded_of bytes) bytes
 unfoldable pub instruction_or_data_size : List ℕ → ℕ
 instruction_or_data_size bytes = decoded_or_data_size (decoded_of bytes) bytes
 
+-- the start of a line's comment: ` # `, the address in eight hex digits, and a blank
+abbrev pub comment_start : ℕ → List ℕ
+comment_start address = codes " # " ++ (hex_word address ++ (32 ∷ []))
+
+-- the comment of a line of two bytes: ` # `, the address, a blank, the bytes in hex, a line feed
+abbrev pub two_byte_comment : ℕ → ℕ → ℕ → List ℕ
+two_byte_comment address a b = codes " # " ++ (hex_word address ++ (32 ∷ (hex_byte a ++ (hex_byte b ++ (10 ∷ [])))))
+
+-- the comment of a line of four bytes: ` # `, the address, a blank, the bytes in hex, a line feed
+abbrev pub four_byte_comment : ℕ → ℕ → ℕ → ℕ → ℕ → List ℕ
+four_byte_comment address a b c d = codes " # " ++ (hex_word address ++ (32 ∷ (hex_byte a ++ (hex_byte b ++ (hex_byte c ++ (hex_byte d ++ (10 ∷ [])))))))
+
 -- the comment of a line: an address, its bytes, and a line feed
 unfoldable pub listing_comment : ℕ → List ℕ → List ℕ
 listing_comment address bytes = codes " # " ++ (hex_word address ++ (32 ∷ (flat_map hex_byte bytes ++ 10 ∷ [])))
@@ -42,6 +54,10 @@ unfoldable pub listing_lines_from : ℕ → List ℕ → ℕ → List ℕ
 listing_lines_from address [] skip = []
 listing_lines_from address (b ∷ bs) zero = listing_line_at address (b ∷ bs) ++ listing_lines_from (address + 1) bs (instruction_or_data_size (b ∷ bs) - 1)
 listing_lines_from address (b ∷ bs) (suc skip) = listing_lines_from (address + 1) bs skip
+
+-- the lines of bytes that begin at an address
+abbrev pub listing_lines : ℕ → List ℕ → List ℕ
+listing_lines address bytes = listing_lines_from address bytes 0
 
 -- the line that begins the section of this number
 unfoldable pub listing_section_line : ℕ → ℕ → List ℕ

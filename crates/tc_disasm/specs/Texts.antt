@@ -43,6 +43,10 @@ target_text both bound k = 46 ∷ (if is_printed_negative both bound k then 45 �
 unfoldable pub absolute_operand_address : Form → Fields → ℕ
 absolute_operand_address form f = if is_abs_form form then address_in_constant f else code_address_in_constant f
 
+-- a word as a listing prints it: `0x` and eight hex digits
+abbrev pub hex_literal : ℕ → List ℕ
+hex_literal x = 48 ∷ 120 ∷ hex_word x
+
 -- the text of an absolute address in a listing: `0x` and eight hex digits
 unfoldable pub absolute_text : Form → Fields → List ℕ
 absolute_text form f = 48 ∷ 120 ∷ hex_word (absolute_operand_address form f)
@@ -59,6 +63,14 @@ operand_text form f (Number signed field) = number_text signed (field_of field (
 operand_text form f Target = target_text (can_jump_back form) (field_bounds form).k f.k
 operand_text form f Absolute = absolute_text form f
 operand_text form f (Memory plus offset) = base_register_text plus f.s2 ++ (if offset then number_text true (field_bounds form).k f.k else [])
+
+-- a comma, a blank, and the text of an operand after the first one
+abbrev pub further_operand_text : Form → Fields → Want → List ℕ
+further_operand_text form f w = codes ", " ++ operand_text form f w
+
+-- the texts of all operands after the first one, each after a comma and a blank
+abbrev pub further_operands_text : Form → Fields → List Want → List ℕ
+further_operands_text form f ws = flat_map (λ v. codes ", " ++ operand_text form f v) ws
 
 -- the operands after a blank, separated by a comma and a blank
 unfoldable pub operands_text : Form → Fields → List Want → List ℕ

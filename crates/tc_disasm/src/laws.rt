@@ -13,8 +13,7 @@ ghost use Rattle.tc_lex.specs.Numbers.{token_number};
 ghost use Rattle.tc_stmt.specs.RowFields.{zero_fields};
 ghost use Rattle.tc_stmt.specs.OperandForms.{register_number};
 ghost use Rattle.tc_stmt.specs.StatementRow.{statement};
-ghost use Rattle.tcd_text.specs.HexNumbers.{hex_word};
-ghost use Rattle.tc_disasm.specs.Texts.{register_text};
+ghost use Rattle.tc_disasm.specs.Texts.{hex_literal, register_text};
 ghost use Rattle.tc_disasm.specs.Tokens.{printed_token, printed_operands};
 ghost use Rattle.tc_disasm.specs.Lexed.{IsTokenEnd, listing_tokens};
 ghost use Rattle.tc_disasm.specs.Assembled.{ListingLaw};
@@ -22,7 +21,7 @@ ghost use Rattle.tc_disasm.specs.Assembled.{ListingLaw};
 /// The numbers, addresses and registers of a listing are read as the values that were printed.
 pub fn number_laws()
     ensures decimals { (n : ℕ) → n < 2 ^ 64 → token_number (decimal n) ≡ Some n }
-    ensures addresses { (x : ℕ) → x < 2 ^ 32 → token_number (48 ∷ 120 ∷ hex_word x) ≡ Some x }
+    ensures addresses { (x : ℕ) → x < 2 ^ 32 → token_number (hex_literal x) ≡ Some x }
     ensures registers { (bank : Bool) (n : ℕ) → n < 16
         → register_number (register_text bank n) ≡ (if bank then 16 else 0) + n }
 {}

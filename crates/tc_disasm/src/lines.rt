@@ -1,8 +1,8 @@
 // Appends a line for each instruction or piece of data of a segment.
-ghost use Rattle.std.specs.Prelude.{◌≡◌, ◌<◌, ◌≤◌, ◌+◌, ◌^◌, ◌++◌, ◌∷◌, [], OnOk, IfOk, string_bytes, codes, length, min, drop};
+ghost use Rattle.std.specs.Prelude.{◌≡◌, ◌<◌, ◌≤◌, ◌+◌, ◌^◌, ◌++◌, OnOk, IfOk, string_bytes, length, min, drop};
 ghost use Rattle.std.specs.List.{flat_map};
-ghost use Rattle.tcd_text.specs.HexNumbers.{hex_byte, hex_word};
-ghost use Rattle.tc_disasm.specs.Listing.{instruction_or_data_text, instruction_or_data_size, listing_comment, listing_line_at, listing_lines_from};
+ghost use Rattle.tcd_text.specs.HexNumbers.{hex_byte};
+ghost use Rattle.tc_disasm.specs.Listing.{two_byte_comment, four_byte_comment, instruction_or_data_text, instruction_or_data_size, listing_comment, listing_line_at, listing_lines};
 ghost use Rattle.tc_disasm.specs.Texts.{data_text};
 
 use crate::instructions::append_instruction;
@@ -15,7 +15,7 @@ use tcd_text::{append_ascii, append_hex_byte, append_str, hex_byte, hex_word};
 pub(crate) fn append_listing(text: &mut String, address: u32, bytes: &[u8]) -> Result<(), NoMemory>
     requires { address + length bytes.now ≤ 2 ^ 32 }
     ensures { OnOk result
-        (string_bytes text.new ≡ string_bytes text.old ++ listing_lines_from address bytes.now 0) }
+        (string_bytes text.new ≡ string_bytes text.old ++ listing_lines address bytes.now) }
 {
     let mut at = 0;
     'lines: while at < bytes.len() {
@@ -115,8 +115,8 @@ fn append_data(text: &mut String, bytes: &[u8]) -> Result<(), NoMemory>
 
 /// Appends the comment of a line with two bytes: an address, the bytes a and b, a line feed.
 fn append_two_byte_comment(text: &mut String, address: u32, a: u8, b: u8) -> Result<(), NoMemory>
-    ensures { OnOk result (string_bytes text.new ≡ string_bytes text.old ++ (codes " # "
-        ++ (hex_word address ++ (32 ∷ (hex_byte a ++ (hex_byte b ++ (10 ∷ []))))))) }
+    ensures { OnOk result
+        (string_bytes text.new ≡ string_bytes text.old ++ two_byte_comment address a b) }
 {
     let w = hex_word(address);
     let first = hex_byte(u32::from(a));
@@ -137,9 +137,8 @@ fn append_four_byte_comment(
     c: u8,
     d: u8,
 ) -> Result<(), NoMemory>
-    ensures { OnOk result (string_bytes text.new ≡ string_bytes text.old ++ (codes " # "
-        ++ (hex_word address ++ (32 ∷ (hex_byte a ++ (hex_byte b ++ (hex_byte c
-        ++ (hex_byte d ++ (10 ∷ []))))))))) }
+    ensures { OnOk result
+        (string_bytes text.new ≡ string_bytes text.old ++ four_byte_comment address a b c d) }
 {
     let w = hex_word(address);
     let first = hex_byte(u32::from(a));

@@ -1,13 +1,12 @@
 // Appends the text of an operand.
-ghost use Rattle.std.specs.Prelude.{◌≡◌, ◌≤◌, ◌*◌, ◌++◌, OnOk, string_bytes, ◌<◌, ◌^◌, codes};
+ghost use Rattle.std.specs.Prelude.{◌≡◌, ◌≤◌, ◌*◌, ◌++◌, OnOk, string_bytes, ◌<◌, ◌^◌};
 ghost use Rattle.tc_isa.specs.Forms.{field_bounds};
 ghost use Rattle.tc_isa.specs.InBounds.{AreFieldsBelow};
 ghost use Rattle.tc_isa.specs.FromFields.{code_address_in_constant};
 ghost use Rattle.tc_stmt.specs.declared.want.Want.TheVariants.{Memory};
 ghost use Rattle.tc_stmt.specs.RowFields.{field_of};
-ghost use Rattle.tc_disasm.specs.Texts.{register_text, number_text, target_text, absolute_operand_address, absolute_text, operand_text, operands_text};
+ghost use Rattle.tc_disasm.specs.Texts.{register_text, number_text, target_text, absolute_operand_address, absolute_text, operand_text, further_operand_text, further_operands_text, operands_text};
 ghost use Rattle.tc_stmt.specs.Displacements.{can_jump_back};
-ghost use Rattle.std.specs.List.{flat_map};
 
 use crate::texts::append_listing_decimal;
 use tc_isa::{Fields, Form, field_bounds};
@@ -204,8 +203,7 @@ fn append_other_operands(
     requires { AreFieldsBelow f.now (field_bounds form) }
     ensures { OnOk result
         (string_bytes text.new
-        ≡ string_bytes text.old
-        ++ flat_map (λ v. codes ", " ++ operand_text form f.now v) wants.now) }
+        ≡ string_bytes text.old ++ further_operands_text form f.now wants.now) }
 {
     for want in wants {
         append_next(text, form, f, *want)?;
@@ -218,7 +216,7 @@ fn append_next(text: &mut String, form: Form, f: &Fields, want: Want) -> Result<
     requires { AreFieldsBelow f.now (field_bounds form) }
     ensures { OnOk result
         (string_bytes text.new
-        ≡ string_bytes text.old ++ (codes ", " ++ operand_text form f.now want)) }
+        ≡ string_bytes text.old ++ further_operand_text form f.now want) }
 {
     append_str(text, ", ")?;
     append_operand(text, form, f, want)

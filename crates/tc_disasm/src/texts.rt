@@ -1,6 +1,6 @@
 // Appends short texts and addresses.
-ghost use Rattle.std.specs.Prelude.{◌≡◌, ◌<◌, ◌+◌, ◌++◌, ◌∷◌, [], OnOk, string_bytes, codes};
-ghost use Rattle.tcd_text.specs.HexNumbers.{hex_word};
+ghost use Rattle.std.specs.Prelude.{◌≡◌, ◌<◌, ◌+◌, ◌++◌, ◌∷◌, [], OnOk, string_bytes};
+ghost use Rattle.tc_disasm.specs.Listing.{comment_start};
 ghost use Rattle.std.specs.Fmt.{decimal};
 
 use tcd_base::NoMemory;
@@ -17,8 +17,8 @@ pub(crate) fn append_listing_digit(text: &mut String, n: u32) -> Result<(), NoMe
 
 /// Appends a short text to a listing: the mark of a comment, an address in hex, and a blank.
 pub(crate) fn append_listing_address(text: &mut String, address: u32) -> Result<(), NoMemory>
-    ensures { OnOk result (string_bytes text.new
-        ≡ string_bytes text.old ++ (codes " # " ++ (hex_word address ++ (32 ∷ [])))) }
+    ensures { OnOk result
+        (string_bytes text.new ≡ string_bytes text.old ++ comment_start address) }
 {
     let w = hex_word(address);
     let line = [

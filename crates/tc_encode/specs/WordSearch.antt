@@ -16,6 +16,18 @@ pub record IsWordOf (w : ℕ) (i : InstData) : Type 0 where
   pub inst : IsInst i
   pub is : row_word inst.row (inst_fields i) ≡ w
 
+-- no listed instruction has the word w
+abbrev pub NoInstructionHasWord : ℕ → Type 0
+NoInstructionHasWord w = (i : InstData) → IsWordOf w i → ⊥
+
+-- no instruction of the row with this number has the word w
+abbrev pub RowLacksWord : ℕ → ℕ → Type 0
+RowLacksWord place w = (i : InstData) → IsWordOf w i → i.row ≡ place → ⊥
+
+-- a word whose lowest byte is even, as that of an instruction of 16 bits, has no more than 16 bits
+abbrev pub EvenWordHas16Bits : ℕ → Type 0
+EvenWordHas16Bits w = w % 2 ≡ 0 → w < 2 ^ 16
+
 -- the word b with the low byte of a, for a search by a word's low byte
 abbrev pub with_low_byte : ℕ → ℕ → ℕ
 with_low_byte a b = a % 2 ^ 8 + b / 2 ^ 8 * 2 ^ 8
@@ -41,6 +53,10 @@ pub record IsCompletionOf (n part : ℕ) (i : InstData) : Type 0 where
   pub longer : n < decoded_row_length inst.row
   pub is : row_word inst.row (inst_fields i) % power_of_256 n ≡ part
 
+-- no instruction of the row with this number is longer than n bytes and has the low n bytes `part`
+abbrev pub RowLacksCompletion : ℕ → ℕ → ℕ → Type 0
+RowLacksCompletion place n part = (i : InstData) → IsCompletionOf n part i → i.row ≡ place → ⊥
+
 -- in the search by a word: there is a row at the start of an index range, and it has the form of
 -- this row
 abbrev pub has_same_form : RowData → Option RowData → Bool
@@ -60,6 +76,11 @@ abbrev pub are_in_index_ranges : List ℕ → List ℕ → ℕ → List RowData 
 are_in_index_ranges starts ends place [] = true
 are_in_index_ranges starts ends place (r ∷ rs) = is_in_index_range place r (slice_get starts r.op1) (slice_get ends r.op1) && are_in_index_ranges starts ends (suc place) rs
 
+-- each row of the instruction table is in the index range of its first byte, from the entry of
+-- `starts` up to before that of `ends`, and the row at the range's start has the same form
+abbrev pub IndexesRowsByFirstByte : List ℕ → List ℕ → Type 0
+IndexesRowsByFirstByte starts ends = are_in_index_ranges starts ends 0 table_rows ≡ true
+
 -- the entry that the index of codes has for a search by a word is this row's number
 abbrev pub is_index_entry : ℕ → Option ℕ → Bool
 is_index_entry place None = false
@@ -76,6 +97,11 @@ is_at_index_place places place r (Some base) = is_index_entry place (slice_get p
 abbrev pub are_at_index_places : List ℕ → List ℕ → ℕ → List RowData → Bool
 are_at_index_places bases places place [] = true
 are_at_index_places bases places place (r ∷ rs) = is_at_index_place places place r (slice_get bases r.op1) && are_at_index_places bases places (suc place) rs
+
+-- the index has the number of each row of the instruction table, in the list of numbers at the base
+-- of the row's first opcode plus its second opcode
+abbrev pub IndexesRowsByOpcodes : List ℕ → List ℕ → Type 0
+IndexesRowsByOpcodes bases numbers = are_at_index_places bases numbers 0 table_rows ≡ true
 
 -- each field is one that the row has, or always 0 in its form, so that the search by a word needn't
 -- test it

@@ -4,7 +4,7 @@ ghost use Rattle.tc_isa.specs.Rows.{row_of, table_rows};
 ghost use Rattle.tc_isa.specs.ValidRowFields.{least_fields};
 ghost use Rattle.tc_isa.specs.Insts.{InstData};
 ghost use Rattle.tc_encode.specs.Decoding.{decoded_row_length, decoded_length};
-ghost use Rattle.tc_encode.specs.WordSearch.{IsCompletionOf, power_of_256};
+ghost use Rattle.tc_encode.specs.WordSearch.{IsCompletionOf, RowLacksCompletion, power_of_256};
 
 use crate::decoding::decode_row_word;
 use crate::forms::word_of_fields;
@@ -55,7 +55,7 @@ fn completion_at_row(place: u8, first: u8, n: u8, part: u32) -> Option<Inst>
     requires part { part < power_of_256 n }
     requires first { first ≡ part % 256 }
     ensures some { IfSome result (IsCompletionOf n part) }
-    ensures none { IfNone result ((i : InstData) → IsCompletionOf n part i → i.row ≡ place → ⊥) }
+    ensures none { IfNone result (RowLacksCompletion place n part) }
 {
     let row = &rows()[usize::from(place)];
     if row.op1 != first {
@@ -73,7 +73,7 @@ fn completion_in_row(place: u8, row: &Row, n: u8, part: u32) -> Option<Inst>
     requires part { part < power_of_256 n }
     requires longer { n < decoded_row_length (row_of row.now) }
     ensures some { IfSome result (IsCompletionOf n part) }
-    ensures none { IfNone result ((i : InstData) → IsCompletionOf n part i → i.row ≡ place → ⊥) }
+    ensures none { IfNone result (RowLacksCompletion place n part) }
 {
     let rest = word_of_fields(row.form, row.op1, row.op2, &least_completion_fields(row));
     let span = power_of_256(n);

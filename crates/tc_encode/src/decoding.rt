@@ -4,7 +4,7 @@ ghost use Rattle.tc_isa.specs.Insts.{InstData};
 ghost use Rattle.tc_encode.specs.Decoding.{BeginsWith, IsInstPrefix, decoded_of, decoded_length};
 ghost use Rattle.tcd_base.specs.Bytes.{number_from_bytes};
 ghost use Rattle.tc_isa.specs.Rows.{row_of, table_rows};
-ghost use Rattle.tc_encode.specs.WordSearch.{IsWordOf};
+ghost use Rattle.tc_encode.specs.WordSearch.{IsWordOf, RowLacksWord};
 
 use crate::completions::completion;
 use crate::errors::DecodeErr;
@@ -34,7 +34,7 @@ pub(crate) fn decode_row_word(place: u8, row: &Row, w: u32) -> Option<Inst>
     requires { slice_get table_rows place ≡ Some (row_of row.now) }
     ensures some { IfSome result (IsWordOf w) }
     ensures place { IfSome result (λ i. i.row ≡ place) }
-    ensures none { IfNone result ((i : InstData) → IsWordOf w i → i.row ≡ place → ⊥) }
+    ensures none { IfNone result (RowLacksWord place w) }
 {
     let f = fields_of_word(row.form, w);
     let Some(found) = inst(place, f.c, f.s1, f.s2, f.n, f.k) else {

@@ -2,7 +2,7 @@
 ghost use Rattle.std.specs.Prelude.{◌≡◌, length, map, true, nat_le, nat_lt, ◌<◌, ℕ, IfSome, slice_get, Some};
 ghost use Rattle.std.specs.List.{list_all};
 ghost use Rattle.tc_isa.specs.Rows.{table_rows, RowData};
-ghost use Rattle.tc_encode.specs.WordSearch.{are_in_index_ranges, are_at_index_places, is_full_row};
+ghost use Rattle.tc_encode.specs.WordSearch.{IndexesRowsByFirstByte, IndexesRowsByOpcodes, is_full_row};
 ghost use Rattle.tc_isa.specs.Forms.{form_index};
 
 use tc_isa::{Form, ROW_COUNT, rows};
@@ -41,7 +41,7 @@ pub fn index_by_first_byte() -> (&'static [u8; 256], &'static [u8; 256])
     ensures starts { length result.0.now ≡ 256 }
     ensures start_within { list_all (λ n. nat_lt n ROW_COUNT) result.0.now ≡ true }
     ensures ends { length result.1.now ≡ 256 }
-    ensures all { are_in_index_ranges result.0.now result.1.now 0 table_rows ≡ true }
+    ensures all { IndexesRowsByFirstByte result.0.now result.1.now }
     ensures within { list_all (λ n. nat_le n ROW_COUNT) result.1.now ≡ true }
 {
     (&STARTS, &ENDS)
@@ -88,7 +88,7 @@ static PLACES: [u8; PLACE_COUNT] = [
 pub fn index_by_codes() -> (&'static [u16; 256], &'static [u8; PLACE_COUNT])
     ensures bases { length result.0.now ≡ 256 }
     ensures places { length result.1.now ≡ PLACE_COUNT }
-    ensures all { are_at_index_places result.0.now result.1.now 0 table_rows ≡ true }
+    ensures all { IndexesRowsByOpcodes result.0.now result.1.now }
     ensures within { list_all (λ n. nat_lt n ROW_COUNT) result.1.now ≡ true }
 {
     (&BASES, &PLACES)

@@ -1,11 +1,10 @@
 // Finds the instruction of a word by the index of codes.
-ghost use Rattle.std.specs.Prelude.{◌≡◌, ◌<◌, ◌%◌, ◌^◌, ℕ, IfSome, IfNone, slice_get, Some};
+ghost use Rattle.std.specs.Prelude.{◌≡◌, ◌<◌, ◌%◌, ℕ, IfSome, IfNone, slice_get, Some};
 ghost use Rattle.tc_isa.specs.Rows.{RowData, row_of, table_rows};
 ghost use Rattle.tc_isa.specs.Forms.{second_code_by_form, field_bounds};
 ghost use Rattle.tc_isa.specs.InBounds.{AreFieldsBelow};
 ghost use Rattle.tc_isa.specs.ValidRowFields.{uses_of, are_unused_fields_zero};
-ghost use Rattle.tc_isa.specs.Insts.{InstData};
-ghost use Rattle.tc_encode.specs.WordSearch.{IsWordOf, are_unused_bits_zero};
+ghost use Rattle.tc_encode.specs.WordSearch.{EvenWordHas16Bits, IsWordOf, NoInstructionHasWord, RowLacksWord, are_unused_bits_zero};
 
 use crate::forms::{fields_of_word, second_code};
 use crate::index::{form_of_first_byte, full_rows, index_by_codes, row_number_by_codes};
@@ -16,9 +15,9 @@ use tc_isa::{
 
 /// Returns the instruction of a word, which has 16 bits if its lowest byte is even, or `None`.
 pub fn find_by_word(w: u32) -> Option<Inst>
-    requires { w % 2 ≡ 0 → w < 2 ^ 16 }
+    requires { EvenWordHas16Bits w }
     ensures some { IfSome result (IsWordOf w) }
-    ensures none { IfNone result ((i : InstData) → IsWordOf w i → ⊥) }
+    ensures none { IfNone result (NoInstructionHasWord w) }
 {
     let first = (w % 256) as u8;
     let second = second_code_by_first_byte(first, w);
@@ -35,9 +34,9 @@ pub(crate) fn find_word_in_row(place: u8, row: &Row, w: u32) -> Option<Inst>
     requires within { place < ROW_COUNT }
     requires first { row.now.op1 ≡ w % 256 }
     requires second { row.now.op2 ≡ second_code_by_form row.now.form w }
-    requires short { w % 2 ≡ 0 → w < 2 ^ 16 }
+    requires short { EvenWordHas16Bits w }
     ensures some { IfSome result (IsWordOf w) }
-    ensures none { IfNone result ((i : InstData) → IsWordOf w i → i.row ≡ place → ⊥) }
+    ensures none { IfNone result (RowLacksWord place w) }
 {
     let f = fields_of_word(row.form, w);
     if !are_unused_bits_zero(row.form, w) {
@@ -66,9 +65,9 @@ pub(crate) fn find_word_by_codes(place: u8, first: u8, second: u8, w: u32) -> Op
     requires first { first ≡ w % 256 }
     requires second { (r : RowData) → slice_get table_rows place ≡ Some r → r.op1 ≡ first
         → second ≡ second_code_by_form r.form w }
-    requires short { w % 2 ≡ 0 → w < 2 ^ 16 }
+    requires short { EvenWordHas16Bits w }
     ensures some { IfSome result (IsWordOf w) }
-    ensures none { IfNone result ((i : InstData) → IsWordOf w i → i.row ≡ place → ⊥) }
+    ensures none { IfNone result (RowLacksWord place w) }
 {
     let at = usize::from(place);
     let row = &rows()[at];

@@ -3,6 +3,7 @@ ghost use Rattle.std.specs.Prelude.{◌≡◌, ◌↔◌, IsTrue, IsSome, IfSome
 ghost use Rattle.tc_isa.specs.Rows.{row_of};
 ghost use Rattle.tc_isa.specs.ValidRowFields.{FieldsFitRow, uses_of, are_registers_allowed};
 ghost use Rattle.tc_isa.specs.Insts.{IsInst};
+ghost use Rattle.tc_isa.specs.NamedInstructions.{instruction};
 
 use crate::bounds::{are_fields_below, field_bounds};
 use crate::row_uses::{are_unused_fields_zero, uses_by_row};
@@ -20,10 +21,8 @@ const OF_ADDRESS: u8 = 0x06;
 /// Returns the instruction of row number `row` with these raw fields, or `None` if there is no such
 /// row or they don't fit. Missing fields have to be 0.
 pub fn inst(row: u8, c: u8, s1: u8, s2: u8, n: u8, k: u32) -> Option<Inst>
-    ensures listed { IsSome result
-        ↔ IsInst (record { row = row; c = c; s1 = s1; s2 = s2; n = n; k = k }) }
-    ensures fields { IfSome result (λ i.
-        i ≡ record { row = row; c = c; s1 = s1; s2 = s2; n = n; k = k }) }
+    ensures listed { IsSome result ↔ IsInst (instruction row c s1 s2 n k) }
+    ensures fields { IfSome result (λ i. i ≡ instruction row c s1 s2 n k) }
 {
     let place = usize::from(row);
     let rows = rows();

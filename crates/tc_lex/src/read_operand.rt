@@ -1,8 +1,8 @@
 // Reads an operand from its tokens.
 ghost use Rattle.std.specs.Prelude.{◌≡◌, ◌≢◌, ◌<◌, ◌≤◌, ◌+◌, ◌++◌, ◌∷◌, [], map, length, true};
 ghost use Rattle.tc_lex.specs.declared.kinds.TokenKind.TheVariants.{Word, Number, Colon, Open};
-ghost use Rattle.tc_lex.specs.Pieces.{piece_of, is_token_kind as is_kind_at};
-ghost use Rattle.tc_lex.specs.Operands.{value_of, operand_of, operand_number_at, name_or_sum_at, symbol_value_at, operand_value_at, operand, value_with_shape as data_of, plain_operand as plain_of, bracketed_operand as memory_of, number_operand_value as number_value, sum_operand_value as sum_value, operands};
+ghost use Rattle.tc_lex.specs.Pieces.{piece_of, is_token_kind};
+ghost use Rattle.tc_lex.specs.Operands.{value_of, operand_of, operand_number_at, name_or_sum_at, symbol_value_at, operand_value_at, operand, value_with_shape, plain_operand, bracketed_operand, number_operand_value, sum_operand_value, operands};
 
 use crate::TokenKind;
 use crate::numbers::token_number;
@@ -61,7 +61,7 @@ fn read_longer_operand_into<'a>(ps: &[Piece<'a>], out: &mut Scratch<Operand<'a>,
 // The operand that is one word, the only token.
 fn lone_word_operand<'a>(ps: &[Piece<'a>]) -> Operand<'a>
     requires one { length ps.now ≡ 1 }
-    requires word { is_kind_at (map piece_of ps.now) 0 Word ≡ true }
+    requires word { is_token_kind (map piece_of ps.now) 0 Word ≡ true }
     ensures { operand_of result ≡ operand (map piece_of ps.now) }
 {
     plain_operand(value_with_shape(Shape::Word, token_text(ps, 0), false, 0))
@@ -70,7 +70,7 @@ fn lone_word_operand<'a>(ps: &[Piece<'a>]) -> Operand<'a>
 // The operand that is one number, the only token.
 fn lone_number_operand<'a>(ps: &[Piece<'a>]) -> Operand<'a>
     requires one { length ps.now ≡ 1 }
-    requires number { is_kind_at (map piece_of ps.now) 0 Number ≡ true }
+    requires number { is_token_kind (map piece_of ps.now) 0 Number ≡ true }
     ensures { operand_of result ≡ operand (map piece_of ps.now) }
 {
     plain_operand(number_operand_value(false, token_number(token_text(ps, 0))))
@@ -80,7 +80,7 @@ fn lone_number_operand<'a>(ps: &[Piece<'a>]) -> Operand<'a>
 #[inline(never)]
 #[tactic(auto, unfolding(crate::specs::Operands::operand))]
 fn memory_operand<'a>(ps: &[Piece<'a>]) -> Operand<'a>
-    requires { is_kind_at (map piece_of ps.now) 0 Open ≡ true }
+    requires { is_token_kind (map piece_of ps.now) 0 Open ≡ true }
     ensures { operand_of result ≡ operand (map piece_of ps.now) }
 {
     if is_token_kind(ps, 1, TokenKind::Word) {
@@ -98,7 +98,7 @@ fn memory_operand<'a>(ps: &[Piece<'a>]) -> Operand<'a>
 
 /// Returns the operand that is read from a value alone, without brackets.
 fn plain_operand(value: Value<'_>) -> Operand<'_>
-    ensures { operand_of result ≡ plain_of (value_of value.entry) }
+    ensures { operand_of result ≡ plain_operand (value_of value.entry) }
 {
     Operand {
         is_memory: false,
@@ -128,7 +128,7 @@ fn operand_value_at<'a>(ps: &[Piece<'a>], at: usize) -> Value<'a>
 
 /// The operand `[BASE]`, or `[BASE+]` if `plus`, followed by a value.
 fn bracketed_operand<'a>(plus: bool, base: &'a [u8], value: Value<'a>) -> Operand<'a>
-    ensures { operand_of result ≡ memory_of plus base.now (value_of value.entry) }
+    ensures { operand_of result ≡ bracketed_operand plus base.now (value_of value.entry) }
 {
     Operand {
         is_memory: true,
@@ -140,7 +140,7 @@ fn bracketed_operand<'a>(plus: bool, base: &'a [u8], value: Value<'a>) -> Operan
 
 /// The value of an operand with this form, name and number, negative if `minus`.
 fn value_with_shape(shape: Shape, name: &[u8], minus: bool, size: u128) -> Value<'_>
-    ensures { value_of result ≡ data_of shape name.now minus size }
+    ensures { value_of result ≡ value_with_shape shape name.now minus size }
 {
     Value {
         shape,
@@ -184,7 +184,7 @@ fn operand_number_at(ps: &[Piece], at: usize) -> Option<(bool, Option<u128>)>
 
 /// The value that is a number alone, negative if `minus`; `None` is one of 2^128 or more.
 fn number_operand_value<'a>(minus: bool, n: Option<u128>) -> Value<'a>
-    ensures { value_of result ≡ number_value minus n }
+    ensures { value_of result ≡ number_operand_value minus n }
 {
     match n {
         Some(size) => value_with_shape(Shape::Number, &[], minus, size),
@@ -197,7 +197,7 @@ fn number_operand_value<'a>(minus: bool, n: Option<u128>) -> Value<'a>
 #[tactic(auto, unfolding(crate::specs::Operands::symbol_value_at))]
 fn symbol_half_at<'a>(ps: &[Piece<'a>], at: usize) -> Value<'a>
     requires place { at + 1 < length ps.now }
-    requires colon { is_kind_at (map piece_of ps.now) (at + 1) Colon ≡ true }
+    requires colon { is_token_kind (map piece_of ps.now) (at + 1) Colon ≡ true }
     ensures { value_of result ≡ symbol_value_at (map piece_of ps.now) at }
 {
     let name = token_text(ps, at);
@@ -232,7 +232,7 @@ fn name_or_sum_at<'a>(ps: &[Piece<'a>], at: usize, plain: Shape, summed: Shape) 
 #[tactic(auto, unfolding(crate::specs::Operands::name_or_sum_at))]
 fn name_plus_number_at<'a>(ps: &[Piece<'a>], at: usize, plain: Shape, summed: Shape) -> Value<'a>
     requires place { at ≤ length ps.now }
-    requires word { is_kind_at (map piece_of ps.now) at Word ≡ true }
+    requires word { is_token_kind (map piece_of ps.now) at Word ≡ true }
     requires more { length ps.now ≢ at + 1 }
     ensures { value_of result ≡ name_or_sum_at (map piece_of ps.now) at plain summed }
 {
@@ -253,7 +253,7 @@ fn name_plus_number_at<'a>(ps: &[Piece<'a>], at: usize, plain: Shape, summed: Sh
 
 // The value that is a name plus a number, or minus; `None` is a number of 2^128 or more.
 fn sum_operand_value(shape: Shape, name: &[u8], minus: bool, n: Option<u128>) -> Value<'_>
-    ensures { value_of result ≡ sum_value shape name.now minus n }
+    ensures { value_of result ≡ sum_operand_value shape name.now minus n }
 {
     match n {
         Some(size) => value_with_shape(shape, name, minus, size),

@@ -22,6 +22,11 @@ twice_at names q = option_map (λ d. d.is_twice) (global_at_name names q)
 abbrev pub twice_of_count : ℕ → Option Bool
 twice_of_count n = if n == 0 then None else Some (nat_lt 1 n)
 
+-- the map's count of the definitions of this name by linked objects, which is none, one or several,
+-- is that of n
+abbrev pub HasCountedDefinitions : {S : Type 0} → HashMap (Bor (List ℕ)) Definition S → List ℕ → ℕ → Type 0
+HasCountedDefinitions names q n = twice_at names q ≡ twice_of_count n
+
 -- the symbol is defined, and other objects may use it
 abbrev pub is_global : SymbolData → Bool
 is_global s = s.kind == global_symbol
@@ -36,9 +41,14 @@ pub record GlobalData : Type 0 where
 abbrev pub global_data : List ℕ → SymbolData → GlobalData
 global_data bases s = record { name = s.name; address = address_in_section bases s.section s.offset }
 
+-- the global symbols among an object's symbols, each with its address, if the object's sections
+-- begin at these addresses
+abbrev pub globals_of_symbols : List ℕ → List SymbolData → List GlobalData
+globals_of_symbols bases symbols = map (global_data bases) (filter is_global symbols)
+
 -- the global symbols of placed objects: the name and the address of each
 unfoldable pub globals_of : List PlacedData → List GlobalData
-globals_of placed = flat_map (λ p. map (global_data p.bases) (filter is_global p.object.symbols)) placed
+globals_of placed = flat_map (λ p. globals_of_symbols p.bases p.object.symbols) placed
 
 -- the address of the first of these global symbols with this name; None if none has the name
 abbrev pub first_global_address : List GlobalData → List ℕ → Option ℕ
@@ -59,7 +69,7 @@ count_globals_named objects name = count_by (has_global_name name) (symbols_to_l
 
 -- for each name, the map knows whether several objects define it as a global symbol
 abbrev pub KnowsRepeatedGlobals : {S : Type 0} → HashMap (Bor (List ℕ)) Definition S → List ObjectData → Type 0
-KnowsRepeatedGlobals names objects = (q : List ℕ) → twice_at names q ≡ twice_of_count (count_globals_named objects q)
+KnowsRepeatedGlobals names objects = (q : List ℕ) → HasCountedDefinitions names q (count_globals_named objects q)
 
 -- ---- addresses
 

@@ -11,6 +11,10 @@ pub record PlaceData : Type 0 where
   pub at : ℕ
   pub most : ℕ
 
+-- the place for sections of this name: at most `most` bytes from the address on
+abbrev pub place_data : List ℕ → ℕ → ℕ → PlaceData
+place_data section at most = record { section = section; at = at; most = most }
+
 -- a layout: the name of the symbol at which the program begins, and the places of sections
 pub record LayoutData : Type 0 where
   pub entry : List ℕ

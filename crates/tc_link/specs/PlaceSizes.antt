@@ -1,5 +1,5 @@
 -- The numbers of bytes of their places that sections use.
-use Rattle.std.specs.Prelude.{◌≡◌, ◌≤◌, ◌<◌, ◌^◌, ℕ, List, length, slice_index, slice_index_or, ◌+◌, ◌*◌, ◌/◌, if◌then◌else◌, fold, ◌||◌, nat_lt, Bool, sum_by}
+use Rattle.std.specs.Prelude.{◌≡◌, ◌≤◌, ◌<◌, ◌^◌, ℕ, List, ◌++◌, length, slice_index, slice_index_or, ◌+◌, ◌*◌, ◌/◌, if◌then◌else◌, fold, ◌||◌, nat_lt, Bool, sum_by}
 use Rattle.tc_object.specs.Objects.{SectionData}
 use Rattle.tc_link.specs.Layouts.{PlaceData}
 use Rattle.std.specs.Str.{bytes_eq}
@@ -21,6 +21,10 @@ used_place_size name sections = fold (used_size_with_section name) 0 sections
 -- the sizes are, for each place, the number of bytes that these sections use there
 abbrev pub AreTaken : List PlaceData → List SectionData → List ℕ → Type 0
 AreTaken places sections sizes = (k : ℕ) (d : PlaceData) → k < length places → slice_index sizes k ≡ used_place_size (slice_index_or places k d).section sections
+
+-- if earlier sections use the old sizes of the places, they and these sections use the new ones
+abbrev pub AreUsedSizesAfter : List PlaceData → List SectionData → List ℕ → List ℕ → Type 0
+AreUsedSizesAfter places sections old new = (before : List SectionData) → AreTaken places before old → AreTaken places (before ++ sections) new
 
 -- the numbers of used bytes of a layout's places are at most 2^32
 abbrev pub AreSmallPlaceSizes : List ℕ → Type 0

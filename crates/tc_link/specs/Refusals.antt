@@ -1,5 +1,5 @@
 -- Why objects can't be linked, and the first refusal of each kind.
-use Rattle.std.specs.Prelude.{◌+◌, ◌==◌, ◌&&◌, ◌||◌, not, nat_lt, ℕ, Bool, List, ◌∷◌, ◌++◌, length, Option, None, []}
+use Rattle.std.specs.Prelude.{◌≡◌, ◌<◌, ◌+◌, ◌==◌, ◌&&◌, ◌||◌, not, nat_lt, ℕ, Bool, List, ◌∷◌, ◌++◌, length, slice_index_or, Option, None, []}
 use Rattle.std.specs.Bool.{then_some}
 use Rattle.std.specs.Option.{option_map, option_or}
 use Rattle.std.specs.List.{list_any}
@@ -9,9 +9,9 @@ use Rattle.tc_reloc.specs.declared.refusals.RelocErr.{RelocErr}
 use Rattle.tc_link.specs.Layouts.{PlaceData, has_place_for, LayoutData}
 use Rattle.tc_link.specs.Placing.{PlacedData, sections_to_link}
 use Rattle.tc_link.specs.GlobalSymbols.{GlobalData, is_global, count_globals_named}
-use Rattle.tc_link.specs.PlaceSizes.{are_places_overfull}
+use Rattle.tc_link.specs.PlaceSizes.{AreTaken, are_places_overfull}
 use Rattle.tc_reloc.specs.Refusals.{reloc_value_refusal}
-use Rattle.tc_link.specs.Relocated.{reloc_field_address, reloc_value}
+use Rattle.tc_link.specs.Relocated.{reloc_field_address, symbol_addresses, reloc_value}
 
 -- why objects can't be linked
 pub data Refusal : Type 0 where
@@ -40,6 +40,10 @@ repeated_symbol_refusal objects number s = then_some (is_global s && nat_lt 1 (c
 -- the refusal of the first global symbol that two objects define, or None
 unfoldable pub first_repeated_symbol_refusal : List ObjectData → Option Refusal
 first_repeated_symbol_refusal objects = first_refusal_over (λ _ o. first_refusal_over (repeated_symbol_refusal objects) o.symbols) objects
+
+-- for each number below the count, the flag of that number is the answer of the test
+abbrev pub AreFlagsOf : List Bool → ℕ → (ℕ → Bool) → Type 0
+AreFlagsOf flags count test = (k : ℕ) (d : Bool) → k < count → slice_index_or flags k d ≡ test k
 
 -- one of the relocations uses the symbol with this number
 abbrev pub is_used_by_relocs : List Reloc → ℕ → Bool
@@ -75,6 +79,10 @@ unfoldable pub first_no_room_refusal : List PlaceData → List SectionData → L
 first_no_room_refusal places before [] = None
 first_no_room_refusal places before (s ∷ ss) = option_or (no_room_refusal places before s) (first_no_room_refusal places (before ++ s ∷ []) ss)
 
+-- there is room for these sections after earlier ones, which use this many bytes of the places
+abbrev pub HaveRoomAfterUsedBytes : List PlaceData → List ℕ → List SectionData → Type 0
+HaveRoomAfterUsedBytes places sizes sections = (before : List SectionData) → AreTaken places before sizes → first_no_room_refusal places before sections ≡ None
+
 -- the error of a relocation whose field can't hold its value, or None
 abbrev pub reloc_error : List GlobalData → PlacedData → Reloc → Option RelocErr
 reloc_error globals p r = reloc_value_refusal r.kind (reloc_field_address p r) (reloc_value globals p r)
@@ -83,9 +91,18 @@ reloc_error globals p r = reloc_value_refusal r.kind (reloc_field_address p r) (
 abbrev pub refusal_at : List GlobalData → ℕ → PlacedData → ℕ → Reloc → Option Refusal
 refusal_at globals object p number r = option_map (λ err. reloc object r.section r.offset err) (reloc_error globals p r)
 
+-- the refusal of the first relocation of the object with this number that can't be applied, or None
+abbrev pub first_reloc_refusal_in : List GlobalData → ℕ → PlacedData → Option Refusal
+first_reloc_refusal_in globals object p = first_refusal_over (refusal_at globals object p) p.object.relocs
+
+-- if these are the addresses of its symbols, no relocation of the object with this number is
+-- refused
+abbrev pub AreRelocsApplicable : List ℕ → ℕ → PlacedData → Type 0
+AreRelocsApplicable addresses number p = (all : List GlobalData) → addresses ≡ symbol_addresses all p → first_reloc_refusal_in all number p ≡ None
+
 -- the refusal of the first relocation that can't be written, in the order of the objects, or None
 unfoldable pub first_reloc_refusal : List GlobalData → List PlacedData → Option Refusal
-first_reloc_refusal globals placed = first_refusal_over (λ object p. first_refusal_over (refusal_at globals object p) p.object.relocs) placed
+first_reloc_refusal globals placed = first_refusal_over (λ object p. first_reloc_refusal_in globals object p) placed
 
 -- the first refusal before relocations are written, in this order
 abbrev pub refusal_before_relocs : LayoutData → List ObjectData → Option Refusal

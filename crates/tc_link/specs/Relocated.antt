@@ -1,5 +1,5 @@
 -- The bytes of sections with their relocations written, and the addresses of symbols.
-use Rattle.std.specs.Prelude.{◌+◌, ◌%◌, ◌^◌, ℕ, List, ◌++◌, fold, take, drop, slice_get, slice_set, ◌==◌, if◌then◌else◌, map}
+use Rattle.std.specs.Prelude.{◌≡◌, ◌+◌, ◌%◌, ◌^◌, ℕ, List, ◌++◌, fold, take, drop, slice_get, slice_set, ◌==◌, if◌then◌else◌, map}
 use Rattle.std.specs.Option.{option_map_or}
 use Rattle.tc_object.specs.declared.relocs.Reloc.{Reloc}
 use Rattle.tc_object.specs.Objects.{SectionData, undefined_symbol, SymbolData}
@@ -55,6 +55,11 @@ sections_with_reloc globals p sections r = with_changed_item (section_with_reloc
 -- the sections of a placed object after all its relocations are written, in order
 unfoldable pub relocated_sections : List GlobalData → PlacedData → List SectionData
 relocated_sections globals p = fold (sections_with_reloc globals p) p.object.sections p.object.relocs
+
+-- if these are the addresses of a placed object's symbols, these are its sections after all its
+-- relocations are applied
+abbrev pub AreRelocatedSections : List ℕ → PlacedData → List SectionData → Type 0
+AreRelocatedSections addresses p sections = (all : List GlobalData) → addresses ≡ symbol_addresses all p → sections ≡ relocated_sections all p
 
 -- the sections of all placed objects, with their relocations written
 unfoldable pub all_relocated_sections : List PlacedData → List SectionData

@@ -33,7 +33,7 @@ impl Model for Draft {
 impl Draft {
     ghost use Rattle.std.specs.Prelude.{◌≡◌, ◌<◌, ◌+◌, ◌^◌, [], length, Some, None, Ok, OnOk, IfOk, IfErr, IfNone};
     ghost use Rattle.std.specs.List.{list_any};
-    ghost use Rattle.tc_link.specs.Layouts.{IsPlace, IsPlaceAfter, has_place_for, is_overlapping_place};
+    ghost use Rattle.tc_link.specs.Layouts.{IsPlace, IsPlaceAfter, has_place_for, is_overlapping_place, place_data};
     ghost use Rattle.tc_link.specs.LayoutLines.{layout_line_contents, place};
     ghost use Rattle.tc_link.specs.LayoutFaults.{layout_line_fault, IsLayoutFaultOf, IsLayoutFault};
     ghost use Rattle.tc_link.specs.LayoutDrafts.{with_entry, draft_with_line};
@@ -105,11 +105,11 @@ impl Draft {
     // The fault of a place in line `number` of a layout, if any. The section has a place already,
     // there are 64 places, or the `most` bytes from `at` on overlap one.
     fn place_fault(&self, number: u32, section: &str, at: u32, most: u32) -> Option<LayoutErr>
-        requires { IsPlace (record { section = section.now; at = at; most = most }) }
+        requires { IsPlace (place_data section.now at most) }
         ensures fault { result ≡ layout_line_fault number self.now.entries self.now.places
-            (Some (place (record { section = section.now; at = at; most = most }))) }
-        ensures after { IfNone result (IsPlaceAfter self.now.places
-            (record { section = section.now; at = at; most = most })) }
+            (Some (place (place_data section.now at most))) }
+        ensures after { IfNone result
+            (IsPlaceAfter self.now.places (place_data section.now at most)) }
         ensures few { IfNone result (length self.now.places < 64) }
     {
         if has_place_for(&self.places, section) {
@@ -127,7 +127,7 @@ impl Draft {
     // Whether a place of the draft of a layout shares a byte with the `most` bytes from address
     // `at` on.
     fn has_overlapping_place(&self, at: u32, most: u32) -> bool
-        ensures { result ≡ list_any (λ q. is_overlapping_place at most q) self.now.places }
+        ensures { result ≡ list_any (is_overlapping_place at most) self.now.places }
     {
         self.places
             .iter()

@@ -1,7 +1,7 @@
 // A map of the global symbols of objects by name, so that each look-up is a few steps.
-ghost use Rattle.std.specs.Prelude.{◌≡◌, ◌+◌, ◌++◌, ◌∷◌, nat_lt, ◌==◌, ℕ, List, [], true, false, count_by, map, filter, slice_get, OnOk, IfOk, IfErr, if◌then◌else◌, Some, None};
+ghost use Rattle.std.specs.Prelude.{◌≡◌, ◌+◌, ◌++◌, ◌∷◌, nat_lt, ◌==◌, ℕ, List, [], true, false, count_by, slice_get, OnOk, IfOk, IfErr, if◌then◌else◌, Some, None};
 ghost use Rattle.tc_link.specs.Placing.{PlacedData};
-ghost use Rattle.tc_link.specs.GlobalSymbols.{GlobalData, is_global, global_data, has_global_name, twice_at, twice_of_count, HoldsGlobals, KnowsRepeatedGlobals, HoldsAllGlobals};
+ghost use Rattle.tc_link.specs.GlobalSymbols.{GlobalData, globals_of_symbols, has_global_name, HasCountedDefinitions, HoldsGlobals, KnowsRepeatedGlobals, HoldsAllGlobals};
 ghost use Rattle.tc_link.specs.declared.errors.LinkErr.TheVariants.{NoMemory};
 
 use crate::LinkErr;
@@ -28,14 +28,14 @@ pub(crate) fn globals_by_name<'a>(
 
 /// Returns true if no global symbol has the name. `names` is the map of global symbols.
 pub(crate) fn has_no_global(names: &HashMap<&str, Definition>, name: &str) -> bool
-    ensures { (n : ℕ) → twice_at names.now name.now ≡ twice_of_count n → result ≡ (n == 0) }
+    ensures { (n : ℕ) → HasCountedDefinitions names.now name.now n → result ≡ (n == 0) }
 {
     !names.contains_key(name)
 }
 
 /// Returns true if several global symbols have the name. `names` is the map of global symbols.
 pub(crate) fn has_several_globals(names: &HashMap<&str, Definition>, name: &str) -> bool
-    ensures { (n : ℕ) → twice_at names.now name.now ≡ twice_of_count n → result ≡ nat_lt 1 n }
+    ensures { (n : ℕ) → HasCountedDefinitions names.now name.now n → result ≡ nat_lt 1 n }
 {
     match names.get(name) {
         Some(definition) => definition.is_twice,
@@ -62,12 +62,12 @@ fn add_global_symbols<'a>(
     object: usize,
     symbols: &[SymbolRef<'a>],
 ) -> Result<(), LinkErr>
-    ensures counts { OnOk result ((q : List ℕ) (n : ℕ) → twice_at names.old q ≡ twice_of_count n
-        → twice_at names.new q ≡ twice_of_count (n + count_by (has_global_name q) symbols.now)) }
+    ensures counts { OnOk result ((q : List ℕ) (n : ℕ) → HasCountedDefinitions names.old q n
+        → HasCountedDefinitions names.new q (n + count_by (has_global_name q) symbols.now)) }
     ensures globals { OnOk result ((placed : List PlacedData) (p : PlacedData)
         (before : List GlobalData) → slice_get placed object ≡ Some p
-        → HoldsGlobals names.old placed before → HoldsGlobals names.new placed
-        (before ++ map (global_data p.bases) (filter is_global symbols.now))) }
+        → HoldsGlobals names.old placed before
+        → HoldsGlobals names.new placed (before ++ globals_of_symbols p.bases symbols.now)) }
     ensures err { IfErr result (λ e. e ≡ NoMemory) }
 {
     for symbol in symbols {
@@ -83,13 +83,13 @@ fn add_symbol_if_global<'a>(
     object: usize,
     symbol: &SymbolRef<'a>,
 ) -> Result<(), LinkErr>
-    ensures counts { OnOk result ((q : List ℕ) (n : ℕ) → twice_at names.old q ≡ twice_of_count n
-        → twice_at names.new q
-        ≡ twice_of_count (n + (if has_global_name q symbol.now then 1 else 0))) }
+    ensures counts { OnOk result ((q : List ℕ) (n : ℕ) → HasCountedDefinitions names.old q n
+        → HasCountedDefinitions names.new q
+        (n + (if has_global_name q symbol.now then 1 else 0))) }
     ensures globals { OnOk result ((placed : List PlacedData) (p : PlacedData)
         (before : List GlobalData) → slice_get placed object ≡ Some p
-        → HoldsGlobals names.old placed before → HoldsGlobals names.new placed
-        (before ++ map (global_data p.bases) (filter is_global (symbol.now ∷ [])))) }
+        → HoldsGlobals names.old placed before
+        → HoldsGlobals names.new placed (before ++ globals_of_symbols p.bases (symbol.now ∷ []))) }
     ensures err { IfErr result (λ e. e ≡ NoMemory) }
 {
     let is_global = symbol.kind == GLOBAL_SYMBOL;

@@ -1,10 +1,10 @@
 // Links objects to an image.
-ghost use Rattle.std.specs.Prelude.{◌≡◌, ◌≤◌, ◌<◌, length, Ok, Err, IfOk, IfErr, IfSome};
+ghost use Rattle.std.specs.Prelude.{◌≡◌, ◌≤◌, ◌<◌, length, Ok, IfOk, IfErr};
 ghost use Rattle.tc_link.specs.Segments.{segments_of};
 ghost use Rattle.tc_link.specs.Linked.{image_of_objects};
 ghost use Rattle.tc_link.specs.Placing.{placed_in_layout};
 ghost use Rattle.tc_link.specs.Relocated.{all_relocated_sections};
-ghost use Rattle.tc_link.specs.Errors.{refusal_of};
+ghost use Rattle.tc_link.specs.Errors.{IsRefusalOf};
 
 use crate::addresses::global_symbol_address;
 use crate::global_symbols::globals_by_name;
@@ -26,8 +26,7 @@ pub fn link_borrowed(
 ) -> Result<Image, LinkErr>
     requires { length objects.now ≤ 65535 }
     ensures ok { IfOk result (λ image. image_of_objects objects.now layout.now ≡ Ok image) }
-    ensures err { IfErr result (λ e. IfSome (refusal_of e)
-        (λ r. image_of_objects objects.now layout.now ≡ Err r)) }
+    ensures err { IfErr result (IsRefusalOf (image_of_objects objects.now layout.now)) }
 {
     let names = globals_by_name(alloc, objects)?;
     check_repeated_symbols(alloc, &names, objects)?;
@@ -51,8 +50,7 @@ pub fn link_borrowed(
 pub fn link(alloc: Global, objects: &[Object], layout: &Layout) -> Result<Image, LinkErr>
     requires { length objects.now ≤ 65535 }
     ensures ok { IfOk result (λ image. image_of_objects objects.now layout.now ≡ Ok image) }
-    ensures err { IfErr result (λ e. IfSome (refusal_of e)
-        (λ r. image_of_objects objects.now layout.now ≡ Err r)) }
+    ensures err { IfErr result (IsRefusalOf (image_of_objects objects.now layout.now)) }
 {
     let mut parts = Vec::with_capacity(alloc, objects.len())?;
     for object in objects {

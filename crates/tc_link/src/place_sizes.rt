@@ -1,7 +1,7 @@
 // Computes the sizes of places.
-ghost use Rattle.std.specs.Prelude.{◌≡◌, ◌≤◌, ◌<◌, ◌+◌, ◌++◌, ◌∷◌, [], ◌*◌, ◌^◌, List, length, false};
+ghost use Rattle.std.specs.Prelude.{◌≡◌, ◌≤◌, ◌<◌, ◌+◌, ◌∷◌, [], ◌*◌, ◌^◌, List, length, false};
 ghost use Rattle.tc_object.specs.Objects.{SectionData};
-ghost use Rattle.tc_link.specs.PlaceSizes.{next_multiple_of_4, AreTaken, AreSmallPlaceSizes, are_places_overfull};
+ghost use Rattle.tc_link.specs.PlaceSizes.{next_multiple_of_4, AreTaken, AreUsedSizesAfter, AreSmallPlaceSizes, are_places_overfull};
 
 use crate::{LinkErr, Place};
 use std::alloc::Global;
@@ -24,8 +24,7 @@ pub(crate) fn next_multiple_of_4(size: u64) -> u64
 pub(crate) fn add_section_size(places: &[Place], sizes: &mut [u64], section: &SectionRef<'_>)
     requires count { length sizes.old ≡ length places.now }
     requires small { AreSmallPlaceSizes sizes.old }
-    ensures taken { (before : List SectionData) → AreTaken places.now before sizes.old
-        → AreTaken places.now (before ++ section.now ∷ []) sizes.new }
+    ensures taken { AreUsedSizesAfter places.now (section.now ∷ []) sizes.old sizes.new }
 {
     for (i, place) in places.iter().enumerate() {
         if place.section.as_str() == section.name {

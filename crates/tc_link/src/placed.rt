@@ -1,10 +1,10 @@
 // Gives the sections of objects their addresses.
-ghost use Rattle.std.specs.Prelude.{◌≡◌, ◌≤◌, ◌<◌, [], ℕ, IfOk, IfErr, length, slice_index_or, None, List, ◌+◌, ◌++◌, OnOk};
-ghost use Rattle.tc_object.specs.Objects.{ObjectData, IsObject, SectionData};
-ghost use Rattle.tc_link.specs.Placing.{placed_after, sections_to_link, section_base, section_bases_after};
-ghost use Rattle.tc_link.specs.Refusals.{first_no_room_refusal};
-ghost use Rattle.tc_link.specs.PlaceSizes.{AreTaken, AreSmallPlaceSizes, next_multiple_of_4, are_places_overfull};
-ghost use Rattle.tc_link.specs.Errors.{IsRefusal};
+ghost use Rattle.std.specs.Prelude.{◌≡◌, ◌≤◌, [], IfOk, IfErr, length, None, List, ◌+◌, OnOk};
+ghost use Rattle.tc_object.specs.Objects.{SectionData};
+ghost use Rattle.tc_link.specs.Placing.{AreValidObjects, placed_after, sections_to_link, section_base, AreBasesAfterUsedBytes};
+ghost use Rattle.tc_link.specs.Refusals.{first_no_room_refusal, HaveRoomAfterUsedBytes};
+ghost use Rattle.tc_link.specs.PlaceSizes.{AreTaken, AreUsedSizesAfter, AreSmallPlaceSizes, next_multiple_of_4, are_places_overfull};
+ghost use Rattle.tc_link.specs.Errors.{IsRefusal, IsNoRoomAfterUsedBytes};
 
 use crate::layouts::find_place;
 use crate::place_sizes::{add_section_size, are_places_overfull, next_multiple_of_4};
@@ -37,8 +37,7 @@ pub(crate) fn place_objects<'a, 'b>(
 ) -> Result<Vec<Placed<'a, 'b>>, LinkErr>
     requires { length places.now ≤ 64 }
     ensures placed { IfOk result (λ placed. placed.items ≡ placed_after places.now [] objects.now) }
-    ensures good { IfOk result (λ _. (k : ℕ) (d : ObjectData) → k < length objects.now
-        → IsObject (slice_index_or objects.now k d)) }
+    ensures good { IfOk result (λ _. AreValidObjects objects.now) }
     ensures room { IfOk result
         (λ _. first_no_room_refusal places.now [] (sections_to_link objects.now) ≡ None) }
     ensures err { IfErr result
@@ -82,17 +81,12 @@ pub(crate) fn place_sections(
     requires count { length sizes.old ≡ length places.now }
     requires few { length places.now ≤ 64 }
     requires small { AreSmallPlaceSizes sizes.old }
-    ensures bases { IfOk result (λ bases. (before : List SectionData)
-        → AreTaken places.now before sizes.old
-        → bases.items ≡ section_bases_after places.now before sections.now) }
-    ensures taken { OnOk result ((before : List SectionData) → AreTaken places.now before sizes.old
-        → AreTaken places.now (before ++ sections.now) sizes.new) }
-    ensures room { OnOk result ((before : List SectionData) → AreTaken places.now before sizes.old
-        → first_no_room_refusal places.now before sections.now ≡ None) }
+    ensures bases { IfOk result
+        (λ bases. AreBasesAfterUsedBytes places.now sizes.old sections.now bases.items) }
+    ensures taken { OnOk result (AreUsedSizesAfter places.now sections.now sizes.old sizes.new) }
+    ensures room { OnOk result (HaveRoomAfterUsedBytes places.now sizes.old sections.now) }
     ensures small { OnOk result (AreSmallPlaceSizes sizes.new) }
-    ensures err { IfErr result (λ e. (before : List SectionData)
-        → AreTaken places.now before sizes.old
-        → IsRefusal (first_no_room_refusal places.now before sections.now) e) }
+    ensures err { IfErr result (IsNoRoomAfterUsedBytes places.now sizes.old sections.now) }
 {
     let mut bases = Vec::new(alloc);
     for section in sections {

@@ -3,10 +3,10 @@ ghost use Rattle.std.specs.Prelude.{◌≡◌, ◌≤◌, ◌<◌, ◌+◌, List
 ghost use Rattle.tc_object.specs.Objects.{section_size_at};
 ghost use Rattle.tc_reloc.specs.Refusals.{reloc_value_refusal};
 ghost use Rattle.tc_link.specs.GlobalSymbols.{GlobalData, globals_of, HoldsGlobals};
-ghost use Rattle.tc_link.specs.Relocated.{symbol_addresses, section_bytes_with_field, section_with_filled_field, sections_with_reloc, relocated_sections, all_relocated_sections, reloc_value, reloc_field_at};
-ghost use Rattle.tc_link.specs.Refusals.{reloc_error, first_refusal_over, refusal_at, first_reloc_refusal};
+ghost use Rattle.tc_link.specs.Relocated.{symbol_addresses, section_bytes_with_field, section_with_filled_field, sections_with_reloc, relocated_sections, AreRelocatedSections, all_relocated_sections, reloc_value, reloc_field_at};
+ghost use Rattle.tc_link.specs.Refusals.{reloc_error, first_reloc_refusal_in, AreRelocsApplicable, first_reloc_refusal};
 ghost use Rattle.tc_link.specs.Shapes.{section_shape};
-ghost use Rattle.tc_link.specs.Errors.{IsRefusal};
+ghost use Rattle.tc_link.specs.Errors.{IsRefusal, IsRelocErrorOf};
 ghost use Rattle.tc_link.specs.Placing.{PlacedData};
 
 use crate::LinkErr;
@@ -62,10 +62,9 @@ fn relocate_object<'a>(
     ensures sections { IfOk result (λ ss. (all : List GlobalData)
         → HoldsGlobals names.now placed.now all → ss.items ≡ relocated_sections all each.now) }
     ensures none { OnOk result ((all : List GlobalData) → HoldsGlobals names.now placed.now all
-        → first_refusal_over (refusal_at all number each.now) each.now.object.relocs ≡ None) }
+        → first_reloc_refusal_in all number each.now ≡ None) }
     ensures err { IfErr result (λ e. (all : List GlobalData) → HoldsGlobals names.now placed.now all
-        → IsRefusal (first_refusal_over (refusal_at all number each.now) each.now.object.relocs)
-        e) }
+        → IsRefusal (first_reloc_refusal_in all number each.now) e) }
 {
     let object = each.object;
     let addresses = symbol_addresses(alloc, names, placed, each)?;
@@ -83,16 +82,9 @@ fn write_all_relocs(
     sections: &mut [WrittenSection<'_>],
 ) -> Result<(), LinkErr>
     requires { sections.old ≡ placed.now.object.sections }
-    ensures sections { OnOk result ((all : List GlobalData)
-        → addresses.now ≡ symbol_addresses all placed.now
-        → sections.new ≡ relocated_sections all placed.now) }
-    ensures none { OnOk result ((all : List GlobalData)
-        → addresses.now ≡ symbol_addresses all placed.now
-        → first_refusal_over (refusal_at all number placed.now) placed.now.object.relocs ≡ None) }
-    ensures err { IfErr result (λ e. (all : List GlobalData)
-        → addresses.now ≡ symbol_addresses all placed.now
-        → IsRefusal (first_refusal_over (refusal_at all number placed.now) placed.now.object.relocs)
-        e) }
+    ensures sections { OnOk result (AreRelocatedSections addresses.now placed.now sections.new) }
+    ensures none { OnOk result (AreRelocsApplicable addresses.now number placed.now) }
+    ensures err { IfErr result (IsRelocErrorOf addresses.now number placed.now) }
 {
     let object = placed.object;
     for reloc in &object.relocs {

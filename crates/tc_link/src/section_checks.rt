@@ -1,9 +1,9 @@
 // Checks that sections have places.
-ghost use Rattle.std.specs.Prelude.{◌≡◌, ◌<◌, ◌&&◌, ◌||◌, nat_lt, not, ℕ, Bool, List, length, slice_index_or, None, OnOk, IfOk, IfErr};
+ghost use Rattle.std.specs.Prelude.{◌≡◌, ◌&&◌, ◌||◌, nat_lt, not, List, length, None, OnOk, IfOk, IfErr};
 ghost use Rattle.std.specs.Option.{option_map};
 ghost use Rattle.tc_object.specs.Objects.{SymbolData};
 ghost use Rattle.tc_link.specs.Layouts.{has_place_for};
-ghost use Rattle.tc_link.specs.Refusals.{no_place, no_place_refusal, first_no_place_refusal, first_refusal_over, has_symbol_in_section};
+ghost use Rattle.tc_link.specs.Refusals.{no_place, no_place_refusal, first_no_place_refusal, first_refusal_over, has_symbol_in_section, AreFlagsOf};
 ghost use Rattle.tc_link.specs.Errors.{IsRefusal};
 ghost use Rattle.tc_link.specs.declared.errors.LinkErr.TheVariants.{NoMemory};
 
@@ -33,8 +33,8 @@ pub(crate) fn check_places(
 
 // For each section of an object, true if a symbol is defined there.
 fn section_symbol_marks(alloc: Global, object: &ObjectRef<'_>) -> Result<Vec<bool>, LinkErr>
-    ensures held { IfOk result (λ held. (k : ℕ) (d : Bool) → k < length object.now.sections
-        → slice_index_or held.items k d ≡ has_symbol_in_section object.now.symbols k) }
+    ensures held { IfOk result (λ held. AreFlagsOf held.items (length object.now.sections)
+        (has_symbol_in_section object.now.symbols)) }
     ensures count { IfOk result (λ held. length held.items ≡ length object.now.sections) }
     ensures err { IfErr result (λ e. e ≡ NoMemory) }
 {
@@ -55,8 +55,7 @@ fn first_unplaced_section<'a>(
 ) -> Option<&'a str>
     requires { length held.now ≡ length sections.now }
     ensures { (symbols : List SymbolData)
-        → ((k : ℕ) (d : Bool) → k < length sections.now
-        → slice_index_or held.now k d ≡ has_symbol_in_section symbols k)
+        → AreFlagsOf held.now (length sections.now) (has_symbol_in_section symbols)
         → first_refusal_over (no_place_refusal places.now symbols) sections.now
         ≡ option_map (λ name. no_place name.now) result }
 {

@@ -1,10 +1,10 @@
 // Checks for symbols that are defined twice or not at all.
-ghost use Rattle.std.specs.Prelude.{◌≡◌, ◌<◌, ◌==◌, ◌&&◌, nat_lt, ℕ, Bool, List, length, slice_index_or, slice_set, true, Option, None, OnOk, IfOk, IfErr};
+ghost use Rattle.std.specs.Prelude.{◌≡◌, ◌==◌, ◌&&◌, nat_lt, List, length, slice_set, true, Option, None, OnOk, IfOk, IfErr};
 ghost use Rattle.std.specs.Option.{option_map};
 ghost use Rattle.tc_object.specs.declared.relocs.Reloc.{Reloc};
-ghost use Rattle.tc_object.specs.Objects.{ObjectData};
+ghost use Rattle.tc_object.specs.Objects.{ObjectData, undefined_symbol};
 ghost use Rattle.tc_link.specs.GlobalSymbols.{is_global, count_globals_named, KnowsRepeatedGlobals};
-ghost use Rattle.tc_link.specs.Refusals.{twice, missing, repeated_symbol_refusal, first_repeated_symbol_refusal, missing_symbol_refusal, first_missing_symbol_refusal, first_refusal_over, is_used_by_relocs};
+ghost use Rattle.tc_link.specs.Refusals.{twice, missing, repeated_symbol_refusal, first_repeated_symbol_refusal, missing_symbol_refusal, first_missing_symbol_refusal, first_refusal_over, is_used_by_relocs, AreFlagsOf};
 ghost use Rattle.tc_link.specs.Errors.{IsRefusal};
 ghost use Rattle.tc_link.specs.declared.errors.LinkErr.TheVariants.{NoMemory};
 
@@ -92,8 +92,8 @@ fn is_repeated_symbol(names: &HashMap<&str, Definition>, symbol: &SymbolRef<'_>)
 
 // For each symbol of an object, true if a relocation uses the symbol.
 fn used_symbol_marks(alloc: Global, object: &ObjectRef<'_>) -> Result<Vec<bool>, LinkErr>
-    ensures used { IfOk result (λ used. (k : ℕ) (d : Bool) → k < length object.now.symbols
-        → slice_index_or used.items k d ≡ is_used_by_relocs object.now.relocs k) }
+    ensures used { IfOk result (λ used. AreFlagsOf used.items (length object.now.symbols)
+        (is_used_by_relocs object.now.relocs)) }
     ensures count { IfOk result (λ used. length used.items ≡ length object.now.symbols) }
     ensures err { IfErr result (λ e. e ≡ NoMemory) }
 {
@@ -113,8 +113,7 @@ fn first_missing_symbol<'a>(
     requires { length used.now ≡ length symbols.now }
     ensures { (objects : List ObjectData) → KnowsRepeatedGlobals names.now objects
         → (relocs : List Reloc)
-        → ((k : ℕ) (d : Bool) → k < length symbols.now
-        → slice_index_or used.now k d ≡ is_used_by_relocs relocs k)
+        → AreFlagsOf used.now (length symbols.now) (is_used_by_relocs relocs)
         → first_refusal_over (missing_symbol_refusal objects relocs) symbols.now
         ≡ option_map (λ name. missing name.now) result }
 {
@@ -130,7 +129,8 @@ fn first_missing_symbol<'a>(
 // relocation uses the symbol.
 fn is_missing_symbol(names: &HashMap<&str, Definition>, used: bool, symbol: &SymbolRef<'_>) -> bool
     ensures { (objects : List ObjectData) → KnowsRepeatedGlobals names.now objects → result
-        ≡ (symbol.now.kind == 0 && used && count_globals_named objects symbol.now.name == 0) }
+        ≡ (symbol.now.kind == undefined_symbol && used
+        && count_globals_named objects symbol.now.name == 0) }
 {
     symbol.kind == UNDEFINED_SYMBOL && used && has_no_global(names, symbol.name)
 }

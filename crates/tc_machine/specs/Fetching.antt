@@ -34,6 +34,11 @@ abbrev pub fetched_shape : Result (InstData × ℕ) DecodeErr → Result (Shape 
 fetched_shape (Ok found) = Ok (shape_of found.0, found.1)
 fetched_shape (Err e) = Err (fetch_failure_cause e)
 
+-- what the bytes at pc do, at an odd pc too, and the length of the instruction in bytes; or why the
+-- machine dies if they don't decode
+abbrev pub shape_at_pc : Machine → Result (Shape × ℕ) Cause
+shape_at_pc m = fetched_shape (decoded_of (mapped_bytes 4 m.mem m.pc))
+
 -- the instruction at pc, decoded from at most four mapped bytes; there is none at an odd address
 unfoldable pub fetched_instruction : Machine → Result (Shape × ℕ) Cause
 fetched_instruction m = if m.pc % 2 == 0 then fetched_shape (decoded_of (mapped_bytes 4 m.mem m.pc)) else Err NoCode

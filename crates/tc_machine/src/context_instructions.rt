@@ -19,7 +19,8 @@ impl Machine {
     #[tactic(auto, unfolding(crate::specs::Instructions::does))]
     pub(crate) fn execute_context_op(&mut self, event: &Event, shape: Shape, n: u32)
         requires { IsShape shape }
-        ensures { IfContextInstruction shape (self.new ≡ does self.old event.now shape n) }
+        ensures { IfContextInstruction shape
+            (self.new ≡ does self.old event.now shape n) }
     {
         match shape {
             Shape::Call { to } => self.call(to, n),

@@ -3,7 +3,7 @@ ghost use Rattle.std.specs.Prelude.{◌≡◌, ◌<◌, ◌≤◌, IfOk};
 ghost use Rattle.tcd_base.specs.Bytes.{bytes_of_word};
 ghost use Rattle.tc_isa.specs.InBounds.{IsShape};
 ghost use Rattle.tc_encode.specs.Decoding.{decoded_of};
-ghost use Rattle.tc_machine.specs.Fetching.{mapped_bytes, fetch_failure_cause, fetched_instruction, fetched_shape};
+ghost use Rattle.tc_machine.specs.Fetching.{mapped_bytes, fetch_failure_cause, fetched_instruction, shape_at_pc};
 
 use crate::operand_addresses::wrapping_sum;
 use crate::{Cause, Machine};
@@ -77,8 +77,7 @@ impl Machine {
     /// Returns what the bytes at pc do and the length of the instruction in bytes, or why the
     /// machine dies if none is decoded. An odd pc counts too.
     pub fn shape_at_pc(&self) -> Result<(Shape, u32), Cause>
-        ensures shape { result ≡ fetched_shape
-            (decoded_of (mapped_bytes 4 self.now.mem self.now.pc)) }
+        ensures shape { result ≡ shape_at_pc self.now }
         ensures bounded { IfOk result (λ found. IsShape found.0) }
     {
         match fetch_at_address(&self.mem, self.pc) {
@@ -90,8 +89,7 @@ impl Machine {
     /// Returns `found`, which is what the bytes at pc do, or the cause `NoCode` if pc is odd.
     #[tactic(auto, unfolding(crate::specs::Fetching::fetched_instruction))]
     pub(crate) fn fetch(&self, found: Result<(Shape, u32), Cause>) -> Result<(Shape, u32), Cause>
-        requires found { found ≡ fetched_shape
-            (decoded_of (mapped_bytes 4 self.now.mem self.now.pc)) }
+        requires found { found ≡ shape_at_pc self.now }
         requires bounded { IfOk found (λ it. IsShape it.0) }
         ensures shape { result ≡ fetched_instruction self.now }
         ensures bounded { IfOk result (λ it. IsShape it.0) }

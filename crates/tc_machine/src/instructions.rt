@@ -116,7 +116,8 @@ impl Machine {
     #[tactic(auto, unfolding(crate::specs::Instructions::does))]
     fn execute_system_op(&mut self, event: &Event, shape: Shape, n: u32)
         requires { IsShape shape }
-        ensures { IfSystemInstruction shape (self.new ≡ does self.old event.now shape n) }
+        ensures { IfSystemInstruction shape
+            (self.new ≡ does self.old event.now shape n) }
     {
         match shape {
             Shape::Enable => {
@@ -145,7 +146,8 @@ impl Machine {
     #[tactic(auto, unfolding(crate::specs::Instructions::does))]
     fn execute_operation(&mut self, op: Op, dst: u8, x: Arg, y: Arg, n: u32)
         requires { IsShape (Shape.Compute op dst x y) }
-        ensures { (event : Event) → self.new ≡ does self.old event (Shape.Compute op dst x y) n }
+        ensures { (event : Event)
+            → self.new ≡ does self.old event (Shape.Compute op dst x y) n }
     {
         let word = alu(op, self.operand_value(x), self.operand_value(y));
         self.set_reg(dst, word);
@@ -170,8 +172,8 @@ impl Machine {
     #[tactic(auto, unfolding(crate::specs::Instructions::does))]
     fn execute_load(&mut self, event: &Event, dst: u8, at: Access, signed: bool, n: u32)
         requires { IsShape (Shape.Load dst at.base at.offset at.size signed at.after) }
-        ensures { self.new
-            ≡ does self.old event.now (Shape.Load dst at.base at.offset at.size signed at.after) n }
+        ensures { self.new ≡ does self.old event.now
+            (Shape.Load dst at.base at.offset at.size signed at.after) n }
     {
         let addr = self.access_address(at.base, at.offset, at.after);
         if is_trapping_access(event, addr, at.size) {
@@ -189,8 +191,8 @@ impl Machine {
     #[tactic(auto, unfolding(crate::specs::Instructions::does))]
     fn execute_store(&mut self, event: &Event, src: u8, at: Access, n: u32)
         requires { IsShape (Shape.Store src at.base at.offset at.size at.after) }
-        ensures { self.new
-            ≡ does self.old event.now (Shape.Store src at.base at.offset at.size at.after) n }
+        ensures { self.new ≡ does self.old event.now
+            (Shape.Store src at.base at.offset at.size at.after) n }
     {
         let addr = self.access_address(at.base, at.offset, at.after);
         if is_trapping_access(event, addr, at.size) {
@@ -208,8 +210,8 @@ impl Machine {
     #[tactic(auto, unfolding(crate::specs::Instructions::does))]
     fn execute_branch(&mut self, test: Comparison, by: u32, lowers: bool, n: u32)
         requires { IsShape (Shape.Branch test.cond test.x test.y by lowers) }
-        ensures { (event : Event)
-            → self.new ≡ does self.old event (Shape.Branch test.cond test.x test.y by lowers) n }
+        ensures { (event : Event) → self.new ≡ does self.old event
+            (Shape.Branch test.cond test.x test.y by lowers) n }
     {
         let goes = taken(test.cond, self.reg(test.x), self.operand_value(test.y));
         let distance = if goes { by } else { n };

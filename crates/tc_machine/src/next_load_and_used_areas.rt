@@ -3,8 +3,7 @@ ghost use Rattle.std.specs.Prelude.{◌≡◌, Ok, Some, None, IfOk, if◌then�
 ghost use Rattle.std.specs.Bool.{OnTrue};
 ghost use Rattle.csa_chain.specs.Chain.{link_in, is_area, area_word};
 ghost use Rattle.tc_isa.specs.InBounds.{IsShape};
-ghost use Rattle.tc_encode.specs.Decoding.{decoded_of};
-ghost use Rattle.tc_machine.specs.Fetching.{mapped_bytes, fetched_shape};
+ghost use Rattle.tc_machine.specs.Fetching.{shape_at_pc};
 ghost use Rattle.tc_machine.specs.Stepping.{load_of_fetched, next_load_of, used_area_count, step};
 ghost use Rattle.tc_machine.specs.InstructionKinds.{is_area_keeping_shape, is_area_keeping_event};
 
@@ -31,8 +30,7 @@ impl Machine {
     /// Returns the machine's next load as `next_load` does, for a caller that has decoded the bytes
     /// at pc already: `found` is what they do.
     pub fn next_load_predecoded(&self, found: &Result<(Shape, u32), Cause>) -> Option<(u32, u8)>
-        requires found { found.now
-            ≡ fetched_shape (decoded_of (mapped_bytes 4 self.now.mem self.now.pc)) }
+        requires found { found.now ≡ shape_at_pc self.now }
         requires bounded { IfOk found.now (λ it. IsShape it.0) }
         ensures { result ≡ next_load_of self.now }
     {
@@ -56,8 +54,7 @@ impl Machine {
     /// Returns true if the event takes no interrupt and `found`, what the bytes at pc do, never
     /// changes the memory or PCXI. Then the areas in use stay.
     pub fn keeps_areas(&self, event: &Event, found: &Result<(Shape, u32), Cause>) -> bool
-        requires { found.now ≡ fetched_shape
-            (decoded_of (mapped_bytes 4 self.now.mem self.now.pc)) }
+        requires { found.now ≡ shape_at_pc self.now }
         ensures is { result ≡ is_area_keeping_event self.now event.now found.now }
         ensures kept { OnTrue result
             (used_area_count (step self.now event.now) ≡ used_area_count self.now) }

@@ -1,10 +1,11 @@
 // Fills the memory of a start state.
-ghost use Rattle.std.specs.Prelude.{◌≡◌, ◌<◌, ◌≤◌, ◌+◌, ◌*◌, ◌^◌, [], ◌∷◌, ◌++◌, map, length, All, IsTrue, IfOk};
+ghost use Rattle.std.specs.Prelude.{◌≡◌, ◌<◌, ◌≤◌, ◌+◌, ◌*◌, ◌^◌, [], ◌∷◌, ◌++◌, map, length, IsTrue, IfOk};
 ghost use Rattle.std.specs.List.{list_all};
 ghost use Rattle.elf_image.specs.Images.{segment_data, is_segment};
 ghost use Rattle.csa_chain.specs.MemoryBytes.{HasOnlyBytes};
 ghost use Rattle.tc_machine.specs.Starting.{with_image_in_range, with_image_in_ranges, next_start_link, with_area_links, start_memory_ranges, IsFilledStartMemory, IsCopiedToMemory};
 ghost use Rattle.csa_chain.specs.Chain.{link_at};
+ghost use Rattle.tcd_base.specs.Ranges.{RangesDoNotWrap};
 
 use crate::contexts::write_area_word;
 use elf_image::{Image, Segment};
@@ -29,8 +30,8 @@ pub(crate) fn start_memory(
     at: u32,
     n: u32,
 ) -> Result<Mem, NoMemory>
-    requires rom { All (λ r. r.at + r.len ≤ 2 ^ 32) rom.now }
-    requires all { All (λ r. r.at + r.len ≤ 2 ^ 32) (start_memory_ranges rom.now ram.now at n) }
+    requires rom { RangesDoNotWrap rom.now }
+    requires all { RangesDoNotWrap (start_memory_ranges rom.now ram.now at n) }
     requires areas { at + 64 * n ≤ 2 ^ 32 }
     requires few { n ≤ 4096 }
     requires links { link_at at + n < 2 ^ 32 }
@@ -61,7 +62,7 @@ fn start_memory_ranges(
 
 /// Copies the image's bytes into these ranges of the memory of a start state.
 fn copy_image(mem: &mut Mem, image: &Image, ranges: &[Range])
-    requires { All (λ r. r.at + r.len ≤ 2 ^ 32) ranges.now }
+    requires { RangesDoNotWrap ranges.now }
     ensures copied { mem.new ≡ with_image_in_ranges image.now mem.old ranges.now }
     ensures bytes { HasOnlyBytes mem.old → HasOnlyBytes mem.new }
 {

@@ -1,8 +1,7 @@
 // Steps and runs.
 ghost use Rattle.std.specs.Prelude.{◌≡◌, IfOk};
 ghost use Rattle.tc_isa.specs.InBounds.{IsShape};
-ghost use Rattle.tc_encode.specs.Decoding.{decoded_of};
-ghost use Rattle.tc_machine.specs.Fetching.{mapped_bytes, fetched_shape};
+ghost use Rattle.tc_machine.specs.Fetching.{shape_at_pc};
 ghost use Rattle.tc_machine.specs.Stepping.{machine_after_event, step, run};
 
 use crate::{Cause, End, Event, Machine};
@@ -12,8 +11,7 @@ impl Machine {
     /// Performs one event as `step` does; `found` is what the bytes at pc do, decoded already.
     #[tactic(auto, unfolding(crate::specs::Stepping::step))]
     pub fn step_predecoded(&mut self, event: &Event, found: Result<(Shape, u32), Cause>)
-        requires found { found ≡ fetched_shape
-            (decoded_of (mapped_bytes 4 self.old.mem self.old.pc)) }
+        requires found { found ≡ shape_at_pc self.old }
         requires bounded { IfOk found (λ it. IsShape it.0) }
         ensures { self.new ≡ step self.old event.now }
     {
@@ -50,8 +48,7 @@ impl Machine {
     /// Performs an event of a machine that runs. Its interrupt is taken if interrupts are enabled
     /// and its priority is above the current one; otherwise the instruction at pc is executed.
     fn perform_event(&mut self, event: &Event, found: Result<(Shape, u32), Cause>)
-        requires found { found ≡ fetched_shape
-            (decoded_of (mapped_bytes 4 self.old.mem self.old.pc)) }
+        requires found { found ≡ shape_at_pc self.old }
         requires bounded { IfOk found (λ it. IsShape it.0) }
         ensures { self.new ≡ machine_after_event self.old event.now }
     {

@@ -1,5 +1,5 @@
 -- Pages of 4,096 bytes, and the memory of a list of pages.
-use Rattle.std.specs.Prelude.{◌≡◌, ◌<◌, ◌+◌, ◌-◌, ◌*◌, ◌/◌, ◌%◌, ◌^◌, ℕ, Bool, ◌==◌, if◌then◌else◌, List, ◌∷◌, ◌++◌, map, length, take, drop, slice_index, slice_set, Option, Some, None, All, []}
+use Rattle.std.specs.Prelude.{◌≡◌, ◌≢◌, ◌<◌, ◌+◌, ◌-◌, ◌*◌, ◌/◌, ◌%◌, ◌^◌, ℕ, Bool, ◌==◌, if◌then◌else◌, List, ◌∷◌, ◌++◌, map, length, take, drop, slice_index, slice_set, Option, Some, None, All, []}
 use Rattle.std.specs.List.Sorted.{IsStrictlyIncreasing}
 use Rattle.std.specs.Int.{bit_at}
 use Rattle.std.specs.FinMap as finite
@@ -13,6 +13,15 @@ is_page_bit_set mapped offset = bit_at (slice_index mapped (offset / 64)) (offse
 -- the bits of the n bytes from an offset on are in one word, and all set
 abbrev pub are_page_bits_set : ℕ → List ℕ → ℕ → Bool
 are_page_bits_set n mapped offset = slice_index mapped (offset / 64) / 2 ^ (offset % 64) % 2 ^ n == 2 ^ n - 1
+
+-- the 64 bytes of a page from an offset on, a multiple of 64, are all mapped: their bits, which are
+-- one word, are all set
+abbrev pub is_block_mapped : List ℕ → ℕ → Bool
+is_block_mapped mapped offset = slice_index mapped (offset / 64) == 2 ^ 64 - 1
+
+-- the bits of the 64 bytes of a page around an offset fit a word of 64 bits
+abbrev pub BlockBitsFitWord : List ℕ → ℕ → Type 0
+BlockBitsFitWord mapped offset = slice_index mapped (offset / 64) < 2 ^ 64
 
 -- the byte at an address, if it is in the page and mapped
 abbrev pub page_byte_at : ℕ → Page → Option ℕ
@@ -41,6 +50,18 @@ pub record IsPage (p : Page) : Type 0 where
 abbrev pub page_number_of : Page → ℕ
 page_number_of p = p.number
 
+-- the pages are in ascending order of their numbers
+abbrev pub AscendByNumber : List Page → Type 0
+AscendByNumber ps = IsStrictlyIncreasing (map page_number_of ps)
+
+-- the page with index i has this number
+abbrev pub PageHasNumber : List Page → ℕ → ℕ → Type 0
+PageHasNumber ps i number = slice_index (map page_number_of ps) i ≡ number
+
+-- none of the pages has this number
+abbrev pub NoPageHasNumber : List Page → ℕ → Type 0
+NoPageHasNumber ps number = All (λ p. page_number_of p ≢ number) ps
+
 -- each page is whole, and the numbers of the pages ascend
 pub record AreOrderedPages (ps : List Page) : Type 0 where
   pub whole : All IsPage ps
@@ -58,6 +79,10 @@ pub record AreMemoryPages (ps : List Page) : Type 0 where
 -- the bytes of a page, with these bytes written from an offset on
 abbrev pub page_bytes_with : List ℕ → ℕ → List ℕ → List ℕ
 page_bytes_with bytes offset new = take offset bytes ++ (new ++ drop (offset + length new) bytes)
+
+-- the bytes of a page, with the two bytes of a halfword written at an offset, the lower byte first
+abbrev pub page_bytes_with_half : List ℕ → ℕ → ℕ → List ℕ
+page_bytes_with_half bytes offset half = slice_set (slice_set bytes offset (half % 2 ^ 8)) (offset + 1) (half / 2 ^ 8 % 2 ^ 8)
 
 -- the 32-bit words from an offset on, written into the bytes of a page, the last word first
 unfoldable pub page_bytes_with_words : List ℕ → ℕ → List ℕ → List ℕ

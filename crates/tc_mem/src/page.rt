@@ -1,8 +1,8 @@
 // One page: its bytes, their bits, and what reads and writes them.
-ghost use Rattle.std.specs.Prelude.{◌≡◌, ◌<◌, ◌≤◌, ◌+◌, ◌-◌, ◌==◌, [], ◌∷◌, ℕ, ◌*◌, ◌/◌, ◌%◌, ◌^◌, All, IfSome, is_some, length, true, slice_index, slice_set, if◌then◌else◌, ◌||◌, ◌&&◌, nat_le, nat_lt, false, Some, None};
+ghost use Rattle.std.specs.Prelude.{◌≡◌, ◌<◌, ◌≤◌, ◌+◌, ◌==◌, [], ◌∷◌, ℕ, ◌*◌, ◌/◌, ◌%◌, ◌^◌, All, IfSome, is_some, length, true, slice_index, slice_set, if◌then◌else◌, ◌||◌, ◌&&◌, nat_le, nat_lt, false, Some, None};
 ghost use Rattle.tcd_base.specs.Bytes.{word_in_bytes, half_in_bytes};
-ghost use Rattle.tc_mem.specs.Pages.{is_page_bit_set, page_byte_at, page_bytes_with_words, page_bytes_with, are_page_bits_set, IsPage};
-ghost use Rattle.tcd_base.specs.Ranges.{is_address_in_ranges};
+ghost use Rattle.tc_mem.specs.Pages.{is_page_bit_set, page_byte_at, page_bytes_with_words, page_bytes_with, page_bytes_with_half, are_page_bits_set, is_block_mapped, BlockBitsFitWord, IsPage};
+ghost use Rattle.tcd_base.specs.Ranges.{is_address_in_range, is_address_in_ranges};
 
 use std::marker::Model;
 use tcd_base::Range;
@@ -87,8 +87,8 @@ pub(crate) fn write_page_word(bytes: &mut [u8; 4096], offset: usize, word: u32)
 pub(crate) fn page_area(page: &Page, offset: usize) -> Option<[u32; 16]>
     requires aligned { offset % 64 ≡ 0 }
     requires within { offset < 4096 }
-    ensures fits { slice_index page.now.mapped (offset / 64) < 2 ^ 64 }
-    ensures mapped { is_some result ≡ (slice_index page.now.mapped (offset / 64) == 2 ^ 64 - 1) }
+    ensures fits { BlockBitsFitWord page.now.mapped offset }
+    ensures mapped { is_some result ≡ is_block_mapped page.now.mapped offset }
     ensures size { IfSome result (λ ws. length ws ≡ 16) }
     ensures words { IfSome result
         (λ ws. (k : ℕ) → k < 16 → slice_index ws k
@@ -105,8 +105,8 @@ pub(crate) fn page_area(page: &Page, offset: usize) -> Option<[u32; 16]>
 pub(crate) fn write_page_area(page: &mut Page, offset: usize, words: &[u32; 16]) -> bool
     requires aligned { offset % 64 ≡ 0 }
     requires within { offset < 4096 }
-    ensures fits { slice_index page.old.mapped (offset / 64) < 2 ^ 64 }
-    ensures mapped { result ≡ (slice_index page.old.mapped (offset / 64) == 2 ^ 64 - 1) }
+    ensures fits { BlockBitsFitWord page.old.mapped offset }
+    ensures mapped { result ≡ is_block_mapped page.old.mapped offset }
     ensures written { page.new
         ≡ record page.old {
           bytes = if result then page_bytes_with_words page.old.bytes offset words.now
@@ -125,8 +125,8 @@ pub(crate) fn write_page_area(page: &mut Page, offset: usize, words: &[u32; 16])
 pub(crate) fn page_area_first_word(page: &Page, offset: usize) -> Option<u32>
     requires aligned { offset % 64 ≡ 0 }
     requires within { offset < 4096 }
-    ensures fits { slice_index page.now.mapped (offset / 64) < 2 ^ 64 }
-    ensures mapped { is_some result ≡ (slice_index page.now.mapped (offset / 64) == 2 ^ 64 - 1) }
+    ensures fits { BlockBitsFitWord page.now.mapped offset }
+    ensures mapped { is_some result ≡ is_block_mapped page.now.mapped offset }
     ensures word { IfSome result (λ w. w ≡ word_in_bytes page.now.bytes offset) }
 {
     let mapped = page.mapped[offset / 64] == u64::MAX;
@@ -190,9 +190,8 @@ pub(crate) fn write_mapped_page_half(page: &mut Page, offset: usize, half: u16) 
     ensures mapped { result ≡ are_page_bits_set 2 page.old.mapped offset }
     ensures written { page.new
         ≡ record page.old {
-          bytes = if result
-              then slice_set (slice_set page.old.bytes offset (half % 2 ^ 8)) (offset + 1)
-              (half / 2 ^ 8 % 2 ^ 8) else page.old.bytes;
+          bytes = if result then page_bytes_with_half page.old.bytes offset half
+              else page.old.bytes;
         } }
 {
     let mapped = is_page_half_mapped(page, offset);
@@ -206,9 +205,7 @@ pub(crate) fn write_mapped_page_half(page: &mut Page, offset: usize, half: u16) 
 pub(crate) fn set_page_bits_of_range(mapped: &mut [u64; 64], number: u32, range: &Range)
     ensures { (k : ℕ) → k < 4096
         → is_page_bit_set mapped.new k
-        ≡ (is_page_bit_set mapped.old k
-        || (nat_le range.now.at (number * 4096 + k)
-        && nat_lt (number * 4096 + k) (range.now.at + range.now.len))) }
+        ≡ (is_page_bit_set mapped.old k || is_address_in_range range.now (number * 4096 + k)) }
 {
     let base = u64::from(number) * 4096;
     let from = u64::from(range.at).max(base);
@@ -315,9 +312,7 @@ fn page_half(bytes: &[u8; 4096], offset: usize) -> u16
 // Writes a halfword to two bytes of a page from an offset on, the lower byte first.
 fn write_page_half(bytes: &mut [u8; 4096], offset: usize, half: u16)
     requires { offset + 2 ≤ 4096 }
-    ensures { bytes.new
-        ≡ slice_set (slice_set bytes.old offset (half % 2 ^ 8)) (offset + 1)
-        (half / 2 ^ 8 % 2 ^ 8) }
+    ensures { bytes.new ≡ page_bytes_with_half bytes.old offset half }
 {
     let parts = half.to_le_bytes();
     bytes[offset] = parts[0];

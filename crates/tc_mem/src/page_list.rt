@@ -2,7 +2,7 @@
 ghost use Rattle.std.specs.Prelude.{◌≡◌, ◌≤◌, ◌+◌, ◌%◌, ◌^◌, IfOk, length, ◌<◌, ◌/◌, Some, None, ◌-◌, false, ◌*◌};
 ghost use Rattle.std.specs.Bool.{OnFalse};
 ghost use Rattle.std.specs.FinMap as finite;
-ghost use Rattle.csa_chain.specs.MemoryBytes.{are_mapped, with_byte, HasOnlyBytes, is_mapped as has_byte};
+ghost use Rattle.csa_chain.specs.MemoryBytes.{are_mapped, with_byte, HasOnlyBytes, is_mapped};
 ghost use Rattle.tc_mem.specs.Areas.{mapped_area_words, memory_with_area, area_first_word};
 ghost use Rattle.tc_mem.specs.Blocks.{are_mapped_in_block, mapped_block_word, mapped_block_half, with_block_word, with_block_half};
 ghost use Rattle.tc_mem.specs.Pages.{memory_of, AreMemoryPages};
@@ -80,7 +80,7 @@ pub(crate) fn read_memory_half(pages: &[Page], addr: u32, near: usize) -> Option
 /// Writes a byte, or returns false if unmapped. `near` guesses its page's index in `pages`.
 pub(crate) fn write_memory_byte(pages: &mut [Page], addr: u32, byte: u8, near: usize) -> bool
     requires { AreMemoryPages pages.old }
-    ensures mapped { result ≡ has_byte (memory_of pages.old) addr }
+    ensures mapped { result ≡ is_mapped (memory_of pages.old) addr }
     ensures written { memory_of pages.new ≡ with_byte (memory_of pages.old) addr byte }
     ensures kept { OnFalse result (memory_of pages.new ≡ memory_of pages.old) }
     ensures pages { AreMemoryPages pages.new }

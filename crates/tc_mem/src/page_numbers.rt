@@ -1,7 +1,7 @@
 // Pages by their numbers: the search for one, and the pages of ranges.
-ghost use Rattle.std.specs.Prelude.{◌≡◌, ◌≢◌, ◌<◌, All, IfSome, IfNone, map, length, slice_index, ◌≤◌, ◌+◌, ◌/◌, ℕ, Contains, IfOk, IsTrue, OnOk, Some, None};
+ghost use Rattle.std.specs.Prelude.{◌<◌, IfSome, IfNone, length, ◌≤◌, ◌+◌, ◌/◌, ℕ, Contains, IfOk, IsTrue, OnOk, Some, None};
 ghost use Rattle.std.specs.List.Sorted.{IsStrictlyIncreasing};
-ghost use Rattle.tc_mem.specs.Pages.{page_number_of};
+ghost use Rattle.tc_mem.specs.Pages.{AscendByNumber, PageHasNumber, NoPageHasNumber};
 ghost use Rattle.tcd_base.specs.Ranges.{is_address_in_ranges};
 
 use crate::page::Page;
@@ -11,10 +11,10 @@ use tcd_base::{NoMemory, Range};
 // Returns the index of the page with this number in a list of pages, or `None`. The index `near` is
 // tried first, then a binary search.
 pub(crate) fn find_page_near(pages: &[Page], number: u32, near: usize) -> Option<usize>
-    requires { IsStrictlyIncreasing (map page_number_of pages.now) }
+    requires { AscendByNumber pages.now }
     ensures within { IfSome result (λ i. i < length pages.now) }
-    ensures found { IfSome result (λ i. slice_index (map page_number_of pages.now) i ≡ number) }
-    ensures none { IfNone result (All (λ p. page_number_of p ≢ number) pages.now) }
+    ensures found { IfSome result (λ i. PageHasNumber pages.now i number) }
+    ensures none { IfNone result (NoPageHasNumber pages.now number) }
 {
     if near < pages.len() && pages[near].number == number {
         return Some(near);
@@ -25,10 +25,10 @@ pub(crate) fn find_page_near(pages: &[Page], number: u32, near: usize) -> Option
 /// Returns the index of the page with this number in a list of pages, or `None`. An index that the
 /// number suggests is tried first, or else `near`.
 pub(crate) fn find_page(pages: &[Page], number: u32, near: usize) -> Option<usize>
-    requires { IsStrictlyIncreasing (map page_number_of pages.now) }
+    requires { AscendByNumber pages.now }
     ensures within { IfSome result (λ i. i < length pages.now) }
-    ensures found { IfSome result (λ i. slice_index (map page_number_of pages.now) i ≡ number) }
-    ensures none { IfNone result (All (λ p. page_number_of p ≢ number) pages.now) }
+    ensures found { IfSome result (λ i. PageHasNumber pages.now i number) }
+    ensures none { IfNone result (NoPageHasNumber pages.now number) }
 {
     find_page_near(pages, number, likely_page_index(pages, number, near))
 }
@@ -50,10 +50,10 @@ pub(crate) fn page_numbers(alloc: Global, ranges: &[Range]) -> Result<Vec<u32>, 
 
 // Returns the index of the page with this number in a list of pages, or `None`.
 fn binary_search_page(pages: &[Page], number: u32) -> Option<usize>
-    requires { IsStrictlyIncreasing (map page_number_of pages.now) }
+    requires { AscendByNumber pages.now }
     ensures within { IfSome result (λ i. i < length pages.now) }
-    ensures found { IfSome result (λ i. slice_index (map page_number_of pages.now) i ≡ number) }
-    ensures none { IfNone result (All (λ p. page_number_of p ≢ number) pages.now) }
+    ensures found { IfSome result (λ i. PageHasNumber pages.now i number) }
+    ensures none { IfNone result (NoPageHasNumber pages.now number) }
 {
     let mut from = 0;
     let mut to = pages.len();

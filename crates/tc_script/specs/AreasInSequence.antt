@@ -23,6 +23,10 @@ links_in_sequence first (suc n) = (first + n) ∷ links_in_sequence first n
 abbrev pub AreAreasInSequence : ℕ → ℕ → Machine → Type 0
 AreAreasInSequence first n m = chain m.mem m.pcxi ≡ Some (links_in_sequence first n)
 
+-- the count says that the areas in use are consecutive
+abbrev pub KnowsAreasInSequence : AreasUsed → Type 0
+KnowsAreasInSequence u = u.in_row ≡ true
+
 -- this number of areas is in use, and they are consecutive if the count says so
 pub record IsAreaCountOf (u : AreasUsed) (m : Machine) : Type 0 where
   pub count : u.count ≡ unwrap_or (used_area_count m) 0

@@ -1,6 +1,5 @@
 -- Runs by a script that answers for the peripherals: there is one list of events.
 use Rattle.std.specs.Prelude.{◌≡◌, ℕ, ◌+◌, if◌then◌else◌, List, ◌∷◌, length, Option, Some, None, []}
-use Rattle.std.specs.List.{list_any}
 use Rattle.tcd_plan.specs.declared.plans.Device.{Device}
 use Rattle.tcd_plan.specs.PlanData.{PlanData}
 use Rattle.tc_machine.specs.declared.events.Event.{Event}
@@ -13,15 +12,14 @@ use Rattle.tc_script.specs.declared.driving.Peak.{Peak}
 use Rattle.tc_script.specs.declared.scripts.Turn.{Turn}
 use Rattle.tc_script.specs.declared.scripts.AnswerRange.{AnswerRange}
 use Rattle.tc_script.specs.ScriptData.{ScriptData}
-use Rattle.tcd_base.specs.Ranges.{is_within_range}
 use Rattle.tc_script.specs.DrivenRuns.{DeviceAnswers, AreDrivenEvents, driven_peak}
-use Rattle.tc_script.specs.Ports.{device_answer_at}
+use Rattle.tc_script.specs.Ports.{device_answer_at, is_in_device}
 
 -- in a run by a script, the input at an event: the answer at the load's address if the load is
 -- wholly inside one peripheral range, else 0
 abbrev pub script_input_of : List Device → List AnswerRange → ℕ → Option (ℕ × ℕ) → ℕ
 script_input_of devices bounds t None = 0
-script_input_of devices bounds t (Some load) = if list_any (λ d. is_within_range load.0 load.1 d.range) devices then device_answer_at devices bounds load.0 t else 0
+script_input_of devices bounds t (Some load) = if is_in_device load.0 load.1 devices then device_answer_at devices bounds load.0 t else 0
 
 -- the event of a turn
 abbrev pub script_event_of : List Device → List AnswerRange → ℕ → Turn → Machine → Event

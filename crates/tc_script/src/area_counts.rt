@@ -2,12 +2,11 @@
 // A recount of the chain is needed only if the effect of an event isn't known.
 ghost use Rattle.std.specs.Prelude.{◌≡◌, ◌<◌, ◌+◌, ◌*◌, true, false, IfOk};
 ghost use Rattle.tc_isa.specs.InBounds.{IsShape, IsShapeAccessSize};
-ghost use Rattle.tc_encode.specs.Decoding.{decoded_of};
 ghost use Rattle.tc_machine.specs.declared.state.Machine.{Machine};
-ghost use Rattle.tc_machine.specs.Fetching.{mapped_bytes, fetched_shape};
+ghost use Rattle.tc_machine.specs.Fetching.{shape_at_pc};
 ghost use Rattle.tc_machine.specs.Instructions.{is_trapping_access};
 ghost use Rattle.tc_machine.specs.Stepping.{step, is_interrupt_taken};
-ghost use Rattle.tc_script.specs.AreasInSequence.{IsAreaCountOf, SavesContext, RestoresContext, StoresBytes, KeepsMemoryAndPcxi, AreaEffectHolds, IsAreaEffectOf};
+ghost use Rattle.tc_script.specs.AreasInSequence.{IsAreaCountOf, KnowsAreasInSequence, SavesContext, RestoresContext, StoresBytes, KeepsMemoryAndPcxi, AreaEffectHolds, IsAreaEffectOf};
 
 use csa_chain::address_of;
 use tc_isa::Shape;
@@ -53,7 +52,7 @@ pub(crate) fn area_effect_of_event(
     used: AreasUsed,
 ) -> Effect
     requires running { m.now.end ≡ End.Running }
-    requires found { found.now ≡ fetched_shape (decoded_of (mapped_bytes 4 m.now.mem m.now.pc)) }
+    requires found { found.now ≡ shape_at_pc m.now }
     requires bounded { IfOk found.now (λ it. IsShape it.0) }
     requires counted { IsAreaCountOf used m.now }
     ensures { (step m.now event.now).end ≡ End.Running
@@ -104,7 +103,7 @@ fn is_event_interrupt_taken(m: &Machine, event: &Event) -> bool
 /// area is next, else unknown.
 fn area_effect_of_save(m: &Machine, used: AreasUsed) -> Effect
     requires counted { IsAreaCountOf used m.now }
-    requires row { used.in_row ≡ true }
+    requires row { KnowsAreasInSequence used }
     ensures { (after : Machine) → SavesContext m.now after → AreaEffectHolds result used after }
 {
     let _pcxi = m.pcxi;
@@ -124,7 +123,7 @@ fn area_effect_of_save(m: &Machine, used: AreasUsed) -> Effect
 /// still runs afterwards.
 fn area_effect_of_instruction(m: &Machine, event: &Event, shape: Shape, used: AreasUsed) -> Effect
     requires counted { IsAreaCountOf used m.now }
-    requires row { used.in_row ≡ true }
+    requires row { KnowsAreasInSequence used }
     requires bounded { IsShape shape }
     ensures { IsAreaEffectOf result used m.now event.now shape }
 {
@@ -165,7 +164,7 @@ fn area_effect_of_instruction(m: &Machine, event: &Event, shape: Shape, used: Ar
 /// if the load traps.
 fn area_effect_of_load(m: &Machine, event: &Event, used: AreasUsed, addr: u32, size: u8) -> Effect
     requires counted { IsAreaCountOf used m.now }
-    requires row { used.in_row ≡ true }
+    requires row { KnowsAreasInSequence used }
     requires size { IsShapeAccessSize size }
     ensures { (after : Machine)
         → (is_trapping_access event.now addr size ≡ true → SavesContext m.now after)
@@ -189,7 +188,7 @@ fn area_effect_of_store_or_trap(
     size: u8,
 ) -> Effect
     requires counted { IsAreaCountOf used m.now }
-    requires row { used.in_row ≡ true }
+    requires row { KnowsAreasInSequence used }
     requires size { IsShapeAccessSize size }
     ensures { (after : Machine)
         → (is_trapping_access event.now addr size ≡ true → SavesContext m.now after)
@@ -207,7 +206,7 @@ fn area_effect_of_store_or_trap(
 /// areas in use; unknown for other instructions.
 fn area_effect_of_context_op(m: &Machine, event: &Event, shape: Shape, used: AreasUsed) -> Effect
     requires counted { IsAreaCountOf used m.now }
-    requires row { used.in_row ≡ true }
+    requires row { KnowsAreasInSequence used }
     ensures { IsAreaEffectOf result used m.now event.now shape }
 {
     match shape {
@@ -226,7 +225,7 @@ fn area_effect_of_context_op(m: &Machine, event: &Event, shape: Shape, used: Are
 /// misses all of them, else unknown.
 fn area_effect_of_store(m: &Machine, used: AreasUsed, addr: u32, size: u8) -> Effect
     requires counted { IsAreaCountOf used m.now }
-    requires row { used.in_row ≡ true }
+    requires row { KnowsAreasInSequence used }
     ensures { (after : Machine) → StoresBytes addr size m.now after
         → AreaEffectHolds result used after }
 {
@@ -254,7 +253,7 @@ fn area_effect_of_store(m: &Machine, used: AreasUsed, addr: u32, size: u8) -> Ef
 /// if there are none.
 fn area_effect_of_restore(m: &Machine, used: AreasUsed) -> Effect
     requires counted { IsAreaCountOf used m.now }
-    requires row { used.in_row ≡ true }
+    requires row { KnowsAreasInSequence used }
     ensures { (after : Machine) → RestoresContext m.now after → AreaEffectHolds result used after }
 {
     let count = used.count;

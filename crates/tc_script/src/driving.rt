@@ -2,8 +2,7 @@
 ghost use Rattle.std.specs.Prelude.{◌≡◌, ◌<◌, ◌^◌, IfOk};
 ghost use Rattle.std.specs.Bool.{MatchBool};
 ghost use Rattle.tc_isa.specs.InBounds.{IsShape};
-ghost use Rattle.tc_encode.specs.Decoding.{decoded_of};
-ghost use Rattle.tc_machine.specs.Fetching.{mapped_bytes, fetched_shape};
+ghost use Rattle.tc_machine.specs.Fetching.{shape_at_pc};
 ghost use Rattle.tc_script.specs.ScriptsFitPlans.{AreTurnInterruptsOfPlan};
 ghost use Rattle.tc_script.specs.Ports.{ArePortsAskable, ArePortsBounded};
 ghost use Rattle.tc_script.specs.DrivenRuns.{IsEventOfTurn, IsDrivenRun};
@@ -83,7 +82,7 @@ fn event_of_turn<F: Fn(u32, u32) -> u32>(
     t: u32,
 ) -> Event
     requires askable { ArePortsAskable (F.pre ports.now.answer) ports.now.devices }
-    requires found { found.now ≡ fetched_shape (decoded_of (mapped_bytes 4 m.now.mem m.now.pc)) }
+    requires found { found.now ≡ shape_at_pc m.now }
     requires bounded { IfOk found.now (λ it. IsShape it.0) }
     ensures event { IsEventOfTurn ports.now.devices (F.post ports.now.answer) t turn m.now result }
     ensures word { result.input < 2 ^ 32 }

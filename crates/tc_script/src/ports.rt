@@ -1,8 +1,6 @@
 // The answers of peripherals: the ports that a run is driven with.
 ghost use Rattle.std.specs.Prelude.{◌≡◌, ◌<◌, ◌≤◌, IfSome, length};
-ghost use Rattle.tcd_base.specs.Ranges.{is_within_range};
-ghost use Rattle.std.specs.List.{list_any};
-ghost use Rattle.tc_script.specs.Ports.{ArePortsAskable, ArePortsBounded, device_answer, device_answer_at};
+ghost use Rattle.tc_script.specs.Ports.{ArePortsAskable, ArePortsBounded, device_answer, device_answer_at, is_in_device};
 ghost use Rattle.tc_script.specs.DrivenRuns.{IsDrivenInput};
 
 use crate::Script;
@@ -48,7 +46,7 @@ impl<F: Fn(u32, u32) -> u32> Ports<F> {
 
     /// Returns true if the bytes from an address on are wholly inside one peripheral range.
     pub(crate) fn holds(&self, addr: u32, size: u8) -> bool
-        ensures { result ≡ list_any (λ d. is_within_range addr size d.range) self.now.devices }
+        ensures { result ≡ is_in_device addr size self.now.devices }
     {
         self.devices
             .iter()

@@ -1,6 +1,6 @@
 // Scripts as data.
-ghost use Rattle.std.specs.Prelude.{◌≡◌, ◌<◌, ◌≤◌, length, slice_get, Some, option_map};
-ghost use Rattle.tc_script.specs.Ports.{device_answer};
+ghost use Rattle.std.specs.Prelude.{◌≡◌, ◌<◌, ◌≤◌, length, slice_get, Some};
+ghost use Rattle.tc_script.specs.Ports.{script_answer};
 
 use crate::ports::device_answer;
 use arrayvec::ArrayVec;
@@ -60,8 +60,7 @@ impl Script {
     /// peripheral's `lo` to its `hi`, in turn and over again.
     pub fn answer(&self, device: usize, at: u32) -> u32
         requires { device < length self.now.bounds }
-        ensures { option_map (λ b. device_answer b at) (slice_get self.now.bounds device)
-            ≡ Some result }
+        ensures { script_answer self.now.bounds device at ≡ Some result }
     {
         device_answer(self.bounds.as_slice()[device], at)
     }

@@ -3,6 +3,7 @@ use Rattle.std.proofs.Common.{◌≡◌, ◌∷◌, ℕ, List, [], map, take, le
 use Rattle.tc_lex.specs.declared.kinds.Token.{Token}
 use Rattle.tc_lex.specs.Cut.{tokens_of, cut}
 use Rattle.tc_lex.specs.Pieces.{PieceData, pieces_of_tokens, piece_of_token, is_token_kind}
+use Rattle.tc_stmt.specs.SourceRules.{bad_token}
 use Rattle.tc_stmt.specs.Lines.{line_data, line_in, line_from, tokens_line, label_of, label_before, meaning_of_cut_line}
 
 pub label_pieces : (text : List ℕ) (r : Result (List Token) ℕ) (ps : List PieceData) → pieces_of_tokens text r ≡ Ok ps → label_before text r ≡ label_of ps
@@ -21,7 +22,7 @@ pub unread : (line : List ℕ) (r : Result (List Token) ℕ) (at : ℕ) → piec
 unread line (Ok ts) at e = cc
 unread line (Err b) at e = let b_is : b ≡ at = cc in ap (λ x. Err x) b_is
 
-pub line_unread : (line : List ℕ) (r : Result (List Token) ℕ) (at : ℕ) → pieces_of_tokens line r ≡ Err at → meaning_of_cut_line line r ≡ line_data 1 (label_before (take at line) (tokens_of (take at line)))
+pub line_unread : (line : List ℕ) (r : Result (List Token) ℕ) (at : ℕ) → pieces_of_tokens line r ≡ Err at → meaning_of_cut_line line r ≡ line_data bad_token (label_before (take at line) (tokens_of (take at line)))
 line_unread line r at e = ap (meaning_of_cut_line line) (unread line r at e)
 
 -- an empty line breaks no rule and adds nothing

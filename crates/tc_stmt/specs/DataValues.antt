@@ -1,13 +1,17 @@
 -- The values of `.byte`, `.half`, `.word` and `.space`.
-use Rattle.std.specs.Prelude.{ℕ, ◌*◌, ◌^◌, ◌==◌, ◌&&◌, ◌||◌, not, nat_le, min, if◌then◌else◌, ◌∷◌, take, Some, None, List, length, fold, ◌/◌, nat_lt, Bool, []}
+use Rattle.std.specs.Prelude.{◌≡◌, ◌⊎◌, ℕ, ◌*◌, ◌^◌, ◌==◌, ◌&&◌, ◌||◌, not, nat_le, min, if◌then◌else◌, ◌∷◌, take, Some, None, List, length, fold, ◌/◌, nat_lt, Bool, []}
 use Rattle.tc_isa.specs.Relocations.{word32}
-use Rattle.tc_stmt.specs.SourceRules.{wrong_operands, no_rule, wide_number, misplaced_symbol}
+use Rattle.tc_stmt.specs.SourceRules.{wrong_operands, no_rule, wide_number, misplaced_symbol, past_limits}
 use Rattle.tcd_base.specs.Bytes.{four_bytes}
 use Rattle.tc_lex.specs.Operands.{OperandData}
 use Rattle.tc_stmt.specs.Filling.{reference}
 use Rattle.tc_stmt.specs.Names.{symbol_rule}
 use Rattle.tc_stmt.specs.OperandForms.{shape_index, is_symbol_operand, is_half_operand, operand_number_modulo, is_number_operand, is_huge_operand}
 use Rattle.tc_stmt.specs.Items.{ItemData, bytes, zeros}
+
+-- the width in bytes of a value of `.byte`, `.half` or `.word`: 1, 2 or 4
+abbrev pub IsDataWidth : ℕ → Type 0
+IsDataWidth width = (width ≡ 1) ⊎ ((width ≡ 2) ⊎ (width ≡ 4))
 
 -- the number `size`, negative if `minus`, fits this many bits, signed or unsigned
 abbrev pub is_value_within_width : ℕ → Bool → ℕ → Bool
@@ -35,7 +39,7 @@ value_item width o =
 unfoldable pub space_rule : OperandData → ℕ
 space_rule o =
     if o.is_memory then wrong_operands
-    else (if is_number_operand o.value.shape then (if o.value.minus && not (o.value.size == 0) then 5 else (if nat_le o.value.size (2 ^ 24) then 15 else 13))
+    else (if is_number_operand o.value.shape then (if o.value.minus && not (o.value.size == 0) then wide_number else (if nat_le o.value.size (2 ^ 24) then no_rule else past_limits))
     else (if is_huge_operand o.value.shape then wide_number
     else (if is_symbol_operand (shape_index o.value.shape) || is_half_operand (shape_index o.value.shape) then min misplaced_symbol (symbol_rule o.value) else wrong_operands)))
 

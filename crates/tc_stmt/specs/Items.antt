@@ -1,5 +1,5 @@
 -- The items that the lines of a source add to it, in order.
-use Rattle.std.specs.Prelude.{ℕ, Bool, List, ◌∷◌, take, Option, Some, None, []}
+use Rattle.std.specs.Prelude.{ℕ, Bool, List, ◌∷◌, take, Option, Some, None, option_map, []}
 use Rattle.tc_isa.specs.declared.fields.Fields.{Fields}
 use Rattle.tc_isa.specs.Relocations.{word32}
 use Rattle.tc_stmt.specs.declared.item.Item.{Item}
@@ -18,6 +18,10 @@ pub record ReferenceData : Type 0 where
 -- the number that is added
 abbrev pub reference_of : Reference → ReferenceData
 reference_of r = record { kind = r.kind; name = r.name.now; minus = r.minus; size = r.size }
+
+-- an item's reference to a symbol, if there is one, as plain data
+abbrev pub reference_if_any : Option Reference → Option ReferenceData
+reference_if_any r = option_map reference_of r
 
 -- A label; a section to continue or begin; a global name; an instruction of the row with this
 -- number, with its fields and perhaps a symbol; bytes, perhaps with a symbol; a number of zeros.

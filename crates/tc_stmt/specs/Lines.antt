@@ -1,13 +1,14 @@
 -- The meaning of a line by itself.
-use Rattle.std.specs.Prelude.{ℕ, ◌+◌, ◌++◌, ◌==◌, ◌&&◌, Bool, false, if◌then◌else◌, List, ◌∷◌, codes, take, drop, length, map, find, Option, Some, None, Result, Ok, Err, []}
+use Rattle.std.specs.Prelude.{ℕ, ◌+◌, ◌++◌, ◌==◌, ◌&&◌, Bool, false, if◌then◌else◌, List, ◌∷◌, codes, take, drop, length, map, Option, Some, None, Result, Ok, Err, []}
 use Rattle.std.specs.Option.{option_map_or}
 use Rattle.std.specs.List.{flat_map, slice_split}
 use Rattle.std.specs.Str.{bytes_eq}
-use Rattle.tc_stmt.specs.SourceRules.{no_rule, wrong_operands}
+use Rattle.tc_stmt.specs.SourceRules.{bad_token, no_rule, wrong_operands}
 use Rattle.tc_lex.specs.declared.kinds.Token.{Token}
 use Rattle.tc_lex.specs.declared.kinds.TokenKind.TheVariants as kind
 use Rattle.tc_lex.specs.Cut.{tokens_of}
-use Rattle.tc_isa.specs.Rows.{table_rows, is_32_bit_row}
+use Rattle.tc_isa.specs.Rows.{is_32_bit_row}
+use Rattle.tc_stmt.specs.RowIndex.{row_of_name}
 use Rattle.tc_lex.specs.Pieces.{PieceData, is_token_kind, token_text, piece_of_token as with_text}
 use Rattle.tc_lex.specs.Operands.{OperandData, operands}
 use Rattle.tc_stmt.specs.RowFields.{RowFieldsData}
@@ -61,7 +62,7 @@ values_line width os = line_data (values_rule width os) (map (value_item width) 
 -- the number of zeros that a line adds if its instruction breaks a rule: the size in bytes of the
 -- instructions with its name, or 0 if there are none
 unfoldable pub instruction_size : List ℕ → ℕ
-instruction_size name = option_map_or (λ r. if is_32_bit_row r then 4 else 2) (find (λ r. bytes_eq r.name name) table_rows) 0
+instruction_size name = option_map_or (λ r. if is_32_bit_row r then 4 else 2) (row_of_name name) 0
 
 -- the meaning of a line that is an instruction: its item; if a rule is broken, zeros in the size of
 -- instructions with its name
@@ -86,7 +87,7 @@ statement_line name os =
 unfoldable pub line_from : List PieceData → ℕ → LineData
 line_from ps at =
     if length ps == at then line_data no_rule []
-    else (if is_token_kind ps at kind.Word then statement_line (token_text ps at) (operands (drop (at + 1) ps)) else line_data 1 [])
+    else (if is_token_kind ps at kind.Word then statement_line (token_text ps at) (operands (drop (at + 1) ps)) else line_data bad_token [])
 
 -- the line begins with a label: a word and a `:`
 abbrev pub has_label : List PieceData → Bool
@@ -118,7 +119,7 @@ label_before text (Err at) = []
 -- fault still defines its name
 abbrev pub meaning_of_cut_line : List ℕ → Result (List Token) ℕ → LineData
 meaning_of_cut_line line (Ok ts) = tokens_line (map (line_token_with_text line) ts)
-meaning_of_cut_line line (Err at) = line_data 1 (label_before (take at line) (tokens_of (take at line)))
+meaning_of_cut_line line (Err at) = line_data bad_token (label_before (take at line) (tokens_of (take at line)))
 
 -- the meaning of a line's text by itself: a byte outside the grammar or a 65th token breaks rule 1
 abbrev pub line_in : List ℕ → LineData

@@ -1,12 +1,12 @@
 -- The fields and the symbol of a row, as far as operands fill them, and the least rule broken.
-use Rattle.std.specs.Prelude.{ℕ, ◌%◌, min, Option, None, option_map}
+use Rattle.std.specs.Prelude.{ℕ, ◌%◌, min, Option, None}
 use Rattle.tc_stmt.specs.SourceRules.{no_rule}
 use Rattle.tc_isa.specs.declared.fields.Fields.{Fields}
 use Rattle.tc_isa.specs.Forms.{fields}
 use Rattle.tc_stmt.specs.declared.want.Field.{Field}
 use Rattle.tc_stmt.specs.declared.want.Field.TheVariants.{C, S1, S2, N, K}
 use Rattle.tc_stmt.specs.declared.row_fields.RowFields.{RowFields}
-use Rattle.tc_stmt.specs.Items.{ReferenceData, reference_of}
+use Rattle.tc_stmt.specs.Items.{ReferenceData, reference_if_any}
 
 -- the fields and the symbol so far, and the least rule broken; 15 is none
 pub record RowFieldsData : Type 0 where
@@ -16,7 +16,7 @@ pub record RowFieldsData : Type 0 where
 
 -- the plain data of a row's fields
 abbrev pub row_fields_of : RowFields → RowFieldsData
-row_fields_of f = record { fields = f.fields; rule = f.rule; reference = option_map reference_of f.reference }
+row_fields_of f = record { fields = f.fields; rule = f.rule; reference = reference_if_any f.reference }
 
 -- a row's fields before the first operand: zeros, no rule broken, no symbol
 abbrev pub zero_fields : RowFieldsData

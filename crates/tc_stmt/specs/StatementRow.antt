@@ -38,9 +38,14 @@ unfoldable pub statement_outcome : List ℕ → List OperandData → List RowDat
 statement_outcome name os [] place t = Err (tally_rule t)
 statement_outcome name os (r ∷ rs) place t = found_row_or_next (row_outcome name os r t) place (statement_outcome name os rs (place + 1))
 
+-- the number of the first of these rows that the statement fits, with the fields, or the least rule
+-- that the statement breaks
+abbrev pub first_fitting_row : List ℕ → List OperandData → List RowData → Result (ℕ × RowFieldsData) ℕ
+first_fitting_row name os rows = statement_outcome name os rows 0 empty_tally
+
 -- the first row of this name that fits the operands and breaks no rule, or the least rule broken
 abbrev pub statement : List ℕ → List OperandData → Result (ℕ × RowFieldsData) ℕ
-statement name os = statement_outcome name os table_rows 0 empty_tally
+statement name os = first_fitting_row name os table_rows
 
 -- the code's answer for a row is this: the fields in the record, or the tally after the row
 abbrev pub GivesRowOutcome : {U : Type 0} → Result U Tally → RowFields → Result RowFieldsData Tally → Type 0

@@ -1,11 +1,11 @@
 // The values of `.byte`, `.half`, `.word` and `.space`.
-ghost use Rattle.std.specs.Prelude.{◌≡◌, ◌≤◌, ◌<◌, ◌+◌, ◌^◌, ◌*◌, true, if◌then◌else◌, ◌⊎◌, map, length, ◌==◌, ◌++◌, OnOk, IfOk, min};
+ghost use Rattle.std.specs.Prelude.{◌≡◌, ◌≤◌, ◌<◌, ◌+◌, ◌^◌, ◌*◌, true, if◌then◌else◌, map, length, ◌==◌, ◌++◌, OnOk, IfOk, min};
 ghost use Rattle.tcd_base.specs.Bytes.{four_bytes};
 ghost use Rattle.tc_lex.specs.Operands.{operand_of};
 ghost use Rattle.tc_stmt.specs.Items.{item_of};
 ghost use Rattle.tc_stmt.specs.OperandForms.{shape_index, operand_number_modulo};
-ghost use Rattle.tc_stmt.specs.DataValues.{is_value_within_width, value_rule, value_item, space_rule, space_item, values_rule};
-ghost use Rattle.tc_stmt.specs.SourceRules.{no_rule};
+ghost use Rattle.tc_stmt.specs.DataValues.{IsDataWidth, is_value_within_width, value_rule, value_item, space_rule, space_item, values_rule};
+ghost use Rattle.tc_stmt.specs.SourceRules.{no_rule, wrong_operands};
 
 use crate::item::Item;
 use crate::shape_numbers::{HIGH, HUGE, LOW, NUMBER, SUM, WORD};
@@ -18,7 +18,7 @@ use tc_lex::Operand;
 /// number of bytes.
 #[tactic(auto, unfolding(crate::specs::DataValues::value_rule))]
 pub(crate) fn value_rule(width: u8, o: &Operand<'_>) -> u8
-    requires { (width ≡ 1) ⊎ ((width ≡ 2) ⊎ (width ≡ 4)) }
+    requires { IsDataWidth width }
     ensures value { result ≡ value_rule width (operand_of o.now) }
     ensures small { result ≡ no_rule → o.now.value.size < 2 ^ 32 }
 {
@@ -106,7 +106,7 @@ pub(crate) fn space_item<'a>(o: &Operand<'a>) -> Item<'a>
 
 /// The rule that a `.byte`, `.half` or `.word` without values breaks, or no rule.
 pub(crate) fn empty_values_rule(os: &[Operand<'_>]) -> u8
-    ensures { result ≡ (if length (map operand_of os.now) == 0 then 3 else 15) }
+    ensures { result ≡ (if length (map operand_of os.now) == 0 then wrong_operands else no_rule) }
 {
     if os.is_empty() {
         WRONG_OPERANDS
@@ -123,7 +123,7 @@ pub(crate) fn add_values<'a>(
     os: &[Operand<'a>],
     items: &mut Vec<Item<'a>>,
 ) -> Result<u8, AllocError>
-    requires { (width ≡ 1) ⊎ ((width ≡ 2) ⊎ (width ≡ 4)) }
+    requires { IsDataWidth width }
     ensures rule { IfOk result (λ rule. rule ≡ values_rule width (map operand_of os.now)) }
     ensures items { OnOk result (map item_of items.new.items
         ≡ map item_of items.old.items ++ map (value_item width) (map operand_of os.now)) }
@@ -139,7 +139,7 @@ pub(crate) fn add_values<'a>(
 
 // Whether the number `size`, negative if `minus`, fits `width` bytes, signed or unsigned.
 fn is_value_within_width(width: u8, minus: bool, size: u128) -> bool
-    requires { (width ≡ 1) ⊎ ((width ≡ 2) ⊎ (width ≡ 4)) }
+    requires { IsDataWidth width }
     ensures value { result ≡ is_value_within_width (8 * width) minus size }
     ensures small { result ≡ true → size < 2 ^ 32 }
 {

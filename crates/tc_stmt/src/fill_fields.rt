@@ -5,7 +5,7 @@ ghost use Rattle.tc_isa.specs.Forms.{field_bounds};
 ghost use Rattle.tc_lex.specs.Operands.{value_of, operand_of};
 ghost use Rattle.tc_stmt.specs.SourceRules.{no_rule};
 ghost use Rattle.tc_stmt.specs.RowFields.{row_fields_of, field_of};
-ghost use Rattle.tc_stmt.specs.Filling.{GivesFilledFields, fill_named_register, fill_number, half_operand_relocation, fill_constant, fill_memory, fill_target, fill_address, fill_absolute, fill_register, fill_a10, fill_plain, fill, fill_operands, is_within_field_bound, is_named_row as named};
+ghost use Rattle.tc_stmt.specs.Filling.{GivesFilledFields, fill_named_register, fill_number, half_operand_relocation, fill_constant, fill_memory, fill_target, fill_address, fill_absolute, fill_register, fill_a10, fill_plain, fill, fill_operands, is_within_field_bound, is_named_row};
 ghost use Rattle.tc_stmt.specs.Displacements.{displacement_rule, with_displacement, target_operand_relocation, is_far_displacement};
 ghost use Rattle.tc_stmt.specs.OperandForms.{register_number, operand_number_modulo};
 
@@ -436,7 +436,7 @@ fn is_within_field_bound(signed: bool, bound: u32, minus: bool, size: u128) -> b
 
 /// Returns true if this row, whose fields an operand is to fill, has this name.
 fn is_named_row(row: &Row, name: &str) -> bool
-    ensures { result ≡ named (row_of row.now) name.now }
+    ensures { result ≡ is_named_row (row_of row.now) name.now }
 {
     is_same_text(row.name.as_bytes(), name)
 }

@@ -1,13 +1,14 @@
 // Reads a line: its label, its statement and its operands.
-ghost use Rattle.std.specs.Prelude.{◌≡◌, ◌++◌, OnOk, IfOk, ◌≤◌, ◌<◌, ◌+◌, map, length, option_map, drop, true, [], ◌∷◌, ◌⊎◌, ◌==◌};
+ghost use Rattle.std.specs.Prelude.{◌≡◌, ◌++◌, OnOk, IfOk, ◌≤◌, ◌<◌, ◌+◌, map, length, drop, true, [], ◌∷◌, ◌==◌};
 ghost use Rattle.std.specs.Option.{option_copied};
 ghost use Rattle.tc_lex.specs.Cut.{tokens_of};
-ghost use Rattle.tc_stmt.specs.StatementRow.{statement as statement_of};
-ghost use Rattle.tc_lex.specs.Pieces.{piece_of, token_text as text_in_pieces};
+ghost use Rattle.tc_stmt.specs.StatementRow.{statement};
+ghost use Rattle.tc_lex.specs.Pieces.{piece_of, token_text};
 ghost use Rattle.tc_lex.specs.Operands.{operand_of, operands as operands_in};
-ghost use Rattle.tc_stmt.specs.Items.{item_of, label, section, global, code, reference_of};
-ghost use Rattle.tc_stmt.specs.DataValues.{space_rule as space_rule_of, space_item as space_item_of};
+ghost use Rattle.tc_stmt.specs.Items.{item_of, label, section, global, code, reference_if_any};
+ghost use Rattle.tc_stmt.specs.DataValues.{IsDataWidth, space_rule, space_item};
 ghost use Rattle.tc_stmt.specs.Lines.{line_data, named_line, is_unbracketed_name, only_operand_name, space_line, values_line, instruction_size, statement_line, line_from, line_with_label, tokens_line, has_label, label_of, label_before, line_in, code_line};
+ghost use Rattle.tc_stmt.specs.SourceRules.{bad_token};
 ghost use Rattle.tc_stmt.specs.SourceViews.{AddsLine};
 
 use crate::data_values::{add_values, space_item, space_rule};
@@ -92,7 +93,7 @@ fn uncut_line<'a>(
     pieces: &mut Scratch<Piece<'a>, 64>,
     items: &mut Vec<Item<'a>>,
 ) -> Result<u8, AllocError>
-    ensures { AddsLine (line_data 1
+    ensures { AddsLine (line_data bad_token
         (label_before front.now (tokens_of front.now))) result items.old.items items.new.items }
 {
     match cut_pieces(front, pieces) {
@@ -118,7 +119,7 @@ fn labelled_line<'a>(
 ) -> Result<u8, AllocError>
     requires few { length ps.now ≤ 64 }
     requires label { 2 ≤ length ps.now }
-    ensures { AddsLine (line_with_label (text_in_pieces (map piece_of ps.now) 0)
+    ensures { AddsLine (line_with_label (token_text (map piece_of ps.now) 0)
         (line_from (map piece_of ps.now) 2))
         result items.old.items items.new.items }
 {
@@ -172,7 +173,7 @@ fn statement_at<'a>(
 ) -> Result<u8, AllocError>
     requires few { length ps.now ≤ 64 }
     requires place { at < length ps.now }
-    ensures { AddsLine (statement_line (text_in_pieces (map piece_of ps.now) at)
+    ensures { AddsLine (statement_line (token_text (map piece_of ps.now) at)
         (operands_in (drop (at + 1) (map piece_of ps.now))))
         result items.old.items items.new.items }
 {
@@ -256,7 +257,7 @@ fn values_line<'a>(
     os: &[Operand<'a>],
     items: &mut Vec<Item<'a>>,
 ) -> Result<u8, AllocError>
-    requires { (width ≡ 1) ⊎ ((width ≡ 2) ⊎ (width ≡ 4)) }
+    requires { IsDataWidth width }
     ensures { AddsLine (values_line width
         (map operand_of os.now)) result items.old.items items.new.items }
 {
@@ -283,7 +284,7 @@ fn code_line<'a>(
     items: &mut Vec<Item<'a>>,
 ) -> Result<u8, AllocError>
     ensures { AddsLine (code_line name.now
-        (statement_of name.now (map operand_of os.now))) result items.old.items items.new.items }
+        (statement name.now (map operand_of os.now))) result items.old.items items.new.items }
 {
     match statement(name, os) {
         Ok((row, found)) => add_item(NO_RULE, code_item(row, &found), items),
@@ -327,8 +328,8 @@ fn is_unbracketed_name(o: &Operand<'_>) -> bool
 /// Reads a line that is `.space N`, by its one operand: adds the item of its zeros, and returns the
 /// rule that the line breaks.
 fn space_operand_line<'a>(o: &Operand<'a>, items: &mut Vec<Item<'a>>) -> Result<u8, AllocError>
-    ensures { AddsLine (line_data (space_rule_of (operand_of o.now))
-        (space_item_of (operand_of o.now) ∷ []))
+    ensures { AddsLine (line_data (space_rule (operand_of o.now))
+        (space_item (operand_of o.now) ∷ []))
         result items.old.items items.new.items }
 {
     add_item(space_rule(o), space_item(o), items)
@@ -337,8 +338,7 @@ fn space_operand_line<'a>(o: &Operand<'a>, items: &mut Vec<Item<'a>>) -> Result<
 /// Returns the item that the line of an instruction adds to its source: its row, its fields, and
 /// its symbol, if it has one.
 fn code_item<'a>(row: u8, found: &RowFields<'a>) -> Item<'a>
-    ensures { item_of result
-        ≡ code row found.now.fields (option_map reference_of found.now.reference) }
+    ensures { item_of result ≡ code row found.now.fields (reference_if_any found.now.reference) }
 {
     match &found.reference {
         None => Item::Code(row, found.fields),
@@ -361,7 +361,7 @@ fn instruction_size(name: &[u8]) -> u32
 // Adds the label that these tokens begin with, if there is one. Their line breaks rule 1.
 #[tactic(auto, unfolding(crate::specs::Lines::label_of))]
 fn add_label_before_fault<'a>(ps: &[Piece<'a>], items: &mut Vec<Item<'a>>) -> Result<u8, AllocError>
-    ensures { AddsLine (line_data 1
+    ensures { AddsLine (line_data bad_token
         (label_of (map piece_of ps.now))) result items.old.items items.new.items }
 {
     let name = token_text(ps, 0);
@@ -374,7 +374,7 @@ fn add_label_before_fault<'a>(ps: &[Piece<'a>], items: &mut Vec<Item<'a>>) -> Re
 
 // Adds the label of a line that breaks rule 1.
 fn add_label_of_bad_line<'a>(name: &'a [u8], items: &mut Vec<Item<'a>>) -> Result<u8, AllocError>
-    ensures { AddsLine (line_data 1
+    ensures { AddsLine (line_data bad_token
         (label name.entry.now ∷ [])) result items.old.items items.new.items }
 {
     add_item(BAD_TOKEN, Item::Label(name), items)

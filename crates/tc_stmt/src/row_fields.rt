@@ -1,7 +1,7 @@
 // The fields of a row, as its operands fill them.
 ghost use Rattle.std.specs.Prelude.{◌≡◌, ◌<◌};
 ghost use Rattle.tc_stmt.specs.Items.{reference_of, reference_to};
-ghost use Rattle.tc_stmt.specs.RowFields.{row_fields_of, zero_fields, with_rule, set_field, field_of, with_value as put_in};
+ghost use Rattle.tc_stmt.specs.RowFields.{row_fields_of, zero_fields, with_rule, set_field, field_of, with_value};
 ghost use Rattle.tc_lex.specs.Operands.{value_of};
 ghost use Rattle.tc_stmt.specs.Filling.{with_symbol, with_misplaced, note_equal_registers};
 ghost use Rattle.tc_stmt.specs.Names.{symbol_rule};
@@ -109,7 +109,7 @@ pub fn field_of(field: Field, f: &Fields) -> u32
 
 /// Fills one of a row's fields with a value, modulo 256 in all fields but `k`.
 pub(crate) fn fill_field(field: Field, v: u32, acc: &mut RowFields<'_>)
-    ensures { row_fields_of acc.new ≡ put_in field v (row_fields_of acc.old) }
+    ensures { row_fields_of acc.new ≡ with_value field v (row_fields_of acc.old) }
 {
     set_field(field, v, &mut acc.fields);
 }

@@ -2,7 +2,7 @@
 // of a name. The tables are printed by tools/rows.py.
 ghost use Rattle.std.specs.Prelude.{◌≡◌, ◌<◌, ◌+◌, ◌-◌, ◌==◌, List, map, length, drop, true, slice_index, find, option_map};
 ghost use Rattle.tc_isa.specs.Rows.{RowData, row_of, table_rows};
-ghost use Rattle.tc_stmt.specs.RowIndex.{name_key, are_rows_without_key, are_next_rows, are_first_rows};
+ghost use Rattle.tc_stmt.specs.RowIndex.{name_key, row_of_name, are_rows_without_key, IsFirstRowIndex, IsNextRowIndex};
 ghost use Rattle.std.specs.Str.{bytes_eq};
 
 use tc_isa::{ROW_COUNT, Row, rows};
@@ -175,7 +175,7 @@ static NEXT: [u8; ROW_COUNT] = [
 /// first row whose name has it.
 #[tactic(auto, unfolding(crate::specs::RowIndex::name_key))]
 pub(crate) fn first_rows() -> &'static [u8]
-    ensures { are_first_rows 0 table_rows result.now ≡ true }
+    ensures { IsFirstRowIndex table_rows result.now }
 {
     &FIRST
 }
@@ -184,7 +184,7 @@ pub(crate) fn first_rows() -> &'static [u8]
 /// for a statement's row skips those between.
 #[tactic(auto, unfolding(crate::specs::RowIndex::name_key))]
 pub(crate) fn next_rows() -> &'static [u8]
-    ensures { are_next_rows 0 table_rows result.now ≡ true }
+    ensures { IsNextRowIndex table_rows result.now }
 {
     &NEXT
 }
@@ -192,7 +192,7 @@ pub(crate) fn next_rows() -> &'static [u8]
 /// The first row to try in the search for a statement's row: no earlier row has the key of this
 /// name.
 pub(crate) fn first_row(first: &[u8], name: &[u8]) -> usize
-    ensures { (rows : List RowData) → are_first_rows 0 rows first.now ≡ true
+    ensures { (rows : List RowData) → IsFirstRowIndex rows first.now
         → are_rows_without_key result (name_key name.now) rows ≡ true }
 {
     let key = name_key(name);
@@ -207,7 +207,7 @@ pub(crate) fn first_row(first: &[u8], name: &[u8]) -> usize
 /// key of this name.
 pub(crate) fn next_row(rows: &[Row], next: &[u8], i: usize, name: &[u8]) -> usize
     requires place { i < length rows.now }
-    requires next { are_next_rows 0 (map row_of rows.now) next.now ≡ true }
+    requires next { IsNextRowIndex (map row_of rows.now) next.now }
     ensures later { i < result }
     ensures none { are_rows_without_key (result - (i + 1)) (name_key name.now)
         (drop (i + 1) (map row_of rows.now)) ≡ true }
@@ -228,8 +228,7 @@ pub(crate) fn find_row<'a>(rows: &'a [Row], name: &[u8]) -> Option<&'a Row>
 
 // The first row of the instruction table with this name, if an instruction has it.
 pub(crate) fn row_of_name(name: &[u8]) -> Option<&'static Row>
-    ensures { option_map (λ r. row_of r.now) result
-        ≡ find (λ r. bytes_eq r.name name.now) table_rows }
+    ensures { option_map (λ r. row_of r.now) result ≡ row_of_name name.now }
 {
     find_row(rows(), name)
 }

@@ -6,8 +6,8 @@ ghost use Rattle.tc_stmt.specs.Wants.{wants_of, row_wants_now};
 ghost use Rattle.tc_lex.specs.Operands.{operand_of};
 ghost use Rattle.tc_stmt.specs.RowFields.{zero_fields};
 ghost use Rattle.tc_stmt.specs.Filling.{GivesFilledFields, fill_operands, note_equal_registers, fields_of_row};
-ghost use Rattle.tc_stmt.specs.StatementRow.{empty_tally, row_outcome, statement_outcome, GivesRowOutcome, GivesStatementOutcome, statement, tally_rule};
-ghost use Rattle.tc_stmt.specs.RowIndex.{are_first_rows, are_next_rows};
+ghost use Rattle.tc_stmt.specs.StatementRow.{row_outcome, first_fitting_row, GivesRowOutcome, GivesStatementOutcome, statement, tally_rule};
+ghost use Rattle.tc_stmt.specs.RowIndex.{IsFirstRowIndex, IsNextRowIndex};
 
 use crate::fill_fields::fill_operands;
 use crate::row_fields::{RowFields, note_equal_registers, zero_fields};
@@ -39,10 +39,10 @@ fn search_statement_row<'a>(
 ) -> Result<(u8, RowFields<'a>), u8>
     requires wants { map row_wants_now wants.now ≡ map wants_of (map row_of rows.now) }
     requires few { length rows.now < 256 }
-    requires first { are_first_rows 0 (map row_of rows.now) first.now ≡ true }
-    requires next { are_next_rows 0 (map row_of rows.now) next.now ≡ true }
+    requires first { IsFirstRowIndex (map row_of rows.now) first.now }
+    requires next { IsNextRowIndex (map row_of rows.now) next.now }
     ensures { GivesStatementOutcome result
-        (statement_outcome name.now (map operand_of os.now) (map row_of rows.now) 0 empty_tally) }
+        (first_fitting_row name.now (map operand_of os.now) (map row_of rows.now)) }
 {
     let mut so_far = Tally {
         named: false,

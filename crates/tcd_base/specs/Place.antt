@@ -6,6 +6,10 @@ pub record Place : Type 0 where
   pub bytes : List ℕ
   pub place : ℕ
 
+-- a cursor that is moved to an offset in its bytes
+abbrev pub place_moved_to : Place → ℕ → Place
+place_moved_to p offset = record { bytes = p.bytes; place = offset }
+
 -- the place between two parts of the bytes
 abbrev pub place_between : List ℕ → List ℕ → Place
 place_between front rest = record { bytes = front ++ rest; place = length front }

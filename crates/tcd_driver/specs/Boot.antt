@@ -1,5 +1,5 @@
 -- What `boot` and `bootgen` read and report.
-use Rattle.std.specs.Prelude.{◌≡◌, ◌-◌, ℕ, List, Err, ◌∷◌, ◌++◌, codes, []}
+use Rattle.std.specs.Prelude.{◌≡◌, ◌≤◌, ◌+◌, ◌-◌, ◌^◌, ℕ, List, Err, ◌∷◌, ◌++◌, codes, []}
 use Rattle.elf_image.specs.Images.{ImageData}
 use Rattle.tcd_plan.specs.PlanData.{PlanData}
 use Rattle.depth_cert.specs.Certs.{CertData}
@@ -56,6 +56,10 @@ boot_reading names =
     (λ image. input PlanData plan_form names.plan (λ plan. input CertData cert_form names.cert (λ cert. answer (IsBootVerdict image plan cert names.at))))
 
 -- ---- bootgen
+-- a boot sequence at this address, of 56 instructions and 224 bytes, doesn't pass 2^32
+abbrev pub BootSequenceFits : ℕ → Type 0
+BootSequenceFits at = at + 224 ≤ 2 ^ 32
+
 -- the name of the plan that `bootgen` reads, the entry and the address of the boot sequence, and
 -- the name of the source that it writes
 pub record BootgenArgs : Type 0 where

@@ -1,5 +1,5 @@
 -- The commands: what arguments ask for, and what each command reads and reports.
-use Rattle.std.specs.Prelude.{◌≤◌, ◌+◌, ◌^◌, ◌&&◌, not, nat_le, ℕ, Bool, List, ◌∷◌, length, map, string_bytes, codes, Option, Some, None, if◌then◌else◌, []}
+use Rattle.std.specs.Prelude.{◌≤◌, ◌&&◌, not, nat_le, ℕ, Bool, List, ◌∷◌, length, map, string_bytes, codes, Option, Some, None, if◌then◌else◌, []}
 use Rattle.std.specs.Bool.{then_some}
 use Rattle.std.specs.Option.{option_or, option_map, option_and_then}
 use Rattle.std.specs.Str.{bytes_eq}
@@ -14,7 +14,7 @@ use Rattle.tcd_driver.specs.Dis.{dis_reading}
 use Rattle.tcd_driver.specs.Asm.{AsmArgs, asm_reading}
 use Rattle.tcd_driver.specs.Link.{LinkArgs, link_reading}
 use Rattle.tcd_driver.specs.Ship.{ShipArgs, ship_args, ship_reading}
-use Rattle.tcd_driver.specs.Boot.{BootArgs, BootgenArgs, boot_reading, bootgen_reading}
+use Rattle.tcd_driver.specs.Boot.{BootArgs, BootSequenceFits, BootgenArgs, boot_reading, bootgen_reading}
 use Rattle.tcd_driver.specs.Cells.{CellsArgs, cells_reading}
 use Rattle.tcd_driver.specs.Cellcert.{CellcertArgs, cellcert_reading}
 use Rattle.tcd_driver.specs.Tasks.{TasksArgs, tasks_reading}
@@ -188,7 +188,7 @@ CommandKeepsLimits (words.Asm source object) = Unit {0}
 CommandKeepsLimits (words.Link layout image objects) = length objects.now ≤ 65535
 CommandKeepsLimits (words.Ship names) = length names.sources.now ≤ 65535
 CommandKeepsLimits (words.Boot elf plan cert at) = Unit {0}
-CommandKeepsLimits (words.Bootgen plan entry at source) = at + 224 ≤ 2 ^ 32
+CommandKeepsLimits (words.Bootgen plan entry at source) = BootSequenceFits at
 CommandKeepsLimits (words.Cells elf plan cells' cert) = Unit {0}
 CommandKeepsLimits (words.Cellcert elf plan cells' cert) = Unit {0}
 CommandKeepsLimits (words.Tasks elf plan list certs) = Unit {0}

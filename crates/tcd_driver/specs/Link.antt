@@ -28,8 +28,11 @@ pub data IsLinkReport (name : List ℕ) (layout : LayoutData) (objects : List Ob
   refused : (r : Refusal) → image_of_objects objects layout ≡ Err r → report ≡ text_report BadInput (bad_link_line r) → IsLinkReport name layout objects report
   image : (i : ImageData) → image_of_objects objects layout ≡ Ok i → WritesImage name i report → IsLinkReport name layout objects report
 
+-- what `link` reads after its layout, and reports: the objects of these names are read; then they
+-- are linked to an image of this name
+abbrev pub link_objects_reading : List ℕ → LayoutData → List (List ℕ) → Reading
+link_objects_reading name layout object_names = input_files ObjectData object_form 0 object_names (λ objects. answer (IsLinkReport name layout objects))
+
 -- a layout and the objects are read; then they are linked
 abbrev pub link_reading : LinkArgs → Reading
-link_reading names =
-    input LayoutData layout_form names.layout
-    (λ layout. input_files ObjectData object_form 0 names.objects (λ objects. answer (IsLinkReport names.image layout objects)))
+link_reading names = input LayoutData layout_form names.layout (λ layout. link_objects_reading names.image layout names.objects)

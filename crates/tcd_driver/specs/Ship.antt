@@ -14,7 +14,7 @@ use Rattle.depth_cert.specs.declared.keys.Key.{Key}
 use Rattle.depth_cert.specs.Certs.{CertData}
 use Rattle.depth_cert.specs.Spelling.{bytes_of_cert}
 use Rattle.cfg_recover.specs.RulesHoldOrFail.{certified_need}
-use Rattle.tcd_reading.specs.Reports.{Report, text_report, report_with_two_files}
+use Rattle.tcd_reading.specs.Reports.{Report, ReportFile, text_report, report_with_two_files}
 use Rattle.tcd_reading.specs.Inputs.{Reading, input, input_files, answer}
 use Rattle.tcd_forms.specs.Forms.{SourceData, plan_form, layout_form, numbered_source_form}
 use Rattle.tcd_forms.specs.Lines.{bad_link_line, refused_line, certified_line}
@@ -84,6 +84,15 @@ pub record AreSourcesOfObjects (sources : List SourceData) (objects : List Objec
   pub objects_are : objects ≡ objects_of_sources sources
   pub assembled : AreAssembledFrom (texts_of_sources sources) (objects_of_sources sources)
 
+-- the two files that `ship` writes: the executable, and its certificate, with these bytes
+abbrev pub AreShippedFiles : Shipment → List ℕ → List ℕ → ReportFile × ReportFile → Type 0
+AreShippedFiles s image cert files = (files.0 ≡ record { name = s.elf.now; bytes = image }) × (files.1 ≡ record { name = s.cert.now; bytes = cert })
+
 -- the report of `ship` on sources, with the names of the two files to write as the code has them
 abbrev pub IsShipmentReport : Shipment → PlanData → LayoutData → List SourceData → Report → Type 0
 IsShipmentReport s plan layout sources = IsShipReport s.elf.now s.cert.now plan layout sources
+
+-- what `ship` reads after its plan and its layout, and reports: the sources are read; then their
+-- image is made and certified
+abbrev pub ship_sources_reading : Shipment → PlanData → LayoutData → Reading
+ship_sources_reading s plan layout = input_files SourceData numbered_source_form 0 (map string_bytes s.sources.now) (λ sources. answer (IsShipmentReport s plan layout sources))

@@ -98,22 +98,29 @@ pub data IsTasksVerdict (image : ImageData) (plan : PlanData) (tasks : TasksData
       → report ≡ text_report Done (certified_tasks_line (sum_of_needs image plan tasks certs) (plan.areas - plan.reserve) (count tasks))
       → IsTasksVerdict image plan tasks certs report
 
+-- the report of `tasks` or `taskcert` if it doesn't name as many certificates as there are tasks
+abbrev pub IsWrongCertCountReport : Report → Type 0
+IsWrongCertCountReport report = report ≡ text_report BadInput (bad_tasks_line Count)
+
 -- ---- what is read
 -- what `tasks` or `taskcert` reads next if the number of its certificates is right (true); else
 -- nothing, and the bad count is reported
 abbrev pub tasks_reading_if : Bool → Reading → Reading
 tasks_reading_if true reading = reading
-tasks_reading_if false reading = answer (λ report. report ≡ text_report BadInput (bad_tasks_line Count))
+tasks_reading_if false reading = answer IsWrongCertCountReport
 
 -- what the commands `tasks` and `taskcert` read next if they have as many names of certificates as
 -- tasks; else their line of bad input is printed
 abbrev pub with_name_per_task : List (List ℕ) → TasksData → Reading → Reading
 with_name_per_task names tasks reading = tasks_reading_if (length names == count tasks) reading
 
+-- reads the certificates of these names, one for each task; then the verdict is printed
+abbrev pub named_certs_reading : List (List ℕ) → ImageData → PlanData → TasksData → Reading
+named_certs_reading names image plan tasks = input_files CertData (λ _. cert_form) 0 names (λ certs. answer (IsTasksVerdict image plan tasks certs))
+
 -- reads a certificate for each task; then the verdict is printed
 abbrev pub task_certs_reading : List (List ℕ) → ImageData → PlanData → TasksData → Reading
-task_certs_reading names image plan tasks =
-    with_name_per_task names tasks (input_files CertData (λ _. cert_form) 0 names (λ certs. answer (IsTasksVerdict image plan tasks certs)))
+task_certs_reading names image plan tasks = with_name_per_task names tasks (named_certs_reading names image plan tasks)
 
 -- reads an executable, a plan and its tasks, and then the certificates
 abbrev pub tasks_reading : TasksArgs → Reading

@@ -25,15 +25,18 @@ impl<'a> Form for CellsFile<'a> {
 
     ghost Fits = { λ f cells. AreCells f.plan.now cells };
 
+    /// The most bytes of a file of cells.
     fn limit(&self) -> u32 {
         LIMIT
     }
 
+    /// Returns the line that is printed for a file of cells above this limit, or no memory.
     fn too_long_line(&self, alloc: Global) -> Result<Vec<u8>, NoMemory> {
         copy_printed_line(alloc, cells_too_long_line())
     }
 
-    fn value(&self, alloc: Global, bytes: Vec<u8>) -> Result<Cells, Stop> {
+    /// Reads the cells in these bytes. `Err` has the line on a fault, or no memory.
+    fn parse(&self, alloc: Global, bytes: Vec<u8>) -> Result<Cells, Stop> {
         match Cells::read(&bytes, self.plan) {
             Ok(cells) => Ok(cells),
             Err(e) => Err(bad_input_stop(bad_cells_line(alloc, e))),
@@ -58,15 +61,18 @@ impl<'a> Form for TasksFile<'a> {
 
     ghost Fits = { λ f tasks. FitPlan f.plan.now tasks };
 
+    /// The most bytes of a file of tasks.
     fn limit(&self) -> u32 {
         LIMIT
     }
 
+    /// Returns the line that is printed for a file of tasks above this limit, or no memory.
     fn too_long_line(&self, alloc: Global) -> Result<Vec<u8>, NoMemory> {
         copy_printed_line(alloc, tasks_too_long_line())
     }
 
-    fn value(&self, alloc: Global, bytes: Vec<u8>) -> Result<Tasks, Stop> {
+    /// Reads the tasks in these bytes. `Err` has the line on a fault, or no memory.
+    fn parse(&self, alloc: Global, bytes: Vec<u8>) -> Result<Tasks, Stop> {
         match Tasks::read(&bytes, self.plan) {
             Ok(tasks) => Ok(tasks),
             Err(e) => Err(bad_input_stop(bad_tasks_line(alloc, e))),

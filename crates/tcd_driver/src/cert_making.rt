@@ -1,7 +1,7 @@
 // Makes certificates, and checks them.
 ghost use Rattle.std.specs.Prelude.{◌≡◌, ◌⊎◌};
 ghost use Rattle.tcd_driver.specs.BestCert.{IsNoCertReport, IsBestCertOrErr, IsLeastCertOrErr};
-ghost use Rattle.tcd_reading.specs.Outcomes.{IsReportOutcome};
+ghost use Rattle.tcd_reading.specs.Outcomes.{IsReportOrNoMemory};
 
 use depth_check::{Verdict, check};
 use depth_maker::{MakeErr, make};
@@ -51,7 +51,7 @@ pub(crate) fn make_best_cert(
 /// Returns the outcome of a maker's error: a refusal with the rule that fails first, its address
 /// and its frame, or no memory.
 pub(crate) fn report_no_cert(alloc: Global, e: MakeErr) -> Outcome
-    ensures { IsReportOutcome (IsNoCertReport e) ⊥ result }
+    ensures { IsReportOrNoMemory (IsNoCertReport e) result }
 {
     match e {
         MakeErr::Refused { rule, key, addr } => {

@@ -1,9 +1,8 @@
 // The printed lines for arguments that are no command, and on faults of boot sequences, of files of
 // cells, and of files of tasks.
-ghost use Rattle.std.specs.Prelude.{◌≡◌, IfOk, ◌<◌, ◌++◌, ◌∷◌, [], codes};
+ghost use Rattle.std.specs.Prelude.{◌≡◌, IfOk, ◌<◌};
 ghost use Rattle.tcd_driver.specs.BadInputLines.{bad_words_line, bad_cells_line, bad_tasks_line};
 ghost use Rattle.tcd_driver.specs.Boot.{refused_boot_line};
-ghost use Rattle.tcd_text.specs.HexNumbers.{hex_word};
 
 use std::alloc::Global;
 use task_chains::TasksErr;
@@ -67,9 +66,9 @@ pub(crate) fn bad_tasks_line(alloc: Global, e: TasksErr) -> Result<Vec<u8>, NoMe
 }
 
 // Returns the line `refused boot 4 at ADDR`: the byte at `addr` is the first that differs.
+#[tactic(auto, unfolding(crate::specs::Boot::refused_boot_line))]
 pub(crate) fn boot_difference_line(alloc: Global, addr: u32) -> Result<Vec<u8>, NoMemory>
-    ensures { IfOk result
-        (λ line. line.items ≡ codes "refused boot 4 at " ++ (hex_word addr ++ 10 ∷ [])) }
+    ensures { IfOk result (λ line. line.items ≡ refused_boot_line (BootErr.Differs addr)) }
 {
     let mut line = copy_printed_line(alloc, b"refused boot 4 at ")?;
     append_to_printed_line(&mut line, &hex_word(addr))?;

@@ -1,5 +1,5 @@
 -- The forms of input files.
-use Rattle.std.specs.Prelude.{◌≡◌, ◌≢◌, ◌^◌, ℕ, List, length, Ok, Err}
+use Rattle.std.specs.Prelude.{◌≡◌, ◌≢◌, ◌^◌, ℕ, List, Ok, Err}
 use Rattle.tcd_base.specs.declared.errors.FormErr.{FormErr}
 use Rattle.elf_image.specs.Images.{ImageData}
 use Rattle.elf_image.specs.ReadElf.{image_of_file}
@@ -17,8 +17,8 @@ use Rattle.tc_object.specs.Objects.{ObjectData}
 use Rattle.tc_object.specs.Grammar as grammar
 use Rattle.tc_stmt.specs.Lines.{lines_in}
 use Rattle.tc_asm.specs.Objects.{object_of_draft}
-use Rattle.tc_asm.specs.DraftedSources.{symbols_of_lines, draft_from_lines}
-use Rattle.tc_asm.specs.Rules.{LinesKeepRules, IsFirstBrokenLine}
+use Rattle.tc_asm.specs.DraftedSources.{draft_in}
+use Rattle.tc_asm.specs.Rules.{AllLinesKeepRules, IsFirstBrokenLine}
 use Rattle.tc_link.specs.Layouts.{LayoutData}
 use Rattle.tc_link.specs.LayoutFaults.{layout_of}
 use Rattle.tc_link.specs.declared.layout_errors.LayoutErr.{LayoutErr}
@@ -67,8 +67,8 @@ script_form p = record {
 
 -- the form of a source file: the bytes are a source that breaks no rule, and this is its object
 pub record IsSource (bytes : List ℕ) (object : ObjectData) : Type 0 where
-  pub keeps : LinesKeepRules (lines_in bytes) (length (lines_in bytes))
-  pub is : object ≡ object_of_draft (draft_from_lines (symbols_of_lines (lines_in bytes)) (lines_in bytes))
+  pub keeps : AllLinesKeepRules (lines_in bytes)
+  pub is : object ≡ object_of_draft (draft_in bytes)
 
 -- The form of the one source file of `asm`, whose value is its object. For a source that breaks a
 -- rule, the line has the least bad line and the least rule there.

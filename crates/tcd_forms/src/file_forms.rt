@@ -38,15 +38,18 @@ impl Form for ElfFile {
 
     ghost Fits = { λ _ _. Unit {0} };
 
+    /// The most bytes of an executable's file.
     fn limit(&self) -> u32 {
         LIMIT
     }
 
+    /// Returns the line that is printed for an executable above this limit, or no memory.
     fn too_long_line(&self, alloc: Global) -> Result<Vec<u8>, NoMemory> {
         copy_printed_line(alloc, elf_too_long_line())
     }
 
-    fn value(&self, alloc: Global, bytes: Vec<u8>) -> Result<Image, Stop> {
+    /// Reads the executable in these bytes. `Err` has the line on a fault, or no memory.
+    fn parse(&self, alloc: Global, bytes: Vec<u8>) -> Result<Image, Stop> {
         match Image::read(alloc, &bytes) {
             Ok(image) => Ok(image),
             Err(e) => Err(bad_input_stop(bad_elf_line(alloc, e))),
@@ -67,15 +70,18 @@ impl Form for PlanFile {
 
     ghost Fits = { λ _ _. Unit {0} };
 
+    /// The most bytes of a plan's file.
     fn limit(&self) -> u32 {
         LIMIT
     }
 
+    /// Returns the line that is printed for a plan above this limit, or no memory.
     fn too_long_line(&self, alloc: Global) -> Result<Vec<u8>, NoMemory> {
         copy_printed_line(alloc, plan_too_long_line())
     }
 
-    fn value(&self, alloc: Global, bytes: Vec<u8>) -> Result<Plan, Stop> {
+    /// Reads the plan in these bytes. `Err` has the line on a fault, or no memory.
+    fn parse(&self, alloc: Global, bytes: Vec<u8>) -> Result<Plan, Stop> {
         match Plan::read(alloc, &bytes) {
             Ok(plan) => Ok(plan),
             Err(e) => Err(bad_input_stop(bad_plan_line(alloc, e))),
@@ -96,15 +102,18 @@ impl Form for CertFile {
 
     ghost Fits = { λ _ _. Unit {0} };
 
+    /// The most bytes of a certificate's file.
     fn limit(&self) -> u32 {
         CERT_LIMIT
     }
 
+    /// Returns the line that is printed for a certificate above this limit, or no memory.
     fn too_long_line(&self, alloc: Global) -> Result<Vec<u8>, NoMemory> {
         copy_printed_line(alloc, cert_too_long_line())
     }
 
-    fn value(&self, alloc: Global, bytes: Vec<u8>) -> Result<Cert, Stop> {
+    /// Reads the certificate in these bytes. `Err` has the line on a fault, or no memory.
+    fn parse(&self, alloc: Global, bytes: Vec<u8>) -> Result<Cert, Stop> {
         match Cert::read(alloc, bytes) {
             Ok(cert) => Ok(cert),
             Err(CertErr::Bad(e)) => Err(bad_input_stop(bad_cert_line(alloc, e))),
@@ -130,15 +139,18 @@ impl<'a> Form for ScriptFile<'a> {
 
     ghost Fits = { λ f script. FitsPlan f.plan.now script };
 
+    /// The most bytes of a turn script's file.
     fn limit(&self) -> u32 {
         LIMIT
     }
 
+    /// Returns the line that is printed for a turn script above this limit, or no memory.
     fn too_long_line(&self, alloc: Global) -> Result<Vec<u8>, NoMemory> {
         copy_printed_line(alloc, script_too_long_line())
     }
 
-    fn value(&self, alloc: Global, bytes: Vec<u8>) -> Result<Script, Stop> {
+    /// Reads the turn script in these bytes. `Err` has the line on a fault, or no memory.
+    fn parse(&self, alloc: Global, bytes: Vec<u8>) -> Result<Script, Stop> {
         match Script::read(alloc, &bytes, self.plan) {
             Ok(script) => Ok(script),
             Err(e) => Err(bad_input_stop(bad_script_line(alloc, e))),
@@ -159,15 +171,18 @@ impl Form for SourceFile {
 
     ghost Fits = { λ _ _. Unit {0} };
 
+    /// The most bytes of a source's file.
     fn limit(&self) -> u32 {
         LIMIT
     }
 
+    /// Returns the line that is printed for a source above this limit, or no memory.
     fn too_long_line(&self, alloc: Global) -> Result<Vec<u8>, NoMemory> {
         source_too_long_line(alloc, 0)
     }
 
-    fn value(&self, alloc: Global, bytes: Vec<u8>) -> Result<Object, Stop> {
+    /// Assembles the source in these bytes. `Err` has the line on a broken rule, or no memory.
+    fn parse(&self, alloc: Global, bytes: Vec<u8>) -> Result<Object, Stop> {
         match assemble(alloc, &bytes) {
             Ok(object) => Ok(object),
             Err(AsmErr::Bad { line, rule }) => {
@@ -213,15 +228,18 @@ impl Form for PlacedSourceFile {
 
     ghost Fits = { λ _ _. Unit {0} };
 
+    /// The most bytes of a source's file.
     fn limit(&self) -> u32 {
         LIMIT
     }
 
+    /// Returns the line that is printed for a source above this limit, or no memory.
     fn too_long_line(&self, alloc: Global) -> Result<Vec<u8>, NoMemory> {
         source_too_long_line(alloc, self.place)
     }
 
-    fn value(&self, alloc: Global, bytes: Vec<u8>) -> Result<Source, Stop> {
+    /// Assembles the source in these bytes. `Err` has the line on a broken rule, or no memory.
+    fn parse(&self, alloc: Global, bytes: Vec<u8>) -> Result<Source, Stop> {
         match assemble(alloc, &bytes) {
             Ok(object) => Ok(Source {
                 text: bytes,
@@ -248,15 +266,18 @@ impl Form for LayoutFile {
 
     ghost Fits = { λ _ _. Unit {0} };
 
+    /// The most bytes of a layout's file.
     fn limit(&self) -> u32 {
         LIMIT
     }
 
+    /// Returns the line that is printed for a layout above this limit, or no memory.
     fn too_long_line(&self, alloc: Global) -> Result<Vec<u8>, NoMemory> {
         copy_printed_line(alloc, layout_too_long_line())
     }
 
-    fn value(&self, alloc: Global, bytes: Vec<u8>) -> Result<Layout, Stop> {
+    /// Reads the layout in these bytes. `Err` has the line on a fault, or no memory.
+    fn parse(&self, alloc: Global, bytes: Vec<u8>) -> Result<Layout, Stop> {
         match Layout::read(alloc, &bytes) {
             Ok(layout) => Ok(layout),
             Err(e) => Err(bad_input_stop(bad_layout_line(alloc, e))),
@@ -282,15 +303,19 @@ impl<'a> Form for ObjectFile<'a> {
 
     ghost Fits = { λ _ _. Unit {0} };
 
+    /// The most bytes of an object's file.
     fn limit(&self) -> u32 {
         LIMIT
     }
 
+    /// Returns the line that is printed for an object above this limit, or no memory.
     fn too_long_line(&self, alloc: Global) -> Result<Vec<u8>, NoMemory> {
         object_too_long_line(alloc, self.place)
     }
 
-    fn value(&self, alloc: Global, bytes: Vec<u8>) -> Result<ObjectRef<'a>, Stop> {
+    /// Keeps these bytes in the arena, and reads the object in them. `Err` has the line on a
+    /// fault, or no memory.
+    fn parse(&self, alloc: Global, bytes: Vec<u8>) -> Result<ObjectRef<'a>, Stop> {
         let Ok(kept) = self.arena.try_alloc_slice_copy(&bytes) else {
             return Err(Stop::NoMemory);
         };

@@ -1,7 +1,6 @@
 // Cuts a block of bytes out of ranges.
 ghost use Rattle.std.specs.Prelude.{◌≡◌, ◌≤◌, ◌<◌, ◌+◌, ◌^◌, ◌++◌, length, All};
-ghost use Rattle.tcd_plan.specs.Cutting as cutting;
-ghost use Rattle.tcd_plan.specs.Cutting.{cut_range_parts, range_between};
+ghost use Rattle.tcd_plan.specs.Cutting.{cut_plan_ranges, cut_range_parts, range_between};
 
 use arrayvec::ArrayVec;
 use tcd_base::Range;
@@ -11,7 +10,7 @@ use tcd_base::Range;
 pub fn cut_plan_ranges(ranges: &[Range], x: u32, n: u32) -> ArrayVec<Range, 32>
     requires few { length ranges.now ≤ 16 }
     requires fit { All (λ r. r.at + r.len ≤ 2 ^ 32) ranges.now }
-    ensures { result.items ≡ cutting.cut_plan_ranges x n ranges.now }
+    ensures { result.items ≡ cut_plan_ranges x n ranges.now }
 {
     let mut parts = ArrayVec::new();
     for r in ranges {

@@ -19,12 +19,21 @@ IsReportOutcome IsReport MayFail (Err (stop.BadInput line)) = IsReport (text_rep
 IsReportOutcome IsReport MayFail (Err stop.Unread) = MayFail
 IsReportOutcome IsReport MayFail (Err stop.NoMemory) = Unit {0}
 
+-- the outcome of a command after its files were read: such a report, with status BadInput if it is
+-- on a bad input; or memory ran out
+abbrev pub IsReportOrNoMemory : (Report → Type 0) → Outcome → Type 0
+IsReportOrNoMemory IsReport o = IsReportOutcome IsReport ⊥ o
+
 -- a command stops: with one of these lines for a bad input, on a failed read if that can happen, or
 -- out of memory
 abbrev pub IsBadInputStop : (List ℕ → Type 0) → Type 0 → Stop → Type 0
 IsBadInputStop IsLine MayFail (stop.BadInput line) = IsLine line.items
 IsBadInputStop IsLine MayFail stop.Unread = MayFail
 IsBadInputStop IsLine MayFail stop.NoMemory = Unit {0}
+
+-- a command whose file was read stops: with one of these lines for a bad input, or out of memory
+abbrev pub IsBadInputOrNoMemory : (List ℕ → Type 0) → Stop → Type 0
+IsBadInputOrNoMemory IsLine = IsBadInputStop IsLine ⊥
 
 -- why an outcome has no report: a file couldn't be read, so that a fault was counted, and the files
 -- weren't sure of that file

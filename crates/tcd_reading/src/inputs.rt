@@ -2,7 +2,7 @@
 ghost use Rattle.std.specs.Prelude.{◌≡◌, ◌≤◌, length, IfOk, IfErr};
 ghost use Rattle.tcd_base.specs.Files.{ReadKeepsFiles};
 ghost use Rattle.tcd_reading.specs.Inputs.{FormSeen, HoldsInput, IsInputRejection};
-ghost use Rattle.tcd_reading.specs.Outcomes.{HasFailedToReadFile, IsBadInputStop};
+ghost use Rattle.tcd_reading.specs.Outcomes.{HasFailedToReadFile, IsBadInputOrNoMemory, IsBadInputStop};
 
 use crate::outcome::{Stop, bad_input_stop};
 use std::alloc::Global;
@@ -20,20 +20,20 @@ pub trait Form {
     /// A fact of each value that was read.
     ghost Fits: { Self → Self.Out → Type 0 };
 
-    /// The most bytes of a file.
+    /// The most bytes of a file of this form.
     fn limit(&self) -> u32
         ensures { result ≡ (form self.now).limit };
 
-    /// The line that is printed for a file above the limit.
+    /// Returns the line that is printed for a file above the limit, or no memory.
     fn too_long_line(&self, alloc: Global) -> Result<Vec<u8>, NoMemory>
         ensures { IfOk result (λ line. line.items ≡ (form self.now).too_long_line) };
 
-    /// The value of these bytes, or the line that says why there is none.
-    fn value(&self, alloc: Global, bytes: Vec<u8>) -> Result<Self::Out, Stop>
+    /// Parses a file's bytes. `Err` has the line on why they have no value, or means no memory.
+    fn parse(&self, alloc: Global, bytes: Vec<u8>) -> Result<Self::Out, Stop>
         requires { length bytes.items ≤ (form self.now).limit }
         ensures found { IfOk result ((form self.now).Is bytes.items) }
         ensures fits { IfOk result (Fits self.now) }
-        ensures stops { IfErr result (IsBadInputStop ((form self.now).IsBad bytes.items) ⊥) };
+        ensures stops { IfErr result (IsBadInputOrNoMemory ((form self.now).IsBad bytes.items)) };
 }
 
 /// Reads a command's input file of this form and returns its value. A file that is too long, faulty
@@ -53,7 +53,7 @@ pub fn read_input<I: Form, F: Files>(
         (HasFailedToReadFile name.now (F.seen files.old) (F.seen files.new))) }
 {
     match files.read(alloc, name, form.limit()) {
-        Ok(bytes) => form.value(alloc, bytes),
+        Ok(bytes) => form.parse(alloc, bytes),
         Err(e) => Err(stop_for_file_error(form, alloc, e)),
     }
 }

@@ -4,7 +4,7 @@ ghost use Rattle.tcd_base.specs.Files.{KeepsFaultsIfSteady};
 ghost use Rattle.tcd_base.specs.FailingCalls.{IsFaultCounted};
 ghost use Rattle.tcd_reading.specs.Reports.{text_report, report_with_file, report_with_two_files, with_report_files};
 ghost use Rattle.tcd_reading.specs.Endings.{ReportWritingStopped, FinishesOutcome};
-ghost use Rattle.tcd_reading.specs.Outcomes.{IsBadInputStop};
+ghost use Rattle.tcd_reading.specs.Outcomes.{IsBadInputOrNoMemory};
 
 use crate::status::{Status, print_with_status, status_of_failed_write};
 use std::alloc::Global;
@@ -89,6 +89,7 @@ impl From<NoMemory> for Stop {
 
     ghost from_gives = { λ _ e. e ≡ stop.NoMemory };
 
+    /// Returns the stop of a command that is out of memory.
     fn from(_error: NoMemory) -> Stop {
         Stop::NoMemory
     }
@@ -160,7 +161,7 @@ pub fn finish_outcome<F: Files, S: Sink>(
 /// Returns the stop of a command at an input that isn't in its form, with the line to print. If
 /// `line` is an error, the stop is for lack of memory.
 pub fn bad_input_stop(line: Result<Vec<u8>, NoMemory>) -> Stop
-    ensures stops { IsBadInputStop (λ t. IsOkAnd line (λ l. t ≡ l.items)) ⊥ result }
+    ensures stops { IsBadInputOrNoMemory (λ t. IsOkAnd line (λ l. t ≡ l.items)) result }
     ensures sure { IsOk line → result ≢ Stop.NoMemory }
 {
     match line {

@@ -31,6 +31,8 @@ impl<'a, R: rt::Files> Files for RealFiles<'a, R> {
 
     ghost tells = { λ f h. Prim.cc };
 
+    /// Reads the file of this name. `Err` is a failed call, which is counted, a file of more than
+    /// `limit` bytes, or no memory.
     fn read(&mut self, alloc: Global, name: &str, limit: u32) -> Result<Vec<u8>, FileErr> {
         let Ok(mut file) = fs::open(self.rt, name) else {
             self.failed = self.failed.saturating_add(1);
@@ -64,6 +66,7 @@ impl<'a, R: rt::Files> Files for RealFiles<'a, R> {
         Err(FileErr::TooLong)
     }
 
+    /// Creates or replaces the file of this name. `Err` is a failed call, which is counted.
     fn write(&mut self, _alloc: Global, name: &str, bytes: &[u8]) -> Result<(), FileErr> {
         let Ok(mut file) = fs::create(self.rt, name) else {
             self.failed = self.failed.saturating_add(1);
@@ -83,6 +86,7 @@ impl<'a, R: Print> Sink for Stdout<'a, R> {
 
     ghost seen = { λ s. record { written = None; room = None; faults = s.failed } };
 
+    /// Writes these bytes to standard output. `Err` is a failed call, which is counted.
     fn write(&mut self, bytes: &[u8]) -> Result<(), SinkErr> {
         let mut out = io::writer(self.rt);
         if write_all_bytes(&mut out, bytes) {

@@ -235,6 +235,10 @@ pub record AreEdges (cert : CertData) (ds : List Owed) (w : Edges) : Type 0 wher
 abbrev pub lines_to : List ℕ → List ℕ → List ℕ → List ℕ
 lines_to front word targets = flat_map (λ q. front ++ line_end_to word q) targets
 
+-- the graph's `irq` lines with this front, one for each of these entries of handlers
+abbrev pub irq_lines : List ℕ → List ℕ → List ℕ
+irq_lines front entries = lines_to front (codes "irq ") entries
+
 -- the text of a point's lines in the graph with this front, except one of `ret` or `rfe`
 abbrev pub edge_lines_text : List ℕ → Edges → List ℕ
 edge_lines_text front w =

@@ -4,6 +4,10 @@ use Rattle.std.specs.List.{slice_split, onto_first}
 use Rattle.tcd_text.specs.declared.words.Words.{Words}
 use Rattle.tcd_text.specs.declared.words.Words.TheVariants.{One, Two, Three, Four, More}
 
+-- the byte that ends a line: a line feed, in ASCII
+abbrev pub is_line_feed : ℕ → Bool
+is_line_feed c = c == 10
+
 -- the lines of a text: a line feed ends each line (the last line may be without); an empty text has
 -- no line
 unfoldable pub text_lines : List ℕ → List (List ℕ)

@@ -1,14 +1,14 @@
 // Cuts a text into its lines.
-ghost use Rattle.std.specs.Prelude.{◌≡◌, ◌≤◌, ◌<◌, ◌==◌, length, IfSome, position, ◌+◌, drop, ◌∷◌};
+ghost use Rattle.std.specs.Prelude.{◌≡◌, ◌≤◌, ◌<◌, length, IfSome, position, ◌+◌, drop, ◌∷◌};
 ghost use Rattle.std.specs.List.{position_or_len};
-ghost use Rattle.tcd_text.specs.Lines.{text_lines};
+ghost use Rattle.tcd_text.specs.Lines.{is_line_feed, text_lines};
 
 use crate::text_parts::{cut_text_after, cut_text_before};
 
 /// Returns the index at which the first line of a text ends: that of its first line feed, or the
 /// length of the text.
 pub(crate) fn line_end(text: &[u8]) -> usize
-    ensures end { result ≡ position_or_len (λ c. c == 10) text.now }
+    ensures end { result ≡ position_or_len is_line_feed text.now }
     ensures within { result ≤ length text.now }
 {
     match find_line_feed(text) {
@@ -31,7 +31,7 @@ pub fn cut_line(text: &[u8]) -> (&[u8], &[u8])
 
 /// Returns the index of the first line feed of a text, or `None` if there is none.
 fn find_line_feed(text: &[u8]) -> Option<usize>
-    ensures value { result ≡ position (λ c. c == 10) text.now }
+    ensures value { result ≡ position is_line_feed text.now }
     ensures within { IfSome result (λ i. i < length text.now) }
 {
     text.iter().position(|c| *c == b'\n')

@@ -38,6 +38,10 @@ pub record AreCells (plan : PlanData) (cells : List Cell) : Type 0 where
   pub few_ram : (n : ℕ) → n ≤ length cells → length (with_cells plan (take n cells)).ram ≤ 16
   pub few_devices : (n : ℕ) → n ≤ length cells → length (with_cells plan (take n cells)).devices ≤ 16
 
+-- the four bytes of each cell are below 2 ^ 32, so that none wraps around the last address
+abbrev pub CellsDoNotWrap : List Cell → Type 0
+CellsDoNotWrap cells = All (λ c. c.at + 4 ≤ 2 ^ 32) cells
+
 -- ---- the words
 -- the address is one of a cell's four
 abbrev pub is_in_cell : List Cell → ℕ → Bool

@@ -1,9 +1,8 @@
 // K16 at each point of a certificate.
-ghost use Rattle.std.specs.Prelude.{◌≤◌, ◌+◌, ◌^◌, All, IfNone, IfSome};
+ghost use Rattle.std.specs.Prelude.{All, IfNone, IfSome};
 ghost use Rattle.value_domain.specs.State.{AreInLattice};
 ghost use Rattle.cfg_recover.specs.RulesHoldOrFail.{Accepts};
-ghost use Rattle.value_cells.specs.Cells as spec;
-ghost use Rattle.value_cells.specs.Cells.{AreCells};
+ghost use Rattle.value_cells.specs.Cells.{AreCells, CellsDoNotWrap, with_cells};
 ghost use Rattle.value_cells.specs.Keeping.{CertKeepsCells, PointKeepsCells, IsFirstRule16Fault, IsFirstRule16NodeFault};
 
 use crate::cells::Cells;
@@ -22,10 +21,10 @@ use value_domain::Bounds;
 #[inline(never)]
 pub fn cells_fault(image: &Image, plan: &Plan, cells: &Cells, cert: &Cert) -> Option<(Key, u32)>
     requires cells { AreCells plan.now cells.now }
-    requires accepted { Accepts image.now (spec.with_cells plan.now cells.now) cert.now }
+    requires accepted { Accepts image.now (with_cells plan.now cells.now) cert.now }
     ensures none { IfNone result
-        (CertKeepsCells image.now (spec.with_cells plan.now cells.now) cells.now cert.now) }
-    ensures some { let other = spec.with_cells plan.now cells.now in
+        (CertKeepsCells image.now (with_cells plan.now cells.now) cells.now cert.now) }
+    ensures some { let other = with_cells plan.now cells.now in
         IfSome result (λ f. IsFirstRule16Fault image.now other cells.now cert.now f.0 f.1) }
 {
     let _areas = plan.areas;
@@ -59,10 +58,10 @@ fn first_cell_fault_in_node<'a>(
     walk: &mut PointWalk<'a>,
 ) -> Option<u32>
     requires values { All (λ p. AreInLattice rule.now.bounds.now p.state.regs) node.now.points }
-    requires cells { All (λ c. c.at + 4 ≤ 2 ^ 32) rule.now.cells.now }
+    requires cells { CellsDoNotWrap rule.now.cells.now }
     ensures none { let r = rule.now in
-        IfNone result
-        (All (PointKeepsCells r.bounds.now r.image.now r.plan.now r.cells.now) node.now.points) }
+        IfNone result (All
+        (PointKeepsCells r.bounds.now r.image.now r.plan.now r.cells.now) node.now.points) }
     ensures some { let r = rule.now in
         IfSome result
         (IsFirstRule16NodeFault r.bounds.now r.image.now r.plan.now r.cells.now node.now) }

@@ -1,7 +1,8 @@
 // The test of K16: stores keep the cells' bounds.
-ghost use Rattle.std.specs.Prelude.{◌≤◌, ◌+◌, ◌^◌, ◌↔◌, ℕ, IsTrue, All};
+ghost use Rattle.std.specs.Prelude.{◌≤◌, ◌+◌, ◌^◌, ◌↔◌, ℕ, IsTrue};
 ghost use Rattle.value_domain.specs.Values.{IsWellFormed, IsMember};
 ghost use Rattle.store_ranges.specs.Accesses.{IsAccessSize};
+ghost use Rattle.value_cells.specs.Cells.{CellsDoNotWrap};
 ghost use Rattle.value_cells.specs.Keeping.{KeepsEachCell, StoreKeepsCell, FitsCell, AreWithinCellBounds, IsCellKeptAt};
 
 use crate::cells::Cell;
@@ -14,7 +15,7 @@ pub(crate) fn keeps_cells(at: &Val, size: u8, stored: &Val, cells: &[Cell]) -> b
     requires at { IsWellFormed at.now }
     requires stored { IsWellFormed stored.now }
     requires size { IsAccessSize size }
-    requires cells { All (λ c. c.at + 4 ≤ 2 ^ 32) cells.now }
+    requires cells { CellsDoNotWrap cells.now }
     ensures { IsTrue result ↔
         ((x : ℕ) → IsMember x at.now → KeepsEachCell stored.now size x cells.now) }
 {

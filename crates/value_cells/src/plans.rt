@@ -1,9 +1,8 @@
 // The plan with cells.
-ghost use Rattle.std.specs.Prelude.{◌≡◌, ◌≤◌, ◌+◌, ◌^◌, ◌++◌, ◌↔◌, All, IsTrue, map, length};
-ghost use Rattle.tcd_base.specs.Ranges.{IsInOneRange};
-ghost use Rattle.tcd_plan.specs.Cutting as cutting;
-ghost use Rattle.value_cells.specs.Cells as spec;
-ghost use Rattle.value_cells.specs.Cells.{AreCells, cell_device};
+ghost use Rattle.std.specs.Prelude.{◌≡◌, ◌≤◌, ◌++◌, ◌↔◌, IsTrue, map, length};
+ghost use Rattle.tcd_base.specs.Ranges.{IsInOneRange, RangesDoNotWrap};
+ghost use Rattle.tcd_plan.specs.Cutting.{cut_plan_ranges};
+ghost use Rattle.value_cells.specs.Cells.{AreCells, cell_device, ram_without_cells, with_cells};
 
 use crate::cells::{Cell, Cells};
 use arrayvec::ArrayVec;
@@ -20,7 +19,7 @@ pub(crate) fn is_cell_in_ram(plan: &Plan, at: u32) -> bool
 /// Returns the ranges of ram without the words of all cells.
 pub(crate) fn ram_without_cells(plan: &Plan, cells: &[Cell]) -> ArrayVec<Range, 16>
     requires { AreCells plan.now cells.now }
-    ensures { result.items ≡ spec.ram_without_cells cells.now plan.now.ram }
+    ensures { result.items ≡ ram_without_cells cells.now plan.now.ram }
 {
     let mut ram = ArrayVec::try_from(plan.ram.as_slice()).unwrap();
     for cell in cells {
@@ -33,7 +32,7 @@ pub(crate) fn ram_without_cells(plan: &Plan, cells: &[Cell]) -> ArrayVec<Range, 
 /// order.
 pub fn with_cells(plan: &Plan, cells: &Cells) -> Plan
     requires { AreCells plan.now cells.now }
-    ensures { result ≡ spec.with_cells plan.now cells.now }
+    ensures { result ≡ with_cells plan.now cells.now }
 {
     Plan {
         rom: ArrayVec::try_from(plan.rom.as_slice()).unwrap(),
@@ -60,9 +59,9 @@ pub fn with_cells(plan: &Plan, cells: &Cells) -> Plan
 /// Returns these ranges of ram without the four bytes of the cell at an address.
 fn ranges_without_cell(ranges: &[Range], at: u32) -> ArrayVec<Range, 16>
     requires few { length ranges.now ≤ 16 }
-    requires fit { All (λ r. r.at + r.len ≤ 2 ^ 32) ranges.now }
-    requires room { length (cutting.cut_plan_ranges at 4 ranges.now) ≤ 16 }
-    ensures { result.items ≡ cutting.cut_plan_ranges at 4 ranges.now }
+    requires fit { RangesDoNotWrap ranges.now }
+    requires room { length (cut_plan_ranges at 4 ranges.now) ≤ 16 }
+    ensures { result.items ≡ cut_plan_ranges at 4 ranges.now }
 {
     let left = cut_plan_ranges(ranges, at, 4);
     ArrayVec::try_from(left.as_slice()).unwrap()

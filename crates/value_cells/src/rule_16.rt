@@ -1,6 +1,7 @@
 // K16 at a point.
-ghost use Rattle.std.specs.Prelude.{◌≤◌, ◌+◌, ◌^◌, ◌↔◌, IsTrue, All};
+ghost use Rattle.std.specs.Prelude.{◌↔◌, IsTrue};
 ghost use Rattle.value_domain.specs.State.{AreInLattice};
+ghost use Rattle.value_cells.specs.Cells.{CellsDoNotWrap};
 ghost use Rattle.value_cells.specs.Keeping.{PointKeepsCells};
 
 use crate::cells::Cell;
@@ -29,7 +30,7 @@ pub(crate) struct CellsRule<'a> {
 /// its whole word is stored, within bounds.
 pub(crate) fn keeps_rule_16(rule: &CellsRule, codes: &mut KnownCodes, addr: u32, s: &State) -> bool
     requires values { AreInLattice rule.now.bounds.now s.now.regs }
-    requires cells { All (λ c. c.at + 4 ≤ 2 ^ 32) rule.now.cells.now }
+    requires cells { CellsDoNotWrap rule.now.cells.now }
     ensures { let r = rule.now in
         IsTrue result
         ↔ PointKeepsCells r.bounds.now r.image.now r.plan.now r.cells.now

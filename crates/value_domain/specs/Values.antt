@@ -35,13 +35,17 @@ abbrev pub IsWellFormed : Val → Type 0
 IsWellFormed (Set ws) = AreSetWords ws
 IsWellFormed (Span lo last step) = (step ≤ 2) × (64 < span_len lo last step) × (last < 2 ^ 32)
 
+-- the Span of this step from the threshold at or below x to before the one above y
+abbrev pub span_between_thresholds : Limits → ℕ → ℕ → ℕ → Val
+span_between_thresholds b x y step = Span (floor b.thresholds x) (threshold_above b.thresholds y - 1) step
+
 -- the value of ascending words: the Set of them if they are few enough, else the lattice's least
 -- Span that holds them
 abbrev pub value_of_words : Limits → List ℕ → Val
 value_of_words b ws =
     if nat_le (length ws) b.most_words
     then Set ws
-    else Span (floor b.thresholds (least ws)) (threshold_above b.thresholds (greatest ws) - 1) (step_of_set ws)
+    else span_between_thresholds b (least ws) (greatest ws) (step_of_set ws)
 
 -- the least value that holds all words of a list
 unfoldable pub cover : Limits → List ℕ → Val

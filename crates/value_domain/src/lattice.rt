@@ -3,9 +3,8 @@ ghost use Rattle.std.specs.Prelude.{◌≡◌, ◌==◌, ◌≤◌, ◌<◌, ◌
 ghost use Rattle.value_domain.specs.Values as values;
 ghost use Rattle.value_domain.specs.Sets.{AreSetWords, Within, IsAscending, least, greatest, step_of_set, IsExtent};
 ghost use Rattle.value_domain.specs.Sets as sets;
-ghost use Rattle.value_domain.specs.Floors.{floor, threshold_above};
 ghost use Rattle.value_domain.specs.Limits.{AreLimits};
-ghost use Rattle.value_domain.specs.Values.{IsWellFormed, IsInLattice, IsBelow, cover, members, multiples_in_range, span_len, words_of};
+ghost use Rattle.value_domain.specs.Values.{IsWellFormed, IsInLattice, IsBelow, cover, members, multiples_in_range, span_between_thresholds, span_len, words_of};
 ghost use Rattle.value_domain.specs.declared.values.Val.TheVariants.{Set, Span};
 
 use crate::merged_lists::merge;
@@ -56,8 +55,7 @@ pub(crate) fn extent_of_span(lo: u32, last: u32, step: u8) -> Extent
 /// Overwrites `out` with the Span of this step between thresholds: from the one at or below `least`
 /// to before the one above `greatest`.
 pub fn write_span(b: &Bounds, least: u32, greatest: u32, step: u8, out: &mut Val)
-    ensures { out.new
-        ≡ Span (floor b.now.thresholds least) (threshold_above b.now.thresholds greatest - 1) step }
+    ensures { out.new ≡ span_between_thresholds b.now least greatest step }
 {
     let lo = b.floor(least);
     let last = (b.threshold_above(greatest) - 1) as u32;
@@ -293,9 +291,7 @@ fn insert_or_widen(b: &Bounds, v: &mut Val, x: u32)
 
 /// Overwrites `out` with the Span between thresholds for a value of extent `e` and the word `x`.
 fn write_span_with_word(b: &Bounds, e: &Extent, x: u32, out: &mut Val)
-    ensures { out.new
-        ≡ Span (floor b.now.thresholds (min x e.now.least))
-        (threshold_above b.now.thresholds (max x e.now.greatest) - 1)
+    ensures { out.new ≡ span_between_thresholds b.now (min x e.now.least) (max x e.now.greatest)
         (min (sets.alignment_log2 x) e.now.step) }
 {
     write_span(

@@ -34,19 +34,37 @@ state_with_narrowed_operands s x y None w = None
 state_with_narrowed_operands s x y (Some v) None = None
 state_with_narrowed_operands s x y (Some v) (Some w) = Some (with_arg_value (with_reg_value s x v) y w)
 
+-- of two compared values v and w, the cover of the left one's members that are possible on a side
+-- of the branch; none if there are none
+abbrev pub narrowed_left_value : Limits → Cond → Bool → Val → Val → Option Val
+narrowed_left_value b cond side v w = cover_if_any b (kept_left_words cond side (members v) (members w))
+
+-- of two compared values v and w, the cover of the right one's members that are possible on a side
+-- of the branch; none if there are none
+abbrev pub narrowed_right_value : Limits → Cond → Bool → Val → Val → Option Val
+narrowed_right_value b cond side v w = cover_if_any b (kept_right_words cond side (members v) (members w))
+
+-- on a side of a branch, the state with both operands x and y narrowed from their values v and w;
+-- none if one has no possible member
+abbrev pub state_narrowed_by_values : Limits → Cond → Bool → ℕ → Arg → State → Val → Val → Option State
+state_narrowed_by_values b cond side x y s v w =
+    state_with_narrowed_operands s x y (narrowed_left_value b cond side v w) (narrowed_right_value b cond side v w)
+
 -- the state on a side of a branch, its operands narrowed; none if the side isn't possible
 abbrev pub state_on_side : Limits → PlanData → Cond → ℕ → Arg → State → Bool → Option State
 state_on_side b p cond x y s side =
     if is_same_register x y
     then state_with_narrowed_register s x (cover_if_any b (kept_self_compared_words cond side (members (reg_of p s x))))
-    else state_with_narrowed_operands s x y
-    (cover_if_any b (kept_left_words cond side (members (reg_of p s x)) (members (arg_of p s y))))
-    (cover_if_any b (kept_right_words cond side (members (reg_of p s x)) (members (arg_of p s y))))
+    else state_narrowed_by_values b cond side x y s (reg_of p s x) (arg_of p s y)
+
+-- the state after the register x was decremented by 1
+abbrev pub with_decremented_register : Limits → PlanData → ℕ → State → State
+with_decremented_register b p x s = state_after_reg_write s x (operation_value b Sub (reg_of p s x) (word_val 1))
 
 -- the state, if any, with the counter register x decremented by 1 if `lowers`, as for loop
 abbrev pub with_decremented_counter : Limits → PlanData → ℕ → Bool → Option State → Option State
 with_decremented_counter b p x lowers None = None
-with_decremented_counter b p x lowers (Some s) = Some (if lowers then state_after_reg_write s x (operation_value b Sub (reg_of p s x) (word_val 1)) else s)
+with_decremented_counter b p x lowers (Some s) = Some (if lowers then with_decremented_register b p x s else s)
 
 -- the state after a branch that is taken (true) or isn't; none if impossible, or no branch
 unfoldable pub refine_of : Limits → PlanData → Shape → State → Bool → Option State

@@ -8,13 +8,13 @@ use Rattle.vd_transfer.specs.declared.change.Base.TheVariants.{Same, Forgotten, 
 use Rattle.vd_transfer.specs.declared.change.RegisterWrite.{RegisterWrite}
 use Rattle.vd_transfer.specs.declared.change.Change.{Change}
 use Rattle.vd_transfer.specs.Registers.{register_slot}
-use Rattle.vd_transfer.specs.EffectsOnStates.{with_lower_unknown_from}
+use Rattle.vd_transfer.specs.EffectsOnStates.{with_lower_unknown}
 
 -- the values that a change starts from: the state's own, those with the lower registers unknown, or
 -- unknown everywhere
 abbrev pub base_values : Base → List Val → List Val
 base_values Same regs = regs
-base_values Forgotten regs = with_lower_unknown_from 0 regs
+base_values Forgotten regs = with_lower_unknown regs
 base_values Any regs = replicate 27 any_val
 
 -- the values with v in this slot; all as they are without a slot
@@ -26,10 +26,15 @@ with_value_in_slot vs v (Some i) = slice_set vs i v
 abbrev pub with_write : List Val → RegisterWrite → List Val
 with_write vs write = with_value_in_slot vs write.value write.at
 
+-- a state's register values after a change: those that the change starts from, with its three
+-- writes one after another
+abbrev pub changed_values : Change → List Val → List Val
+changed_values c vs = with_write (with_write (with_write (base_values c.base vs) c.first) c.second) c.third
+
 -- the state after a change
 abbrev pub state_after : State → Change → State
 state_after s c = record {
-  regs = with_write (with_write (with_write (base_values c.base s.regs) c.first) c.second) c.third;
+  regs = changed_values c s.regs;
   ie = c.ie;
   ccpn = c.ccpn;
   lower = c.lower;

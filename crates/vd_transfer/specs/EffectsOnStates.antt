@@ -1,6 +1,7 @@
 -- What an instruction does to a state.
 use Rattle.std.specs.Prelude.{◌+◌, ◌-◌, ◌<◌, ◌≤◌, ℕ, Bool, true, false, if◌then◌else◌, List, ◌∷◌, ◌++◌, length, take, slice_index_or, []}
 use Rattle.tcd_plan.specs.PlanData.{PlanData}
+use Rattle.tc_isa.specs.declared.shapes.Op.{Op}
 use Rattle.tc_isa.specs.declared.shapes.Op.TheVariants.{Add, Sh}
 use Rattle.tc_isa.specs.declared.shapes.Arg.{Arg}
 use Rattle.tc_isa.specs.declared.shapes.Arg.TheVariants.{Reg, Word}
@@ -13,6 +14,14 @@ use Rattle.value_domain.specs.Limits.{Limits}
 use Rattle.vd_transfer.specs.Operations.{operation_value}
 use Rattle.vd_transfer.specs.Registers.{reg_of, arg_of, state_after_reg_write}
 use Rattle.value_domain.specs.State.{is_lower_slot}
+
+-- the abstract value of an operation on the operands x and y in a state
+abbrev pub operation_in_state : Limits → PlanData → State → Op → Arg → Arg → Val
+operation_in_state b p s op x y = operation_value b op (arg_of p s x) (arg_of p s y)
+
+-- the abstract value of a scaled address: a base register plus an index register shifted left by n
+abbrev pub scaled_address_of : Limits → PlanData → State → ℕ → ℕ → ℕ → Val
+scaled_address_of b p s base index n = operation_value b Add (reg_of p s base) (operation_value b Sh (reg_of p s index) (word_val n))
 
 -- the state after the access increased its base register by the offset, if the access does that
 abbrev pub state_with_increased_base : Limits → PlanData → State → Arg → ℕ → Bool → State
@@ -34,11 +43,15 @@ unfoldable pub with_lower_unknown_from : ℕ → List Val → List Val
 with_lower_unknown_from i [] = []
 with_lower_unknown_from i (v ∷ vs) = (if is_lower_slot i then any_val else v) ∷ with_lower_unknown_from (i + 1) vs
 
+-- a state's 27 values, with those of lower registers unknown, as after a lower context is restored
+abbrev pub with_lower_unknown : List Val → List Val
+with_lower_unknown vs = with_lower_unknown_from 0 vs
+
 -- the last lower context is restored: the lower registers are unknown, and they are those of the
 -- entry if its local says so
 abbrev pub state_after_lower_restore : State → State
 state_after_lower_restore s = record s {
-  regs = with_lower_unknown_from 0 s.regs;
+  regs = with_lower_unknown s.regs;
   lower = slice_index_or s.locals.items (length s.locals.items - 1) false;
   locals = record { items = take (length s.locals.items - 1) s.locals.items };
 }
@@ -46,8 +59,8 @@ state_after_lower_restore s = record s {
 -- the state after an instruction that isn't a branch and goes on to the next one; a load writes the
 -- value that was loaded
 unfoldable pub transfer_of : Limits → PlanData → Shape → State → Val → State
-transfer_of b p (Compute op dst x y) s loaded = state_after_reg_write s dst (operation_value b op (arg_of p s x) (arg_of p s y))
-transfer_of b p (Scaled dst base index n) s loaded = state_after_reg_write s dst (operation_value b Add (reg_of p s base) (operation_value b Sh (reg_of p s index) (word_val n)))
+transfer_of b p (Compute op dst x y) s loaded = state_after_reg_write s dst (operation_in_state b p s op x y)
+transfer_of b p (Scaled dst base index n) s loaded = state_after_reg_write s dst (scaled_address_of b p s base index n)
 transfer_of b p (Load dst base offset size signed after) s loaded = state_after_reg_write (state_with_increased_base b p s base offset after) dst loaded
 transfer_of b p (Store src base offset size after) s loaded = state_with_increased_base b p s base offset after
 transfer_of b p (Branch cond x y by lowers) s loaded = s

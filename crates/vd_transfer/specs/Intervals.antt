@@ -1,12 +1,12 @@
 -- Strided intervals: the bounds of values, and the words that an operation's interval covers.
-use Rattle.std.specs.Prelude.{◌+◌, ◌-◌, ◌*◌, ◌/◌, ◌%◌, ◌^◌, ℕ, ◌||◌, nat_lt, nat_le, if◌then◌else◌, min, max, List, ◌∷◌, ◌≤◌, []}
+use Rattle.std.specs.Prelude.{◌+◌, ◌-◌, ◌*◌, ◌/◌, ◌%◌, ◌^◌, ℕ, ◌||◌, nat_lt, nat_le, if◌then◌else◌, min, max, List, filter, ◌∷◌, ◌≤◌, []}
 use Rattle.tc_isa.specs.declared.shapes.Op.{Op}
 use Rattle.tc_isa.specs.declared.shapes.Op.TheVariants.{Second, Add, Sub, And, Nand, Or, Nor, Xor, Xnor, Andn, Orn, Eq, Ne, Lt, LtU, Ge, GeU, Sh, Sha}
 use Rattle.value_domain.specs.declared.values.Val.{Val}
 use Rattle.value_domain.specs.declared.values.Val.TheVariants.{Set, Span}
 use Rattle.value_domain.specs.declared.lattice.Extent.{Extent}
 use Rattle.value_domain.specs.Sets.{least, greatest}
-use Rattle.value_domain.specs.Values.{multiples_in_range, greatest_member, least_member, step_of_value}
+use Rattle.value_domain.specs.Values.{multiples_in_range, greatest_member, is_in_span, least_member, members, step_of_value}
 use Rattle.vd_transfer.specs.declared.strided_interval.StridedInterval.{StridedInterval}
 use Rattle.vd_transfer.specs.declared.refinement.Interval.{Interval}
 
@@ -91,6 +91,10 @@ result_interval Sha e f w = shifted_interval arithmetic_shift_interval e.least e
 -- the extent of an abstract value: its least and its greatest member, and its step
 abbrev pub extent_of_value : Val → Extent
 extent_of_value v = record { least = least_member v; greatest = greatest_member v; step = step_of_value v }
+
+-- the members of a value that are in the interval i, from i.lo up to i.last
+abbrev pub members_in_interval : Interval → Val → List ℕ
+members_in_interval i v = filter (is_in_span i.lo i.last 0) (members v)
 
 -- the word x is one of the interval i, from i.lo up to i.last
 abbrev pub IsInInterval : Interval → ℕ → Type 0

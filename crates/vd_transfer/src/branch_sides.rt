@@ -1,16 +1,13 @@
 // The change of a state on a side of a branch.
-ghost use Rattle.std.specs.Prelude.{◌≡◌, ◌<◌, ◌∷◌, [], Some, None};
-ghost use Rattle.value_domain.specs.Values.{IsInLattice, members, word_val};
+ghost use Rattle.std.specs.Prelude.{◌≡◌, ◌<◌, Some, None};
+ghost use Rattle.value_domain.specs.Values.{IsInLattice, word_val};
 ghost use Rattle.value_domain.specs.State.{AreInLattice};
 ghost use Rattle.tc_isa.specs.InBounds.{IsArg, IsShape};
 ghost use Rattle.tc_isa.specs.declared.shapes.Arg.TheVariants.{Word};
-ghost use Rattle.tc_isa.specs.declared.shapes.Op.TheVariants.{Sub};
-ghost use Rattle.vd_transfer.specs.Refinement.{is_side_taken, kept_left_words, kept_right_words};
-ghost use Rattle.value_domain.specs.Meets.{cover_if_any};
+ghost use Rattle.vd_transfer.specs.Refinement.{is_side_taken};
 ghost use Rattle.vd_transfer.specs.Relations.{relation_on_side};
-ghost use Rattle.vd_transfer.specs.Branches.{is_side_taken_by_equal_words, refine_of, state_if_possible, state_with_narrowed_register, state_with_narrowed_operands, state_on_side, with_decremented_counter};
-ghost use Rattle.vd_transfer.specs.Registers.{reg_of, arg_of, state_after_reg_write};
-ghost use Rattle.vd_transfer.specs.Operations.{operation_value};
+ghost use Rattle.vd_transfer.specs.Branches.{is_side_taken_by_equal_words, narrowed_left_value, refine_of, state_if_possible, state_narrowed_by_values, state_with_narrowed_register, state_on_side, with_decremented_counter, with_decremented_register};
+ghost use Rattle.vd_transfer.specs.Registers.{reg_of, arg_of};
 ghost use Rattle.vd_transfer.specs.Changes.{state_after};
 
 use crate::change::{Change, set_third_write_slot};
@@ -109,7 +106,7 @@ pub(crate) fn narrow_left_register(
     requires right { IsInLattice b.now w.now }
     ensures one { state_if_possible result (state_after s.now c.new)
         ≡ state_with_narrowed_register s.now test.x
-        (cover_if_any b.now (kept_left_words test.cond test.side (members v.now) (members w.now))) }
+        (narrowed_left_value b.now test.cond test.side v.now w.now) }
     ensures values { AreInLattice b.now (state_after s.now c.new).regs }
     ensures free { (c.new.second.at ≡ None) × (c.new.third.at ≡ None) }
 {
@@ -225,11 +222,9 @@ fn decrement_if_loop(b: &Bounds, plan: &Plan, x: u8, lowers: bool, s: &State, c:
 fn narrow_by_values(b: &Bounds, plan: &Plan, test: Comparison, s: &State, c: &mut Change) -> bool
     requires operands { (test.x < 32) × IsArg test.y }
     requires values { AreInLattice b.now s.now.regs }
-    ensures two { state_if_possible result (state_after s.now c.new) ≡ state_with_narrowed_operands
-        s.now test.x test.y (cover_if_any b.now (kept_left_words test.cond test.side
-        (members (reg_of plan.now s.now test.x)) (members (arg_of plan.now s.now test.y))))
-        (cover_if_any b.now (kept_right_words test.cond test.side
-        (members (reg_of plan.now s.now test.x)) (members (arg_of plan.now s.now test.y)))) }
+    ensures two { state_if_possible result (state_after s.now c.new)
+        ≡ state_narrowed_by_values b.now test.cond test.side test.x test.y s.now
+        (reg_of plan.now s.now test.x) (arg_of plan.now s.now test.y) }
     ensures values { AreInLattice b.now (state_after s.now c.new).regs }
     ensures free { c.new.third.at ≡ None }
 {
@@ -258,9 +253,8 @@ fn narrow_against_constant(
     requires values { AreInLattice b.now s.now.regs }
     requires left { IsInLattice b.now v.now }
     ensures two { state_if_possible result (state_after s.now c.new)
-        ≡ state_with_narrowed_operands s.now test.x (Word z)
-        (cover_if_any b.now (kept_left_words test.cond test.side (members v.now) (z ∷ [])))
-        (cover_if_any b.now (kept_right_words test.cond test.side (members v.now) (z ∷ []))) }
+        ≡ state_narrowed_by_values b.now test.cond test.side test.x (Word z) s.now v.now
+        (word_val z) }
     ensures values { AreInLattice b.now (state_after s.now c.new).regs }
     ensures free { c.new.third.at ≡ None }
 {
@@ -285,11 +279,9 @@ fn narrow_built_operands(
 ) -> bool
     requires operands { (test.x < 32) × IsArg test.y }
     requires values { AreInLattice b.now s.now.regs }
-    ensures two { state_if_possible result (state_after s.now c.new) ≡ state_with_narrowed_operands
-        s.now test.x test.y (cover_if_any b.now (kept_left_words test.cond test.side
-        (members (reg_of plan.now s.now test.x)) (members (arg_of plan.now s.now test.y))))
-        (cover_if_any b.now (kept_right_words test.cond test.side
-        (members (reg_of plan.now s.now test.x)) (members (arg_of plan.now s.now test.y)))) }
+    ensures two { state_if_possible result (state_after s.now c.new)
+        ≡ state_narrowed_by_values b.now test.cond test.side test.x test.y s.now
+        (reg_of plan.now s.now test.x) (arg_of plan.now s.now test.y) }
     ensures values { AreInLattice b.now (state_after s.now c.new).regs }
     ensures free { c.new.third.at ≡ None }
 {
@@ -304,8 +296,7 @@ fn decrement_register(b: &Bounds, plan: &Plan, x: u8, s: &State, c: &mut Change)
     requires values { AreInLattice b.now (state_after s.now c.old).regs }
     requires free { c.old.third.at ≡ None }
     ensures lowered { state_after s.now c.new
-        ≡ state_after_reg_write (state_after s.now c.old) x
-        (operation_value b.now Sub (reg_of plan.now (state_after s.now c.old) x) (word_val 1)) }
+        ≡ with_decremented_register b.now plan.now x (state_after s.now c.old) }
     ensures values { AreInLattice b.now (state_after s.now c.new).regs }
 {
     let v = changed_reg(b, plan, s, c, x);

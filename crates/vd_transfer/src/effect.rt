@@ -1,12 +1,10 @@
 // The change of a state by each instruction.
 ghost use Rattle.std.specs.Prelude.{◌≡◌, ◌<◌, ◌≤◌, length, true, None};
-ghost use Rattle.value_domain.specs.Values.{IsInLattice, any_val, word_val};
+ghost use Rattle.value_domain.specs.Values.{IsInLattice, any_val};
 ghost use Rattle.value_domain.specs.State.{AreInLattice};
 ghost use Rattle.tc_isa.specs.InBounds.{IsArg, IsShape};
-ghost use Rattle.tc_isa.specs.declared.shapes.Op.TheVariants.{Add, Sh};
-ghost use Rattle.vd_transfer.specs.Operations.{operation_value};
-ghost use Rattle.vd_transfer.specs.Registers.{reg_of, arg_of, state_after_reg_write};
-ghost use Rattle.vd_transfer.specs.EffectsOnStates.{state_with_increased_base, state_after_lower_save, state_after_lower_restore, LocalsFitInstruction, transfer_of, LoadedIsInLattice};
+ghost use Rattle.vd_transfer.specs.Registers.{state_after_reg_write};
+ghost use Rattle.vd_transfer.specs.EffectsOnStates.{operation_in_state, scaled_address_of, state_with_increased_base, state_after_lower_save, state_after_lower_restore, LocalsFitInstruction, transfer_of, LoadedIsInLattice};
 ghost use Rattle.vd_transfer.specs.Changes.{state_after};
 
 use crate::access::Addressing;
@@ -42,7 +40,7 @@ pub(crate) fn write_operation_change(
     requires values { AreInLattice b.now s.now.regs }
     ensures write { state_after s.now c.new
         ≡ state_after_reg_write s.now dst
-        (operation_value b.now of.op (arg_of plan.now s.now of.x) (arg_of plan.now s.now of.y)) }
+        (operation_in_state b.now plan.now s.now of.op of.x of.y) }
     ensures values { AreInLattice b.now (state_after s.now c.new).regs }
     ensures third { c.new.third ≡ record c.old.third { at = None } }
 {
@@ -66,8 +64,7 @@ pub(crate) fn write_scaled_address_change(
     requires values { AreInLattice b.now s.now.regs }
     ensures write { state_after s.now c.new
         ≡ state_after_reg_write s.now dst
-        (operation_value b.now Add (reg_of plan.now s.now at.base)
-        (operation_value b.now Sh (reg_of plan.now s.now at.index) (word_val at.n))) }
+        (scaled_address_of b.now plan.now s.now at.base at.index at.n) }
     ensures values { AreInLattice b.now (state_after s.now c.new).regs }
 {
     let by = Operation {

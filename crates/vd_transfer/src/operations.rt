@@ -4,6 +4,7 @@ ghost use Rattle.value_domain.specs.Values.{IsInLattice, cover, members, words_o
 ghost use Rattle.tc_isa.specs.Arithmetic.{alu_of};
 ghost use Rattle.vd_transfer.specs.Operations.{possible_results, results_by_extents, results_of_pairs, HasMembers, operation_value, is_comparison};
 ghost use Rattle.vd_transfer.specs.Registers.{arg_of};
+ghost use Rattle.vd_transfer.specs.EffectsOnStates.{operation_in_state};
 ghost use Rattle.value_domain.specs.State.{AreInLattice};
 ghost use Rattle.tc_isa.specs.InBounds.{IsArg};
 
@@ -38,8 +39,7 @@ pub fn write_operation_value(b: &Bounds, op: Op, v: &Val, w: &Val, out: &mut Val
 pub(crate) fn evaluate_operation(b: &Bounds, plan: &Plan, s: &State, of: Operation, out: &mut Val)
     requires operands { IsArg of.x × IsArg of.y }
     requires values { AreInLattice b.now s.now.regs }
-    ensures of { out.new
-        ≡ operation_value b.now of.op (arg_of plan.now s.now of.x) (arg_of plan.now s.now of.y) }
+    ensures of { out.new ≡ operation_in_state b.now plan.now s.now of.op of.x of.y }
     ensures value { IsInLattice b.now out.new }
 {
     let _most_words = b.most_words();
@@ -312,8 +312,7 @@ fn join_result(b: &Bounds, v: &mut Val, met: &mut [u32; 512], z: u32)
 fn evaluate_on_state_values(b: &Bounds, plan: &Plan, s: &State, of: Operation, out: &mut Val)
     requires operands { IsArg of.x × IsArg of.y }
     requires values { AreInLattice b.now s.now.regs }
-    ensures of { out.new
-        ≡ operation_value b.now of.op (arg_of plan.now s.now of.x) (arg_of plan.now s.now of.y) }
+    ensures of { out.new ≡ operation_in_state b.now plan.now s.now of.op of.x of.y }
     ensures value { IsInLattice b.now out.new }
 {
     match arg_in_state(b, plan, s, of.x) {
@@ -344,8 +343,7 @@ fn evaluate_built_right(b: &Bounds, plan: &Plan, s: &State, of: Operation, v: &V
 fn evaluate_built_left(b: &Bounds, plan: &Plan, s: &State, of: Operation, out: &mut Val)
     requires operands { IsArg of.x × IsArg of.y }
     requires values { AreInLattice b.now s.now.regs }
-    ensures of { out.new
-        ≡ operation_value b.now of.op (arg_of plan.now s.now of.x) (arg_of plan.now s.now of.y) }
+    ensures of { out.new ≡ operation_in_state b.now plan.now s.now of.op of.x of.y }
     ensures value { IsInLattice b.now out.new }
 {
     let v = build_arg(b, plan, s, of.x);

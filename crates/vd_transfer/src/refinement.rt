@@ -1,15 +1,14 @@
 // Refinement: the members of two values for which a comparison holds.
-ghost use Rattle.std.specs.Prelude.{◌≡◌, ◌==◌, ◌<◌, ◌≤◌, ◌+◌, ◌-◌, ◌^◌, ◌++◌, filter, List, ℕ, IfSome, Some, ◌↔◌, ◌⊎◌, ◌≢◌, None};
-ghost use Rattle.value_domain.specs.Values.{IsInLattice, members, is_in_span};
+ghost use Rattle.std.specs.Prelude.{◌≡◌, ◌==◌, ◌<◌, ◌≤◌, ◌+◌, ◌-◌, ◌^◌, ◌++◌, List, ℕ, IfSome, Some, ◌↔◌, ◌⊎◌, ◌≢◌, None};
+ghost use Rattle.value_domain.specs.Values.{IsInLattice, members};
 ghost use Rattle.value_domain.specs.declared.values.Val.TheVariants.{Set, Span};
 ghost use Rattle.value_domain.specs.Meets.{cover_if_any, value_if_found};
 ghost use Rattle.vd_transfer.specs.Relations.{MayBeRelated, related_words, converse};
-ghost use Rattle.vd_transfer.specs.Refinement.{kept_left_words, kept_right_words};
-ghost use Rattle.vd_transfer.specs.Intervals.{IsInInterval};
+ghost use Rattle.vd_transfer.specs.Intervals.{IsInInterval, members_in_interval};
 ghost use Rattle.vd_transfer.specs.declared.refinement.Relation.TheVariants.{Same};
 ghost use Rattle.value_domain.specs.State.{AreInLattice};
 ghost use Rattle.vd_transfer.specs.Signs.{is_signed_condition};
-ghost use Rattle.vd_transfer.specs.Branches.{state_if_possible, state_with_narrowed_operands};
+ghost use Rattle.vd_transfer.specs.Branches.{narrowed_left_value, narrowed_right_value, state_if_possible, state_narrowed_by_values};
 ghost use Rattle.vd_transfer.specs.Changes.{state_after};
 
 use crate::branch_sides::{Comparison, narrow_left_register, relation_on_side};
@@ -84,8 +83,7 @@ pub(crate) fn join_members_in_interval(
     requires value { IsInLattice b.now v.now }
     requires before { IfSome (value_if_found found out.old) (IsInLattice b.now) }
     ensures more { (xs : List ℕ) → value_if_found found out.old ≡ cover_if_any b.now xs
-        → value_if_found result out.new
-        ≡ cover_if_any b.now (xs ++ filter (is_in_span i.lo i.last 0) (members v.now)) }
+        → value_if_found result out.new ≡ cover_if_any b.now (xs ++ members_in_interval i v.now) }
     ensures value { IfSome (value_if_found result out.new) (IsInLattice b.now) }
 {
     if i.last < i.lo {
@@ -111,7 +109,7 @@ pub(crate) fn refine_left_operand(
     requires left { IsInLattice b.now v.now }
     requires right { IsInLattice b.now w.now }
     ensures kept { value_if_found result out.new
-        ≡ cover_if_any b.now (kept_left_words test.cond test.side (members v.now) (members w.now)) }
+        ≡ narrowed_left_value b.now test.cond test.side v.now w.now }
     ensures value { IfSome (value_if_found result out.new) (IsInLattice b.now) }
 {
     let rel = relation_on_side(test.cond, test.side);
@@ -136,9 +134,7 @@ pub(crate) fn refine_both_operands(
     requires left { IsInLattice b.now v.now }
     requires right { IsInLattice b.now w.now }
     ensures two { state_if_possible result (state_after s.now c.new)
-        ≡ state_with_narrowed_operands s.now test.x test.y (cover_if_any b.now
-        (kept_left_words test.cond test.side (members v.now) (members w.now))) (cover_if_any b.now
-        (kept_right_words test.cond test.side (members v.now) (members w.now))) }
+        ≡ state_narrowed_by_values b.now test.cond test.side test.x test.y s.now v.now w.now }
     ensures values { AreInLattice b.now (state_after s.now c.new).regs }
     ensures free { c.new.third.at ≡ None }
 {
@@ -228,8 +224,7 @@ fn join_meet_with_interval(b: &Bounds, v: &Val, i: Interval, out: &mut Val)
     requires value { IsInLattice b.now v.now }
     requires before { IsInLattice b.now out.old }
     ensures more { (xs : List ℕ) → Some out.old ≡ cover_if_any b.now xs
-        → Some out.new
-        ≡ cover_if_any b.now (xs ++ filter (is_in_span i.lo i.last 0) (members v.now)) }
+        → Some out.new ≡ cover_if_any b.now (xs ++ members_in_interval i v.now) }
     ensures value { IsInLattice b.now out.new }
 {
     let mut others = Val::any();
@@ -244,8 +239,8 @@ fn join_meet_with_interval(b: &Bounds, v: &Val, i: Interval, out: &mut Val)
 fn refine_right_operand(b: &Bounds, test: Comparison, v: &Val, w: &Val, out: &mut Val) -> bool
     requires left { IsInLattice b.now v.now }
     requires right { IsInLattice b.now w.now }
-    ensures kept { value_if_found result out.new ≡ cover_if_any b.now
-        (kept_right_words test.cond test.side (members v.now) (members w.now)) }
+    ensures kept { value_if_found result out.new
+        ≡ narrowed_right_value b.now test.cond test.side v.now w.now }
     ensures value { IfSome (value_if_found result out.new) (IsInLattice b.now) }
 {
     let rel = converse(relation_on_side(test.cond, test.side));

@@ -1,4 +1,5 @@
-// The graph of entries, by the numbers of its nodes: which nodes are reached from which.
+// The call graph of frames, by the numbers of its nodes: which nodes are reached from which. Its
+// edges are entries of frames by calls, interrupts and traps.
 ghost use Rattle.std.specs.Prelude.{◌≡◌, ◌<◌, ◌↔◌, ℕ, IsTrue, IfOk, OnOk, length, slice_index_or, false, Contains, [], ◌∷◌, ◌+◌};
 ghost use Rattle.frame_places.specs.NodeGraph.{AddsEdges, AddsPredecessor, ArePredecessorsBelow, AreEdgesBelow, AreEdgesOfRows, AreReachingMarks, AreReachingByPredecessors, ArePredecessors, HasMarkedSuccessor, IsFirstRecursiveNodeBefore, IsFirstRecursiveNode, IsRecursiveNode, MarksAndQueues, FinishesMarking, IsNodeMarked};
 

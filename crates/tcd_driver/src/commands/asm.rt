@@ -1,6 +1,6 @@
 // The command `asm`.
 ghost use Rattle.tcd_driver.specs.Asm.{WritesObject, asm_reading};
-ghost use Rattle.tcd_reading.specs.Outcomes.{IsCommandOutcome, IsReportOutcome};
+ghost use Rattle.tcd_reading.specs.Outcomes.{IsCommandOutcome, IsReportOrNoMemory};
 
 use std::alloc::Global;
 use tc_object::Object;
@@ -25,7 +25,7 @@ pub(crate) fn assemble_file<F: Files>(
 
 // Returns the report of `asm`: the object to write under this name, and the line with its size.
 fn object_report(alloc: Global, name: &str, object: &Object) -> Outcome
-    ensures { IsReportOutcome (WritesObject name.now object.now) ⊥ result }
+    ensures { IsReportOrNoMemory (WritesObject name.now object.now) result }
 {
     match object.write(alloc) {
         Ok(bytes) => {

@@ -1,6 +1,6 @@
 // The command `boot`.
 ghost use Rattle.tcd_driver.specs.Boot.{IsBootVerdict, boot_reading};
-ghost use Rattle.tcd_reading.specs.Outcomes.{IsCommandOutcome, IsReportOutcome};
+ghost use Rattle.tcd_reading.specs.Outcomes.{IsCommandOutcome, IsReportOrNoMemory};
 
 use crate::lines::refused_boot_line;
 use depth_check::{Verdict, check};
@@ -36,7 +36,7 @@ pub(crate) fn check_boot_files<F: Files>(
 
 // Checks the certificate and the boot sequence at an address, and reports the verdict.
 fn boot_verdict(alloc: Global, image: &Image, plan: &Plan, cert: &Cert, at: u32) -> Outcome
-    ensures { IsReportOutcome (IsBootVerdict image.now plan.now cert.now at) ⊥ result }
+    ensures { IsReportOrNoMemory (IsBootVerdict image.now plan.now cert.now at) result }
 {
     // Reading a field gives the facts that hold for every image.
     let _entry = image.entry;

@@ -1,7 +1,6 @@
 // The command `bootgen`.
-ghost use Rattle.std.specs.Prelude.{◌≤◌, ◌+◌, ◌^◌};
-ghost use Rattle.tcd_driver.specs.Boot.{WritesBootSource, bootgen_reading};
-ghost use Rattle.tcd_reading.specs.Outcomes.{IsCommandOutcome, IsReportOutcome};
+ghost use Rattle.tcd_driver.specs.Boot.{BootSequenceFits, WritesBootSource, bootgen_reading};
+ghost use Rattle.tcd_reading.specs.Outcomes.{IsCommandOutcome, IsReportOrNoMemory};
 
 use std::alloc::Global;
 use tc_boot::boot_source;
@@ -21,7 +20,7 @@ pub(crate) fn generate_boot_source<F: Files>(
     source: &str,
     files: &mut F,
 ) -> Outcome
-    requires { at + 224 ≤ 2 ^ 32 }
+    requires { BootSequenceFits at }
     ensures { IsCommandOutcome
         (bootgen_reading (record {
           plan = plan.now;
@@ -38,8 +37,8 @@ pub(crate) fn generate_boot_source<F: Files>(
 // Returns the report of `bootgen`: the plan's boot sequence, at `at` with a jump to `entry`, to
 // write as the source of this name.
 fn bootgen_report(alloc: Global, plan: &Plan, entry: u32, at: u32, source: &str) -> Outcome
-    requires { at + 224 ≤ 2 ^ 32 }
-    ensures { IsReportOutcome (WritesBootSource entry at source.now plan.now) ⊥ result }
+    requires { BootSequenceFits at }
+    ensures { IsReportOrNoMemory (WritesBootSource entry at source.now plan.now) result }
 {
     let text = boot_source(alloc, plan, entry, at)?;
     let line = copy_printed_line(alloc, bootgen_line())?;

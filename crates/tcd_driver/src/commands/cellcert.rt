@@ -1,7 +1,7 @@
 // The command `cellcert`.
 ghost use Rattle.value_cells.specs.Cells.{AreCells};
 ghost use Rattle.tcd_driver.specs.Cellcert.{IsCellcertReport, cellcert_reading};
-ghost use Rattle.tcd_reading.specs.Outcomes.{IsCommandOutcome, IsReportOutcome};
+ghost use Rattle.tcd_reading.specs.Outcomes.{IsCommandOutcome, IsReportOrNoMemory};
 
 use crate::cell_and_task_files::CellsFile;
 use crate::cert_making::{make_least_cert, report_no_cert};
@@ -43,7 +43,7 @@ pub(crate) fn certify_cells<F: Files>(
 // to write, or the rule that fails.
 fn make_cells_cert(alloc: Global, name: &str, image: &Image, plan: &Plan, cells: &Cells) -> Outcome
     requires { AreCells plan.now cells.now }
-    ensures { IsReportOutcome (IsCellcertReport name.now image.now plan.now cells.now) ⊥ result }
+    ensures { IsReportOrNoMemory (IsCellcertReport name.now image.now plan.now cells.now) result }
 {
     let areas = plan.areas - plan.reserve;
     match make_least_cert(alloc, image, &with_cells(plan, cells), 2) {

@@ -1,7 +1,7 @@
 // The command `cells`.
 ghost use Rattle.value_cells.specs.Cells.{AreCells};
 ghost use Rattle.tcd_driver.specs.Cells.{IsCellsVerdict, cells_reading};
-ghost use Rattle.tcd_reading.specs.Outcomes.{IsCommandOutcome, IsReportOutcome};
+ghost use Rattle.tcd_reading.specs.Outcomes.{IsCommandOutcome, IsReportOrNoMemory};
 
 use crate::cell_and_task_files::CellsFile;
 use depth_check::{Verdict, check};
@@ -45,7 +45,7 @@ pub(crate) fn check_cells<F: Files>(
 // (K16). Reports the verdict.
 fn cells_verdict(alloc: Global, image: &Image, plan: &Plan, cells: &Cells, cert: &Cert) -> Outcome
     requires { AreCells plan.now cells.now }
-    ensures { IsReportOutcome (IsCellsVerdict image.now plan.now cells.now cert.now) ⊥ result }
+    ensures { IsReportOrNoMemory (IsCellsVerdict image.now plan.now cells.now cert.now) result }
 {
     // What holds of every certificate is known after its format is read.
     let _version = cert.version();

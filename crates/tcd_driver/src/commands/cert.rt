@@ -1,6 +1,6 @@
 // The command `cert`.
 ghost use Rattle.tcd_driver.specs.Cert.{IsCertReport, cert_reading};
-ghost use Rattle.tcd_reading.specs.Outcomes.{IsCommandOutcome, IsReportOutcome};
+ghost use Rattle.tcd_reading.specs.Outcomes.{IsCommandOutcome, IsReportOrNoMemory};
 
 use crate::cert_making::{make_best_cert, report_no_cert};
 use elf_image::Image;
@@ -32,7 +32,7 @@ pub(crate) fn certify_executable<F: Files>(
 /// Makes the best certificate of an image under a plan. Reports the file of this name to write, or
 /// why none is accepted.
 fn certify_image(alloc: Global, name: &str, image: &Image, plan: &Plan) -> Outcome
-    ensures { IsReportOutcome (IsCertReport name.now image.now plan.now) ⊥ result }
+    ensures { IsReportOrNoMemory (IsCertReport name.now image.now plan.now) result }
 {
     match make_best_cert(alloc, image, plan) {
         Ok((cert, need)) => {

@@ -2,7 +2,7 @@
 ghost use Rattle.std.specs.Prelude.{IfOk};
 ghost use Rattle.tcd_driver.specs.Cfg.{IsCfgReport, IsCfgText, cfg_reading};
 ghost use Rattle.tcd_driver.specs.BestCert.{IsAcceptedBestCert};
-ghost use Rattle.tcd_reading.specs.Outcomes.{IsCommandOutcome, IsReportOutcome};
+ghost use Rattle.tcd_reading.specs.Outcomes.{IsCommandOutcome, IsReportOrNoMemory};
 
 use crate::cert_making::{make_best_cert, report_no_cert};
 use elf_image::Image;
@@ -29,7 +29,7 @@ pub(crate) fn draw_files<F: Files>(alloc: Global, elf: &str, plan: &str, files: 
 // Makes the best certificate of an image, and reports its control flow graph, or why none is
 // accepted.
 fn draw_graph(alloc: Global, image: &Image, plan: &Plan) -> Outcome
-    ensures { IsReportOutcome (IsCfgReport image.now plan.now) ⊥ result }
+    ensures { IsReportOrNoMemory (IsCfgReport image.now plan.now) result }
 {
     match make_best_cert(alloc, image, plan) {
         Ok((cert, _)) => {

@@ -1,6 +1,6 @@
 // The command `check`.
 ghost use Rattle.tcd_driver.specs.Check.{IsCheckVerdict, check_reading};
-ghost use Rattle.tcd_reading.specs.Outcomes.{IsCommandOutcome, IsReportOutcome};
+ghost use Rattle.tcd_reading.specs.Outcomes.{IsCommandOutcome, IsReportOrNoMemory};
 
 use depth_check::{Verdict, check};
 use elf_image::Image;
@@ -34,7 +34,7 @@ pub(crate) fn check_files<F: Files>(
 // Checks a certificate for an image and a plan. Reports the certified need, or the first rule that
 // fails.
 fn check_verdict(alloc: Global, image: &Image, plan: &Plan, cert: &Cert) -> Outcome
-    ensures { IsReportOutcome (IsCheckVerdict image.now plan.now cert.now) ⊥ result }
+    ensures { IsReportOrNoMemory (IsCheckVerdict image.now plan.now cert.now) result }
 {
     match check(image, plan, cert) {
         Verdict::Yes(need) => {

@@ -1,6 +1,6 @@
 // The command `dis`.
 ghost use Rattle.tcd_driver.specs.Dis.{IsDisReport, dis_reading};
-ghost use Rattle.tcd_reading.specs.Outcomes.{IsCommandOutcome, IsReportOutcome};
+ghost use Rattle.tcd_reading.specs.Outcomes.{IsCommandOutcome, IsReportOrNoMemory};
 
 use elf_image::Image;
 use std::alloc::Global;
@@ -20,7 +20,7 @@ pub(crate) fn disassemble_file<F: Files>(alloc: Global, elf: &str, files: &mut F
 
 // Returns the report of `dis`: the listing of an image, to print.
 fn listing_report(alloc: Global, image: &Image) -> Outcome
-    ensures { IsReportOutcome (IsDisReport image.now) ⊥ result }
+    ensures { IsReportOrNoMemory (IsDisReport image.now) result }
 {
     let text = listing(alloc, image)?;
     Ok(Report::of(alloc, Status::Done, text.into_bytes()))

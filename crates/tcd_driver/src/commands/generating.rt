@@ -1,10 +1,9 @@
 // The command `gen`.
 ghost use Rattle.std.specs.Prelude.{◌≡◌, ◌≤◌};
-ghost use Rattle.tcd_plan.specs.declared.plans.PlanErr.TheVariants as plan_error;
 ghost use Rattle.tcd_report.specs.Generated.{generated_image};
 ghost use Rattle.tcd_report.specs.Generated.Planned.{generated_plan};
 ghost use Rattle.tcd_driver.specs.Gen.{IsGenReport};
-ghost use Rattle.tcd_reading.specs.Outcomes.{IsReportOutcome};
+ghost use Rattle.tcd_reading.specs.Outcomes.{IsReportOrNoMemory};
 
 use crate::cert_making::{make_least_cert, report_no_cert};
 use elf_image::Image;
@@ -19,7 +18,7 @@ use tcd_report::{generated_plan_text, image_of_functions};
 #[inline(never)]
 pub(crate) fn certify_generated_image(alloc: Global, functions: u32) -> Outcome
     requires { (1 ≤ functions) × (functions ≤ 500) }
-    ensures { IsReportOutcome (IsGenReport functions (generated_image functions) generated_plan) ⊥
+    ensures { IsReportOrNoMemory (IsGenReport functions (generated_image functions) generated_plan)
         result }
 {
     let image = image_of_functions(alloc, functions)?;
@@ -35,7 +34,7 @@ pub(crate) fn certify_generated_image(alloc: Global, functions: u32) -> Outcome
 /// Makes the least certificate of format 1 of the generated image with this number of functions.
 /// Reports its nodes, points and need, or why none is accepted.
 fn report_generated_image(alloc: Global, functions: u32, image: &Image, plan: &Plan) -> Outcome
-    ensures { IsReportOutcome (IsGenReport functions image.now plan.now) ⊥ result }
+    ensures { IsReportOrNoMemory (IsGenReport functions image.now plan.now) result }
 {
     match make_least_cert(alloc, image, plan, 1) {
         Ok((cert, need)) => {
@@ -50,7 +49,7 @@ fn report_generated_image(alloc: Global, functions: u32, image: &Image, plan: &P
 /// Asserts that the error of reading the generated plan is `NoMemory`, the only one possible. Does
 /// nothing else.
 fn assert_plan_out_of_memory(e: PlanErr)
-    requires { e ≡ plan_error.NoMemory }
+    requires { e ≡ PlanErr.NoMemory }
 {
     match e {
         PlanErr::NoMemory => {}

@@ -1,10 +1,7 @@
 // The command `link`.
 ghost use Rattle.std.specs.Prelude.{◌≤◌, length, map, string_bytes};
-ghost use Rattle.tc_object.specs.Objects.{ObjectData};
-ghost use Rattle.tcd_forms.specs.Forms.{object_form};
-ghost use Rattle.tcd_reading.specs.Inputs.{input_files, answer};
-ghost use Rattle.tcd_driver.specs.Link.{IsLinkReport, WritesImage, link_reading};
-ghost use Rattle.tcd_reading.specs.Outcomes.{IsCommandOutcome, IsReportOutcome};
+ghost use Rattle.tcd_driver.specs.Link.{IsLinkReport, WritesImage, link_objects_reading, link_reading};
+ghost use Rattle.tcd_reading.specs.Outcomes.{IsCommandOutcome, IsReportOrNoMemory};
 
 use bumpalo::Bump;
 use elf_image::Image;
@@ -49,8 +46,7 @@ fn link_object_files<F: Files>(
 ) -> Outcome
     requires { length objects.now ≤ 65535 }
     ensures { IsCommandOutcome
-        (input_files ObjectData object_form 0 (map string_bytes objects.now)
-        (λ os. answer (IsLinkReport name.now layout.now os)))
+        (link_objects_reading name.now layout.now (map string_bytes objects.now))
         (F.seen files.old) (F.seen files.new) result }
 {
     let arena = Bump::new(alloc);
@@ -72,7 +68,7 @@ fn link_object_files<F: Files>(
 // Links objects by a layout. Reports the image to write, or why the objects can't be linked.
 fn link_and_report(alloc: Global, name: &str, layout: &Layout, objects: &[ObjectRef<'_>]) -> Outcome
     requires { length objects.now ≤ 65535 }
-    ensures { IsReportOutcome (IsLinkReport name.now layout.now objects.now) ⊥ result }
+    ensures { IsReportOrNoMemory (IsLinkReport name.now layout.now objects.now) result }
 {
     match link_borrowed(alloc, objects, layout) {
         Ok(image) => linked_image_report(alloc, name, &image),
@@ -82,7 +78,7 @@ fn link_and_report(alloc: Global, name: &str, layout: &Layout, objects: &[Object
 
 // Returns the report of `link`: the image to write under this name, and the line with its size.
 fn linked_image_report(alloc: Global, name: &str, image: &Image) -> Outcome
-    ensures { IsReportOutcome (WritesImage name.now image.now) ⊥ result }
+    ensures { IsReportOrNoMemory (WritesImage name.now image.now) result }
 {
     match image.write(alloc) {
         Ok(bytes) => {

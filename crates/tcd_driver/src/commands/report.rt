@@ -3,7 +3,7 @@ ghost use Rattle.std.specs.Prelude.{IfOk};
 ghost use Rattle.cfg_recover.specs.RulesHoldOrFail.{Accepts};
 ghost use Rattle.tcd_report.specs.Reports.{IsReport};
 ghost use Rattle.tcd_driver.specs.Reporting.{IsReportOrRefusal, report_reading};
-ghost use Rattle.tcd_reading.specs.Outcomes.{IsCommandOutcome, IsReportOutcome};
+ghost use Rattle.tcd_reading.specs.Outcomes.{IsCommandOutcome, IsReportOrNoMemory};
 
 use depth_check::{Verdict, check};
 use elf_image::Image;
@@ -38,7 +38,7 @@ pub(crate) fn report_on_cert<F: Files>(
 // Checks a certificate. Reports its needs and longest call chains as JSON, or the first rule that
 // fails.
 fn check_and_report(alloc: Global, image: &Image, plan: &Plan, cert: &Cert) -> Outcome
-    ensures { IsReportOutcome (IsReportOrRefusal image.now plan.now cert.now) ⊥ result }
+    ensures { IsReportOrNoMemory (IsReportOrRefusal image.now plan.now cert.now) result }
 {
     match check(image, plan, cert) {
         Verdict::Yes(_) => {

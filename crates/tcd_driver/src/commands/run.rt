@@ -1,7 +1,7 @@
 // The command `run`.
 ghost use Rattle.tc_script.specs.ScriptsFitPlans.{FitsPlan};
 ghost use Rattle.tcd_driver.specs.Run.{IsRunReport, run_reading};
-ghost use Rattle.tcd_reading.specs.Outcomes.{IsCommandOutcome, IsReportOutcome};
+ghost use Rattle.tcd_reading.specs.Outcomes.{IsCommandOutcome, IsReportOrNoMemory};
 
 use elf_image::Image;
 use std::alloc::Global;
@@ -37,7 +37,7 @@ pub(crate) fn run_script_file<F: Files>(
 // end.
 fn run_script(alloc: Global, image: &Image, plan: &Plan, script: &Script) -> Outcome
     requires { FitsPlan plan.now script.now }
-    ensures { IsReportOutcome (IsRunReport image.now plan.now script.now) ⊥ result }
+    ensures { IsReportOrNoMemory (IsRunReport image.now plan.now script.now) result }
 {
     let mut machine = Machine::start(alloc, image, plan)?;
     let done = drive_by_script(&mut machine, plan, script);

@@ -1,9 +1,8 @@
 // The command `ship`.
-ghost use Rattle.std.specs.Prelude.{◌≡◌, ◌≤◌, IfOk, List, length, map, string_bytes};
-ghost use Rattle.tcd_forms.specs.Forms.{SourceData, numbered_source_form};
-ghost use Rattle.tcd_reading.specs.Inputs.{input_files, answer};
-ghost use Rattle.tcd_reading.specs.Outcomes.{IsCommandOutcome, IsReportOutcome};
-ghost use Rattle.tcd_driver.specs.Ship.{AreSourcesOfObjects, IsShipReportOnImage, IsShipmentReport, ship_args, ship_reading};
+ghost use Rattle.std.specs.Prelude.{◌≤◌, IfOk, List, length};
+ghost use Rattle.tcd_forms.specs.Forms.{SourceData};
+ghost use Rattle.tcd_reading.specs.Outcomes.{IsCommandOutcome, IsReportOrNoMemory};
+ghost use Rattle.tcd_driver.specs.Ship.{AreShippedFiles, AreSourcesOfObjects, IsShipReportOnImage, IsShipmentReport, ship_args, ship_reading, ship_sources_reading};
 
 use crate::cert_making::{make_best_cert, report_no_cert};
 use elf_image::Image;
@@ -49,9 +48,7 @@ fn ship_sources<F: Files>(
     files: &mut F,
 ) -> Outcome
     requires { length names.now.sources.now ≤ 65535 }
-    ensures { IsCommandOutcome
-        (input_files SourceData numbered_source_form 0 (map string_bytes names.now.sources.now)
-        (λ ss. answer (IsShipmentReport names.now plan.now layout.now ss)))
+    ensures { IsCommandOutcome (ship_sources_reading names.now plan.now layout.now)
         (F.seen files.old) (F.seen files.new) result }
 {
     let sources = names.sources;
@@ -78,7 +75,7 @@ fn ship_objects(
 ) -> Outcome
     requires { length objects.now ≤ 65535 }
     ensures { (ss : List SourceData) → AreSourcesOfObjects ss objects.now →
-        IsReportOutcome (IsShipmentReport names.now plan.now layout.now ss) ⊥ result }
+        IsReportOrNoMemory (IsShipmentReport names.now plan.now layout.now ss) result }
 {
     let _entry = &layout.entry;
     match link(alloc, objects, layout) {
@@ -90,8 +87,8 @@ fn ship_objects(
 // Makes the best certificate of the image that `ship` linked. Reports both files to write, or why
 // none is accepted.
 fn ship_image(alloc: Global, names: &Shipment<'_>, plan: &Plan, image: &Image) -> Outcome
-    ensures { IsReportOutcome
-        (IsShipReportOnImage names.now.elf.now names.now.cert.now plan.now image.now) ⊥
+    ensures { IsReportOrNoMemory
+        (IsShipReportOnImage names.now.elf.now names.now.cert.now plan.now image.now)
         result }
 {
     let bytes = match image.write(alloc) {
@@ -115,8 +112,7 @@ fn shipped_files(
     image: Vec<u8>,
     cert: Vec<u8>,
 ) -> Result<(Write, Write), NoMemory>
-    ensures { IfOk result (λ w. (w.0 ≡ record { name = names.now.elf.now; bytes = image.items })
-        × (w.1 ≡ record { name = names.now.cert.now; bytes = cert.items })) }
+    ensures { IfOk result (AreShippedFiles names.now image.items cert.items) }
 {
     let first = Write::of(alloc, names.elf, image)?;
     let second = Write::of(alloc, names.cert, cert)?;

@@ -2,7 +2,7 @@
 ghost use Rattle.std.specs.Prelude.{◌≡◌, ◌<◌, ◌++◌, ◌∷◌, [], length, map, string_bytes, OnOk};
 ghost use Rattle.task_chains.specs.Tasks.{count};
 ghost use Rattle.task_chains.specs.Views.{FitPlan};
-ghost use Rattle.tcd_reading.specs.Outcomes.{IsCommandOutcome, IsReportOutcome};
+ghost use Rattle.tcd_reading.specs.Outcomes.{IsCommandOutcome, IsReportOrNoMemory};
 ghost use Rattle.tcd_driver.specs.Taskcert.{IsTaskcertReport, IsTaskViewCertOrErr, IsTaskCertOrErr, AreTaskCertsOrErr, taskcert_reading};
 
 use crate::cell_and_task_files::TasksFile;
@@ -62,8 +62,8 @@ fn taskcert_report(
 ) -> Outcome
     requires fit { FitPlan plan.now tasks.now }
     requires many { length names.now ≡ count tasks.now }
-    ensures { IsReportOutcome
-        (IsTaskcertReport (map string_bytes names.now) image.now plan.now tasks.now) ⊥ result }
+    ensures { IsReportOrNoMemory
+        (IsTaskcertReport (map string_bytes names.now) image.now plan.now tasks.now) result }
 {
     let areas = plan.areas - plan.reserve;
     let count = tasks.list.len();

@@ -1,16 +1,9 @@
 // The command `tasks`.
 ghost use Rattle.std.specs.Prelude.{◌≡◌, ◌<◌, ◌==◌, max, if◌then◌else◌, length, map, string_bytes, IfOk};
-ghost use Rattle.depth_cert.specs.Certs.{CertData};
 ghost use Rattle.task_chains.specs.Tasks.{count};
 ghost use Rattle.task_chains.specs.Views.{FitPlan};
-ghost use Rattle.tcd_forms.specs.Forms.{cert_form};
-ghost use Rattle.tcd_reading.specs.Inputs.{input_files, answer};
-ghost use Rattle.tcd_reading.specs.Outcomes.{IsCommandOutcome, IsReportOutcome};
-ghost use Rattle.tcd_reading.specs.Reports.{text_report};
-ghost use Rattle.tcd_reading.specs.declared.status.Status.TheVariants.{BadInput};
-ghost use Rattle.task_chains.specs.declared.task_lists.TasksErr.TheVariants.{Count};
-ghost use Rattle.tcd_driver.specs.BadInputLines.{bad_tasks_line};
-ghost use Rattle.tcd_driver.specs.Tasks.{IsTasksVerdict, IsVerdictOnTask, IsTallyOfTasks, task_certs_reading, tasks_reading};
+ghost use Rattle.tcd_reading.specs.Outcomes.{IsCommandOutcome, IsReportOrNoMemory};
+ghost use Rattle.tcd_driver.specs.Tasks.{IsTasksVerdict, IsVerdictOnTask, IsTallyOfTasks, IsWrongCertCountReport, named_certs_reading, task_certs_reading, tasks_reading};
 
 use crate::cell_and_task_files::TasksFile;
 use crate::lines::bad_tasks_line;
@@ -77,7 +70,7 @@ pub(crate) fn counted_task_need(u: usize, need: u32) -> u32
 
 /// Reports bad input: `tasks` or `taskcert` names more or fewer certificates than there are tasks.
 pub(crate) fn report_wrong_cert_count(alloc: Global) -> Outcome
-    ensures { IsReportOutcome (λ r. r ≡ text_report BadInput (bad_tasks_line Count)) ⊥ result }
+    ensures { IsReportOrNoMemory IsWrongCertCountReport result }
 {
     let line = bad_tasks_line(alloc, TasksErr::Count)?;
     Ok(Report::of(alloc, Status::BadInput, line))
@@ -117,8 +110,7 @@ fn verdict_on_cert_files<F: Files>(
     requires fit { FitPlan plan.now tasks.now }
     requires many { length names.now ≡ count tasks.now }
     ensures { IsCommandOutcome
-        (input_files CertData (λ _. cert_form) 0 (map string_bytes names.now)
-        (λ cs. answer (IsTasksVerdict image.now plan.now tasks.now cs)))
+        (named_certs_reading (map string_bytes names.now) image.now plan.now tasks.now)
         (F.seen files.old) (F.seen files.new) result }
 {
     let mut certs = Vec::new(alloc);
@@ -143,7 +135,7 @@ fn tasks_verdict(
 ) -> Outcome
     requires fit { FitPlan plan.now tasks.now }
     requires many { length certs.now ≡ count tasks.now }
-    ensures { IsReportOutcome (IsTasksVerdict image.now plan.now tasks.now certs.now) ⊥ result }
+    ensures { IsReportOrNoMemory (IsTasksVerdict image.now plan.now tasks.now certs.now) result }
 {
     let areas = plan.areas - plan.reserve;
     let count = tasks.list.len();

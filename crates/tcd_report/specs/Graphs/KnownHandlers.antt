@@ -1,16 +1,16 @@
 -- The handlers of the interrupts that may come while IE and CCPN stay the same, and their lines.
-use Rattle.std.specs.Prelude.{◌≡◌, ℕ, ◌+◌, List, ◌++◌, codes, length, take, drop, map}
+use Rattle.std.specs.Prelude.{◌≡◌, ℕ, ◌+◌, List, ◌++◌, length, take, drop, map}
 use Rattle.tcd_plan.specs.PlanData.{PlanData}
 use Rattle.value_domain.specs.declared.states.State.{State}
 use Rattle.cfg_recover.specs.Entries.{possible_irqs_of, irq_key}
 use Rattle.tcd_report.specs.declared.graphs.handlers.Handlers.{Handlers}
-use Rattle.tcd_report.specs.Graphs.{unique_addresses, lines_to}
+use Rattle.tcd_report.specs.Graphs.{unique_addresses, irq_lines}
 
 -- these are the graph's `irq` lines of handlers with these entries, with one front of this length
 pub record AreHandlerLines (size : ℕ) (entries lines : List ℕ) : Type 0 where
   pub front : List ℕ
   pub sized : length front ≡ size
-  pub are : lines ≡ lines_to front (codes "irq ") entries
+  pub are : lines ≡ irq_lines front entries
 
 -- the addresses on the graph's `irq` lines for these interrupts, at which their handlers are
 -- entered: the entries of their keys

@@ -8,7 +8,8 @@ use Rattle.depth_cert.specs.declared.points.Point.{Point}
 use Rattle.depth_cert.specs.Nodes.{NodeData}
 use Rattle.depth_cert.specs.Certs.{CertData}
 use Rattle.tcd_report.specs.Reports.Calls.{CallsAt, HasCallChain}
-use Rattle.depth_cert.specs.Keys.{key_eq}
+use Rattle.depth_cert.specs.Keys.{key_eq, call_kind}
+use Rattle.cfg_recover.specs.Entries.{entered_key}
 
 -- for heights of nodes: n is the greatest number with this property, or 0 if there is none
 pub record IsGreatestHeight (P : ℕ → Type 0) (n : ℕ) : Type 0 where
@@ -23,6 +24,11 @@ IsGreatestHeightInList {A = A} Has xs n = IsGreatestHeight (λ m. (x : A) × (Co
 -- plus 1
 abbrev pub IsHeightThroughCallee : {S : Type 0} → HashMap Key ℕ S → Key → ℕ → Type 0
 IsHeightThroughCallee heights k m = (h : ℕ) × ((get key_eq heights k ≡ Some h) × (m ≡ suc h))
+
+-- m is the length of the longest call chain through the function at address `target` that a frame
+-- with key k calls: its height in the map, plus 1
+abbrev pub IsHeightThroughTarget : {S : Type 0} → HashMap Key ℕ S → Key → ℕ → ℕ → Type 0
+IsHeightThroughTarget heights k target m = IsHeightThroughCallee heights (entered_key k call_kind target) m
 
 -- m is the length of the longest call chain through a function that a point calls: its height in
 -- the map, plus 1
@@ -48,6 +54,10 @@ pub record HasNodeHeight (image : ImageData) (plan : PlanData) (cert : CertData)
 -- each number in the map is the height of the node with its key
 abbrev pub AreNodeHeights : {S : Type 0} → ImageData → PlanData → CertData → HashMap Key ℕ S → Type 0
 AreNodeHeights image plan cert heights = (k : Key) (h : ℕ) → get key_eq heights k ≡ Some h → HasNodeHeight image plan cert k h
+
+-- the map has a height for each of these nodes
+abbrev pub HasHeightOfEachNode : {S : Type 0} → List NodeData → HashMap Key ℕ S → Type 0
+HasHeightOfEachNode nodes heights = (n : NodeData) → Contains nodes n → (h : ℕ) × (get key_eq heights n.key ≡ Some h)
 
 -- the map has a height for each of these keys
 abbrev pub HasHeights : {S : Type 0} → HashMap Key ℕ S → List (ℕ × Key) → Type 0

@@ -1,5 +1,5 @@
 -- The longest call chains of the priorities, by the heights of the nodes.
-use Rattle.std.specs.Prelude.{◌≡◌, ◌≤◌, ℕ, zero, suc, List, ◌∷◌, ◌++◌, Option, Some, None, Contains, max, ◌==◌, filter, []}
+use Rattle.std.specs.Prelude.{◌≡◌, ◌≤◌, ℕ, zero, suc, List, ◌∷◌, ◌++◌, Option, Some, None, Contains, max, ◌==◌, filter, nat_eq, []}
 use Rattle.std.specs.HashMap.{HashMap, get}
 use Rattle.depth_cert.specs.declared.keys.Key.{Key}
 use Rattle.depth_cert.specs.Nodes.{NodeData}
@@ -56,3 +56,8 @@ priorities_of nodes = priorities_below nodes priority_count
 abbrev pub IsLongestIfAny : (ℕ → Type 0) → Option ℕ → Type 0
 IsLongestIfAny P None = (m : ℕ) → P m → ⊥
 IsLongestIfAny P (Some n) = P n × ((m : ℕ) → P m → m ≤ n)
+
+-- for each interrupt priority that nodes have, the map has the length of its longest call chain, by
+-- the heights of the nodes; it has no other priorities
+abbrev pub AreLongestCallsByPriority : {S T : Type 0} → HashMap Key ℕ S → List NodeData → HashMap ℕ ℕ T → Type 0
+AreLongestCallsByPriority heights nodes longest = (p : ℕ) → IsLongestIfAny (IsHeightAtPriority heights nodes p) (get nat_eq longest p)

@@ -2,7 +2,7 @@
 ghost use Rattle.std.specs.Prelude.{◌≡◌, ◌+◌, ◌≤◌, OnOk, codes, length, ◌<◌, ◌++◌, string_bytes, ◌^◌, ℕ, slice_index};
 ghost use Rattle.cfg_recover.specs.Entries.{possible_irqs_of};
 ghost use Rattle.tcd_report.specs.Graphs.KnownHandlers.{irq_entry_vectors, AreHandlerLines, KnowsHandlers, with_handler_front};
-ghost use Rattle.tcd_report.specs.Graphs.{unique_addresses, line_end_to, lines_to};
+ghost use Rattle.tcd_report.specs.Graphs.{unique_addresses, line_end_to, irq_lines};
 ghost use Rattle.tcd_plan.specs.PlanData.{PlanData};
 ghost use Rattle.std.specs.Str.{IsAscii};
 ghost use Rattle.tcd_text.specs.HexNumbers.{hex_word};
@@ -86,8 +86,8 @@ fn set_handler_entries(all: &mut Vec<u32>, plan: &Plan, irqs: &[u8]) -> Result<(
 /// is written over that one.
 pub(crate) fn set_handler_line_front(known: &mut Handlers, front: &str) -> Result<(), NoMemory>
     requires { AreHandlerLines known.old.front known.old.entries.items known.old.lines.items }
-    ensures lines { OnOk result (known.new.lines.items
-        ≡ lines_to front.now (codes "irq ") known.new.entries.items) }
+    ensures lines { OnOk result
+        (known.new.lines.items ≡ irq_lines front.now known.new.entries.items) }
     ensures known { OnOk result
         ((plan : PlanData) → KnowsHandlers plan known.old → KnowsHandlers plan known.new) }
     ensures entries { OnOk result (known.new.entries.items ≡ known.old.entries.items) }
@@ -102,7 +102,7 @@ pub(crate) fn set_handler_line_front(known: &mut Handlers, front: &str) -> Resul
 
 // Makes the graph's `irq` lines, one for each of these handlers' entries, with this front.
 fn make_handler_lines(lines: &mut Vec<u8>, front: &str, entries: &[u32]) -> Result<(), NoMemory>
-    ensures { OnOk result (lines.new.items ≡ lines_to front.now (codes "irq ") entries.now) }
+    ensures { OnOk result (lines.new.items ≡ irq_lines front.now entries.now) }
 {
     lines.clear();
     for entry in entries {
@@ -115,7 +115,7 @@ fn make_handler_lines(lines: &mut Vec<u8>, front: &str, entries: &[u32]) -> Resu
 // Writes a front over the old one, of the same length, in each of the graph's `irq` lines.
 fn write_handler_fronts(lines: &mut [u8], front: &[u8], entries: &[u32])
     requires { AreHandlerLines (length front.now) entries.now lines.old }
-    ensures { lines.new ≡ lines_to front.now (codes "irq ") entries.now }
+    ensures { lines.new ≡ irq_lines front.now entries.now }
 {
     let mut at = 0;
     for _ in 0..entries.len() {
@@ -149,10 +149,9 @@ pub(crate) fn append_handler_lines(
     known: &Handlers,
 ) -> Result<(), NoMemory>
     requires ascii { IsAscii front.now }
-    requires lines { known.now.lines.items
-        ≡ lines_to front.now (codes "irq ") known.now.entries.items }
+    requires lines { known.now.lines.items ≡ irq_lines front.now known.now.entries.items }
     ensures { OnOk result (string_bytes text.new
-        ≡ string_bytes text.old ++ lines_to front.now (codes "irq ") known.now.entries.items) }
+        ≡ string_bytes text.old ++ irq_lines front.now known.now.entries.items) }
 {
     handler_entries_fit_words(&known.entries);
     append_ascii(text, &known.lines)

@@ -1,7 +1,7 @@
 // The lines of a point in the graph.
-ghost use Rattle.std.specs.Prelude.{◌≡◌, ◌<◌, ◌++◌, ◌∷◌, [], OnOk, codes, string_bytes};
+ghost use Rattle.std.specs.Prelude.{◌≡◌, ◌<◌, ◌++◌, ◌∷◌, [], OnOk, string_bytes};
 ghost use Rattle.tcd_text.specs.HexNumbers.{hex_word};
-ghost use Rattle.tcd_report.specs.Graphs.{key_front, lines_to, edge_lines_text, return_line_text};
+ghost use Rattle.tcd_report.specs.Graphs.{key_front, lines_to, irq_lines, edge_lines_text, return_line_text};
 ghost use Rattle.std.specs.Str.{IsAscii};
 
 use crate::graphs::edges::Edges;
@@ -44,7 +44,7 @@ pub(crate) fn set_point_line_front(
 pub(crate) fn append_edges(text: &mut String, front: &str, ways: &Edges) -> Result<(), NoMemory>
     requires ascii { IsAscii front.now }
     requires handlers { let irq = ways.now.irq in
-        irq.lines.items ≡ lines_to front.now (codes "irq ") irq.entries.items }
+        irq.lines.items ≡ irq_lines front.now irq.entries.items }
     ensures { OnOk result (string_bytes text.new
         ≡ string_bytes text.old ++ edge_lines_text front.now ways.now) }
 {

@@ -1,11 +1,7 @@
 // The length of the longest call chain that begins in each node.
-ghost use Rattle.std.specs.Prelude.{◌≡◌, ℕ, [], Some, Contains, IfOk, map, unwrap_or};
-ghost use Rattle.std.specs.HashMap.{get};
-ghost use Rattle.depth_cert.specs.Nodes.{NodeData};
-ghost use Rattle.tcd_report.specs.Reports.Heights.{AreNodeHeights, IsGreatestHeight, IsGreatestHeightInList, IsHeightThroughCallee, IsHeightThroughCall, AreHeightsBounded, height_rank_of};
-ghost use Rattle.depth_cert.specs.Keys.{key_eq, call_kind};
+ghost use Rattle.std.specs.Prelude.{◌≡◌, [], Contains, IfOk, map, unwrap_or};
+ghost use Rattle.tcd_report.specs.Reports.Heights.{AreNodeHeights, HasHeightOfEachNode, IsGreatestHeight, IsGreatestHeightInList, IsHeightThroughTarget, IsHeightThroughCall, AreHeightsBounded, height_rank_of};
 ghost use Rattle.tcd_report.specs.Judging.{IsAcceptedWithLimits};
-ghost use Rattle.cfg_recover.specs.Entries as entries;
 ghost use Rattle.tc_isa.specs.InBounds.{IsTarget};
 ghost use Rattle.cfg_recover.specs.LocalRules.{targets_of};
 ghost use Rattle.cfg_recover.specs.LocalFaults.{IsFaultless};
@@ -28,9 +24,7 @@ pub(crate) fn heights(alloc: Global, judged: &Judged) -> Result<HashMap<Key, u32
     requires { IsAcceptedWithLimits judged.now }
     ensures tells { let j = judged.now in
         IfOk result (λ m. AreNodeHeights j.image.now j.plan.now j.cert.now m) }
-    ensures all { IfOk result
-        (λ m. (n : NodeData) → Contains judged.now.cert.now.nodes n
-        → (h : ℕ) × (get key_eq m n.key ≡ Some h)) }
+    ensures all { IfOk result (λ m. HasHeightOfEachNode judged.now.cert.now.nodes m) }
 {
     let cert = judged.cert;
     // Reading a field gives the facts that hold for every certificate.
@@ -127,8 +121,7 @@ fn height_of_call(
 ) -> u32
     requires low { AreHeightsBounded heights.now }
     requires target { IsTarget to }
-    ensures { IsGreatestHeightInList
-        (λ t. IsHeightThroughCallee heights.now (entries.entered_key key.now call_kind t))
+    ensures { IsGreatestHeightInList (IsHeightThroughTarget heights.now key.now)
         (unwrap_or (targets_of plan.now s.now addr to) []) result }
 {
     let functions = targets(plan, s, addr, to);
@@ -142,8 +135,7 @@ fn height_of_call(
 // Returns the height of a called function plus 1, or 0 if the map has no height for it.
 fn height_of_callee(heights: &HashMap<Key, u32>, key: &Key, target: u32) -> u32
     requires { AreHeightsBounded heights.now }
-    ensures { IsGreatestHeight
-        (IsHeightThroughCallee heights.now (entries.entered_key key.now call_kind target)) result }
+    ensures { IsGreatestHeight (IsHeightThroughTarget heights.now key.now target) result }
 {
     match heights.get(&entered_key(key, CALL, target)) {
         Some(height) => *height + 1,

@@ -1,11 +1,9 @@
 // The longest call chain of each priority.
-ghost use Rattle.std.specs.Prelude.{◌≡◌, ◌++◌, ℕ, Some, Contains, OnOk, IfOk, nat_eq};
+ghost use Rattle.std.specs.Prelude.{◌≡◌, ◌++◌, OnOk, IfOk, nat_eq};
 ghost use Rattle.std.specs.HashMap.{get};
 ghost use Rattle.std.specs.Option.{option_copied};
-ghost use Rattle.depth_cert.specs.Nodes.{NodeData};
-ghost use Rattle.tcd_report.specs.Reports.Longest.{IsLongestIfAny, IsHeightAtPriority, longest_so_far, longest_calls_of};
-ghost use Rattle.depth_cert.specs.Keys.{key_eq};
-ghost use Rattle.tcd_report.specs.Reports.Longest as spec;
+ghost use Rattle.tcd_report.specs.Reports.Heights.{HasHeightOfEachNode};
+ghost use Rattle.tcd_report.specs.Reports.Longest.{AreLongestCallsByPriority, longest_so_far, longest_calls_of, longest_calls_below};
 
 use depth_cert::Key;
 use packed_cert::Cert;
@@ -27,11 +25,8 @@ pub(crate) fn longest_calls_by_priority(
     cert: &Cert,
     heights: &HashMap<Key, u32>,
 ) -> Result<HashMap<u16, u32>, NoMemory>
-    requires { (n : NodeData) → Contains cert.now.nodes n
-        → (h : ℕ) × (get key_eq heights.now n.key ≡ Some h) }
-    ensures { IfOk result
-        (λ rows. (p : ℕ) → IsLongestIfAny (IsHeightAtPriority heights.now cert.now.nodes p)
-        (get nat_eq rows p)) }
+    requires { HasHeightOfEachNode cert.now.nodes heights.now }
+    ensures { IfOk result (λ rows. AreLongestCallsByPriority heights.now cert.now.nodes rows) }
 {
     let mut rows = HashMap::new(alloc);
     for i in 0..cert.len() {
@@ -54,7 +49,7 @@ pub(crate) fn longest_calls_below(
     known: &HashMap<u16, u32>,
     count: u16,
 ) -> Result<Vec<LongestCalls>, NoMemory>
-    ensures { IfOk result (λ v. v.items ≡ spec.longest_calls_below (get nat_eq known.now) count) }
+    ensures { IfOk result (λ v. v.items ≡ longest_calls_below (get nat_eq known.now) count) }
 {
     let mut rows = Vec::new(alloc);
     for prio in 0..count {
