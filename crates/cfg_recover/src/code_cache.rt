@@ -44,7 +44,7 @@ impl KnownCodes {
     /// Returns the shape and size of the instruction at an address of rom, or `None` if there is
     /// none. An instruction whose word is in the cache isn't decoded again.
     #[inline(always)]
-    pub fn locate(&mut self, image: &Image, plan: &Plan, addr: u32) -> Option<Located>
+    pub fn decode_cached(&mut self, image: &Image, plan: &Plan, addr: u32) -> Option<Located>
         ensures code { FindsShapeAndSize image.now plan.now addr result }
         ensures shape { IfSome result HasShapeInBounds }
     {
@@ -54,7 +54,7 @@ impl KnownCodes {
         let Some(bytes) = four_bytes_in_rom(image, plan, addr, &mut self.near) else {
             return decode_at(image, plan, addr);
         };
-        let word = code_cache_word(bytes);
+        let word = code_cache_key(bytes);
         let place = code_cache_slot(word);
         let known = self.codes[place];
         if known.word == word {
@@ -102,7 +102,7 @@ fn decode_word(word: u32) -> KnownCode
 /// Returns the word by which the cache knows an instruction, from four bytes: all of them, or only
 /// the first two of a 16-bit instruction.
 #[inline(always)]
-fn code_cache_word(bytes: [u8; 4]) -> u32
+fn code_cache_key(bytes: [u8; 4]) -> u32
     ensures { shape_and_size_of_word result ≡ shape_and_size_of (decoded_of bytes) }
 {
     code_bytes_below_256(&bytes);

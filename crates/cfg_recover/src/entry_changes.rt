@@ -41,7 +41,7 @@ pub fn sys_entry_change(b: &Bounds, plan: &Plan, key: &Key, s: &State, tin: u8) 
     ensures values { AreInLattice b.now (state_after s.now result).regs }
 {
     let mut c = call_entry_change(b, s);
-    c.first = register_write(A10, handler_entry_stack(b, plan, key, s));
+    c.first = register_write(A10, handler_entry_sp(b, plan, key, s));
     c.second = register_write(D15, entry_constant(b, u32::from(tin)));
     c.ie = false;
     c
@@ -55,7 +55,7 @@ pub fn handler_entry_change(b: &Bounds, plan: &Plan, key: &Key, s: &State, ccpn:
     ensures values { AreInLattice b.now (state_after s.now result).regs }
 {
     let _most_words = b.most_words();
-    handler_entry_change_with_stack(s, handler_entry_stack(b, plan, key, s), ccpn)
+    handler_entry_change_with_sp(s, handler_entry_sp(b, plan, key, s), ccpn)
 }
 
 /// Returns the change from a point's abstract state to that at the entry of the handler of
@@ -66,14 +66,14 @@ pub fn aln_entry_change(b: &Bounds, plan: &Plan, key: &Key, s: &State) -> Change
     ensures values { AreInLattice b.now (state_after s.now result).regs }
 {
     let _most_words = b.most_words();
-    let mut c = handler_entry_change_with_stack(s, handler_entry_stack(b, plan, key, s), s.ccpn);
+    let mut c = handler_entry_change_with_sp(s, handler_entry_sp(b, plan, key, s), s.ccpn);
     c.second = register_write(D15, entry_constant(b, ALN_TIN));
     c
 }
 
 /// Returns the stack pointer at the entry of a handler: the interrupt stack's start, or the point's
 /// A10 if that stack is in use.
-fn handler_entry_stack(b: &Bounds, plan: &Plan, key: &Key, s: &State) -> Val
+fn handler_entry_sp(b: &Bounds, plan: &Plan, key: &Key, s: &State) -> Val
     requires { AreInLattice b.now s.now.regs }
     ensures stack { result ≡ entry_stack_of plan.now key.now s.now }
     ensures value { IsInLattice b.now result }
@@ -98,7 +98,7 @@ fn entry_constant(b: &Bounds, x: u32) -> Val
 
 /// Returns the change from a point's state to that at a handler's entry with this A10 and CCPN. All
 /// other registers are unknown, and IE is off.
-fn handler_entry_change_with_stack(s: &State, sp: Val, ccpn: u8) -> Change
+fn handler_entry_change_with_sp(s: &State, sp: Val, ccpn: u8) -> Change
     ensures { result ≡ changes.handler_entry_change sp ccpn }
 {
     let mut c = identity_change(s);

@@ -15,7 +15,7 @@ use crate::entry_changes::handler_entry_change;
 use crate::flow_entries::{call_flow_entry, flow_leave, misaligned_flow_entry};
 use crate::flow_interrupts::possible_irqs;
 use crate::flow_successors::successor_jumps;
-use crate::local_rules::check_local_rules_of_inst;
+use crate::local_rules::check_instruction_at;
 use depth_cert::Key;
 use elf_image::Image;
 use tcd_plan::Plan;
@@ -37,7 +37,7 @@ pub fn flow(
     ensures duties { IfOk result (FlowHasDuties b.now image.now plan.now key.now addr s.now) }
     ensures values { IfOk result (FlowHasValues b.now) }
 {
-    match check_local_rules_of_inst(b, image, plan, key, addr, s) {
+    match check_instruction_at(b, image, plan, key, addr, s) {
         Ok((inst, size)) => {
             let inst = &inst;
             Ok(flow_of_faultless_point(b, image, plan, key, s, InstAt { addr, inst, size }))

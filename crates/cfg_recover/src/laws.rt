@@ -7,7 +7,7 @@ ghost use Rattle.cfg_recover.specs.RefusalLaws.{RefusalsHaveReasons};
 
 /// States the laws of moves: a machine at a point, whose state holds the registers, only does what
 /// the point owes, and stores in range. A Flow with a point's duties has those of its instruction.
-pub fn move_laws()
+pub fn duty_soundness_laws()
     ensures moves { JumpsAreOwed }
     ensures traps { TrapsAreOwed }
     ensures calls { CallsAreOwed }
@@ -19,7 +19,7 @@ pub fn move_laws()
 
 /// States the laws of edges and frames: both follow a machine's steps, held frames describe the
 /// machine, and owed edges are duties or returns.
-pub fn frame_laws()
+pub fn edge_and_frame_laws()
     ensures edges { EdgesMatchSteps }
     ensures frames { FramesFollowAllRuns }
     ensures held { HeldFramesDescribeMachine }

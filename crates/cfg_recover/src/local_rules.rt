@@ -78,7 +78,7 @@ pub fn check_local_rules(
         return Err(NO_CODE);
     };
     let shape = shape(&found.0);
-    match first_local_fault(b, plan, key, s, &shape) {
+    match local_fault_of_shape(b, plan, key, s, &shape) {
         Some(rule) => Err(rule),
         None => Ok(Located {
             shape,
@@ -89,7 +89,7 @@ pub fn check_local_rules(
 
 /// Returns the instruction at a point and its length in bytes, if no rule's own part fails there,
 /// else the least rule that fails.
-pub(crate) fn check_local_rules_of_inst(
+pub(crate) fn check_instruction_at(
     b: &Bounds,
     image: &Image,
     plan: &Plan,
@@ -113,7 +113,7 @@ pub(crate) fn check_local_rules_of_inst(
 
 /// Returns the decoded instruction of a point, if no rule's own part fails there, else the least
 /// rule that fails: K3 if none was decoded. The address isn't needed.
-pub fn check_decoded<'a>(
+pub fn check_decoded_instruction<'a>(
     b: &Bounds,
     plan: &Plan,
     key: &Key,
@@ -130,7 +130,7 @@ pub fn check_decoded<'a>(
     let Some(found) = located else {
         return Err(NO_CODE);
     };
-    match first_local_fault(b, plan, key, s, &found.shape) {
+    match local_fault_of_shape(b, plan, key, s, &found.shape) {
         Some(rule) => Err(rule),
         None => Ok(found),
     }
@@ -143,12 +143,12 @@ pub(crate) fn local_fault(b: &Bounds, plan: &Plan, key: &Key, s: &State, inst: &
     ensures { (p : ℕ) → IsLeastLocalFault b.now plan.now key.now p s.now
         (shape_of inst.now) result }
 {
-    first_local_fault(b, plan, key, s, &shape(inst))
+    local_fault_of_shape(b, plan, key, s, &shape(inst))
 }
 
 /// Returns the least rule whose own part fails at a point with an instruction of this shape, or
 /// `None`. At a store up to three rules can fail (K9, K10, K13), at other shapes fewer.
-pub(crate) fn first_local_fault(
+pub(crate) fn local_fault_of_shape(
     b: &Bounds,
     plan: &Plan,
     key: &Key,
@@ -160,8 +160,8 @@ pub(crate) fn first_local_fault(
     ensures { (p : ℕ) → IsLeastLocalFault b.now plan.now key.now p s.now shape.now result }
 {
     match *shape {
-        Shape::Compute { dst, .. } => broken_rule_unless(may_write_register(dst), FIXED_REGISTER),
-        Shape::Scaled { dst, .. } => broken_rule_unless(may_write_register(dst), FIXED_REGISTER),
+        Shape::Compute { dst, .. } => broken_rule_unless(is_not_fixed_register(dst), FIXED_REGISTER),
+        Shape::Scaled { dst, .. } => broken_rule_unless(is_not_fixed_register(dst), FIXED_REGISTER),
         Shape::Load {
             dst,
             base,
@@ -176,7 +176,7 @@ pub(crate) fn first_local_fault(
         }
         Shape::Store { base, after, .. } => {
             let storing = access_fault(b, plan, s, *shape);
-            storing.or(broken_rule_unless(keeps_fixed_base(base, after), FIXED_REGISTER))
+            storing.or(broken_rule_unless(keeps_fixed_base_register(base, after), FIXED_REGISTER))
         }
         Shape::Branch { x, lowers, .. } => broken_rule_unless(
             keeps_fixed_registers_in_branch(x, lowers),
@@ -184,15 +184,15 @@ pub(crate) fn first_local_fault(
         ),
         Shape::Jump { to } => broken_rule_unless(has_known_targets(plan, s, to), UNKNOWN_TARGETS),
         Shape::Call { to } => broken_rule_unless(has_known_targets(plan, s, to), UNKNOWN_TARGETS),
-        Shape::Ret => broken_rule_unless(may_return(key, s), BAD_RETURN),
-        Shape::Rfe => broken_rule_unless(may_return_from_exception(key, s), BAD_EXCEPTION_RETURN),
-        Shape::Svlcx => broken_rule_unless(may_save_lower_context(b, s), BAD_LOCALS),
-        Shape::Rslcx => broken_rule_unless(may_restore_lower_context(s), BAD_LOCALS),
-        Shape::Bisr { .. } => broken_rule_unless(may_save_lower_context(b, s), BAD_LOCALS),
+        Shape::Ret => broken_rule_unless(is_return_allowed(key, s), BAD_RETURN),
+        Shape::Rfe => broken_rule_unless(is_exception_return_allowed(key, s), BAD_EXCEPTION_RETURN),
+        Shape::Svlcx => broken_rule_unless(has_room_for_lower_context(b, s), BAD_LOCALS),
+        Shape::Rslcx => broken_rule_unless(has_saved_lower_context(s), BAD_LOCALS),
+        Shape::Bisr { .. } => broken_rule_unless(has_room_for_lower_context(b, s), BAD_LOCALS),
         Shape::Enable => None,
         Shape::Disable => None,
-        Shape::Syscall { .. } => broken_rule_unless(may_call_system(plan), NO_SYSTEM_CALLS),
-        Shape::Mfcr { dst, .. } => broken_rule_unless(may_write_register(dst), FIXED_REGISTER),
+        Shape::Syscall { .. } => broken_rule_unless(is_system_call_allowed(plan), NO_SYSTEM_CALLS),
+        Shape::Mfcr { dst, .. } => broken_rule_unless(is_not_fixed_register(dst), FIXED_REGISTER),
         Shape::Mtcr { .. } => Some(FIXED_REGISTER),
         Shape::Nothing => None,
     }
@@ -213,10 +213,10 @@ pub(crate) fn access_fault_at_word(plan: &Plan, x: u32, shape: Shape) -> Option<
     ensures { (b : Limits) (s : State) → address_of_access b plan.now shape s ≡ word_val x
         → IsAccessFault b plan.now s shape result }
 {
-    if !may_store_at_word(plan, x, shape) {
+    if !stores_in_range_at_word(plan, x, shape) {
         return Some(STORE_OUT_OF_RANGE);
     }
-    if !may_access_at_word(plan, x, shape) {
+    if !is_access_allowed_at_word(plan, x, shape) {
         return Some(MISALIGNED);
     }
     None
@@ -232,10 +232,10 @@ pub(crate) fn access_fault_at_value(b: &Bounds, plan: &Plan, s: &State, shape: S
 {
     let mut at = Val::any();
     write_address_by_shape(b, plan, shape, s, &mut at);
-    if !may_store_at_value(plan, &at, shape) {
+    if !stores_in_range_at_value(plan, &at, shape) {
         return Some(STORE_OUT_OF_RANGE);
     }
-    if !may_access_at_value(plan, &at, shape) {
+    if !is_access_allowed_at_value(plan, &at, shape) {
         return Some(MISALIGNED);
     }
     None
@@ -254,31 +254,31 @@ pub(crate) fn has_known_targets(plan: &Plan, s: &State, to: Target) -> bool
 
 /// Tests K6's own part, at RET: true if the frame is a called function's and has restored all lower
 /// contexts.
-pub(crate) fn may_return(key: &Key, s: &State) -> bool
+pub(crate) fn is_return_allowed(key: &Key, s: &State) -> bool
     ensures { IsTrue result ↔ ((key.now.kind ≡ call_kind) × (length s.now.locals.items ≡ 0)) }
 {
-    key.kind == CALL && has_no_locals(s)
+    key.kind == CALL && has_no_saved_lower_context(s)
 }
 
 /// Tests K7's own part, at RFE: true if a handler's frame has restored all lower contexts, with its
 /// entry's lower registers if need be.
-pub(crate) fn may_return_from_exception(key: &Key, s: &State) -> bool
+pub(crate) fn is_exception_return_allowed(key: &Key, s: &State) -> bool
     ensures { IsTrue result ↔ ((length s.now.locals.items ≡ 0)
         × ((((key.now.kind ≡ irq_kind) ⊎ (key.now.kind ≡ aln_kind)) × (s.now.lower ≡ true))
         ⊎ (key.now.kind ≡ sys_kind))) }
 {
-    has_no_locals(s) && may_handler_return(key, s)
+    has_no_saved_lower_context(s) && is_handler_return_allowed(key, s)
 }
 
 /// Tests K8 at an instruction that saves a lower context: true if the state has room for a local.
-pub(crate) fn may_save_lower_context(b: &Bounds, s: &State) -> bool
+pub(crate) fn has_room_for_lower_context(b: &Bounds, s: &State) -> bool
     ensures { IsTrue result ↔ (length s.now.locals.items < b.now.most_locals) }
 {
     s.locals.len() < b.most_locals()
 }
 
 /// Tests K8 at an instruction that restores a lower context: true if one is saved.
-pub(crate) fn may_restore_lower_context(s: &State) -> bool
+pub(crate) fn has_saved_lower_context(s: &State) -> bool
     ensures { IsTrue result ↔ (1 ≤ length s.now.locals.items) }
 {
     1 <= s.locals.len()
@@ -286,7 +286,7 @@ pub(crate) fn may_restore_lower_context(s: &State) -> bool
 
 /// Tests K9: true if each possible store is wholly in one ram range or one peripheral range, and
 /// doesn't pass 2^32. Other instructions pass.
-pub(crate) fn may_store_at_value(plan: &Plan, at: &Val, shape: Shape) -> bool
+pub(crate) fn stores_in_range_at_value(plan: &Plan, at: &Val, shape: Shape) -> bool
     requires shape { IsShape shape }
     requires well { IsWellFormed at.now }
     ensures { IsTrue result ↔ StoresInRangeAtValue plan.now at.now shape }
@@ -299,7 +299,7 @@ pub(crate) fn may_store_at_value(plan: &Plan, at: &Val, shape: Shape) -> bool
 
 /// Tests K9 for an instruction with the only address `x`: true if a store there is wholly in one
 /// ram range or one peripheral range. Other instructions pass.
-pub(crate) fn may_store_at_word(plan: &Plan, x: u32, shape: Shape) -> bool
+pub(crate) fn stores_in_range_at_word(plan: &Plan, x: u32, shape: Shape) -> bool
     ensures { IsTrue result ↔ StoresInRangeAtValue plan.now (word_val x) shape }
 {
     match shape {
@@ -310,7 +310,7 @@ pub(crate) fn may_store_at_word(plan: &Plan, x: u32, shape: Shape) -> bool
 
 /// Tests K10's own part: true if each address in `at` is a multiple of the access's size, or the
 /// plan states the trap. Other instructions pass.
-pub(crate) fn may_access_at_value(plan: &Plan, at: &Val, shape: Shape) -> bool
+pub(crate) fn is_access_allowed_at_value(plan: &Plan, at: &Val, shape: Shape) -> bool
     requires shape { IsShape shape }
     requires well { IsWellFormed at.now }
     ensures { IsTrue result ↔ MayAccessAtValue plan.now at.now shape }
@@ -324,7 +324,7 @@ pub(crate) fn may_access_at_value(plan: &Plan, at: &Val, shape: Shape) -> bool
 
 /// Tests K10's own part for an access at the only address `x`: true if that is aligned, or the plan
 /// states the trap. Other instructions pass.
-pub(crate) fn may_access_at_word(plan: &Plan, x: u32, shape: Shape) -> bool
+pub(crate) fn is_access_allowed_at_word(plan: &Plan, x: u32, shape: Shape) -> bool
     requires { IsShape shape }
     ensures { IsTrue result ↔ MayAccessAtValue plan.now (word_val x) shape }
 {
@@ -336,7 +336,7 @@ pub(crate) fn may_access_at_word(plan: &Plan, x: u32, shape: Shape) -> bool
 }
 
 /// Tests K12's own part, at SYSCALL: true if the plan states the trap of system calls.
-pub(crate) fn may_call_system(plan: &Plan) -> bool
+pub(crate) fn is_system_call_allowed(plan: &Plan) -> bool
     ensures { IsTrue result ↔ (plan.now.sys ≡ true) }
 {
     plan.sys
@@ -416,7 +416,7 @@ fn is_set_of_targets(v: &Val) -> bool
 }
 
 /// Returns true if a frame has restored all lower contexts that were saved, as K6 and K7 ask.
-fn has_no_locals(s: &State) -> bool
+fn has_no_saved_lower_context(s: &State) -> bool
     ensures { IsTrue result ↔ (length s.now.locals.items ≡ 0) }
 {
     s.locals.is_empty()
@@ -424,7 +424,7 @@ fn has_no_locals(s: &State) -> bool
 
 /// Tests what K7 asks of a handler's registers: true for a system call's. Handlers of interrupts
 /// and misaligned accesses must have their entry's lower registers.
-fn may_handler_return(key: &Key, s: &State) -> bool
+fn is_handler_return_allowed(key: &Key, s: &State) -> bool
     ensures { IsTrue result
         ↔ ((((key.now.kind ≡ irq_kind) ⊎ (key.now.kind ≡ aln_kind)) × (s.now.lower ≡ true))
         ⊎ (key.now.kind ≡ sys_kind)) }
@@ -463,23 +463,23 @@ fn is_word_aligned_or_trap_stated(plan: &Plan, x: u32, size: u8) -> bool
 pub(crate) fn keeps_fixed_registers_in_load(dst: u8, base: Arg, after: bool) -> bool
     ensures { IsTrue result ↔ (RegisterHasValue dst × IncreasesNoFixedRegister base after) }
 {
-    may_write_register(dst) && keeps_fixed_base(base, after)
+    is_not_fixed_register(dst) && keeps_fixed_base_register(base, after)
 }
 
 /// Tests K13 for a branch that compares register `x`: true unless `x` is fixed and decremented.
 pub(crate) fn keeps_fixed_registers_in_branch(x: u8, lowers: bool) -> bool
     ensures { IsTrue result ↔ (IsTrue lowers → RegisterHasValue x) }
 {
-    !lowers || may_write_register(x)
+    !lowers || is_not_fixed_register(x)
 }
 
 /// Tests K13 for the base of a load or store: true if the access doesn't increase that, or the base
 /// isn't a fixed register.
-pub(crate) fn keeps_fixed_base(base: Arg, after: bool) -> bool
+pub(crate) fn keeps_fixed_base_register(base: Arg, after: bool) -> bool
     ensures { IsTrue result ↔ IncreasesNoFixedRegister base after }
 {
     match base {
-        Arg::Reg(r) => !after || may_write_register(r),
+        Arg::Reg(r) => !after || is_not_fixed_register(r),
         Arg::Word(_) => true,
     }
 }
@@ -487,7 +487,7 @@ pub(crate) fn keeps_fixed_base(base: Arg, after: bool) -> bool
 /// Tests K13 for a register, where D0 to D15 are 0 to 15 and A0 to A15 are 16 to 31. False for A0,
 /// A1, A8, A9 and A11.
 #[tactic(auto, unfolding(vd_transfer::specs::Registers::register_slot))]
-pub(crate) fn may_write_register(r: u8) -> bool
+pub(crate) fn is_not_fixed_register(r: u8) -> bool
     ensures { IsTrue result ↔ RegisterHasValue r }
 {
     r < 16 || 18 <= r && r <= 23 || r == 26 || 28 <= r && r <= 31

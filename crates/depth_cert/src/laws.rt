@@ -2,6 +2,6 @@
 ghost use Rattle.depth_cert.specs.SpellingLaws.{SpellingIsRead};
 
 /// The law of spellings: the bytes that spell a certificate are read as this certificate.
-pub fn spelling_laws()
+pub fn cert_round_trip_law()
     ensures { SpellingIsRead }
 {}

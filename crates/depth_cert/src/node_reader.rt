@@ -73,7 +73,7 @@ pub fn read_need(c: &mut FileCursor<'_>) -> Result<u16, FormErr>
 /// Reads whether a certificate's node of this kind has an exit. An exit is a `BAD_VALUE` unless the
 /// kind is that of calls or of system calls.
 #[tactic(auto, unfolding(crate::specs::Grammar::has_exit_at))]
-pub fn read_has_exit(c: &mut FileCursor<'_>, kind: u8) -> Result<bool, FormErr>
+pub fn read_exit_flag(c: &mut FileCursor<'_>, kind: u8) -> Result<bool, FormErr>
     ensures { ReadsField result c.old c.new (has_exit_at kind) }
 {
     let start = c.place();

@@ -14,7 +14,7 @@ ghost use Rattle.cfg_recover.specs.SetOperations.{IsCorrectCache};
 ghost use Rattle.depth_check.specs.CheckedRegisters.{CallHolds, RegisterCallsHoldAt, CheckedRegistersHoldAt};
 ghost use Rattle.cfg_recover.specs.FlowDuties as flows;
 
-use crate::node_covers::{has_changed_point, has_covering_exit, has_point_after_return};
+use crate::node_covers::{has_point_covering_change, has_covering_exit, is_return_covered};
 use crate::points::{PointCheck, PointScratch};
 use crate::rules::{
     NO_EXCEPTION_RETURN, NO_FUNCTION, NO_INTERRUPT, NO_MISALIGNED, NO_POINT, NO_RETURN,
@@ -117,7 +117,7 @@ fn rule_broken_by_call_or_syscall(
 {
     let back = at.point.addr.wrapping_add(size);
     match shape {
-        Shape::Call { to } => rule_broken_by_unchecked_call(at, to, back, called),
+        Shape::Call { to } => rule_broken_by_call_unless_known(at, to, back, called),
         Shape::Syscall { tin } => rule_broken_by_system_call(at, tin, back),
         _ => None,
     }
@@ -136,7 +136,7 @@ fn rule_broken_by_misaligned_access(at: &PointCheck<'_, '_>, found: &Located) ->
     if !may_be_misaligned(at.bounds, at.plan, at.point.state, found.shape) {
         return None;
     }
-    rule_broken_by_aln_entry(at)
+    rule_broken_by_misaligned_entry(at)
 }
 
 /// Returns K6 or K7 if a checked RET, or RFE of a system call's handler, leaves in a state that the
@@ -161,7 +161,7 @@ fn rule_broken_by_leaving(node: &Node<'_>, s: &State, shape: Shape) -> Option<u8
 
 /// Returns the least rule that a checked call breaks. A call by the register `called`, whose calls
 /// hold in this state, is passed over if the next point has the same state.
-fn rule_broken_by_unchecked_call(
+fn rule_broken_by_call_unless_known(
     at: &PointCheck<'_, '_>,
     to: Target,
     back: u32,
@@ -261,7 +261,7 @@ fn rule_broken_by_called_node(
             let Some(entered) = at.cert.node(key) else {
                 return Some(NO_FUNCTION);
             };
-            let has_need = has_need_for_entry(at.node, at.point.state, &entered);
+            let has_need = is_need_sufficient_for_entry(at.node, at.point.state, &entered);
             return broken_rule_unless(has_need, SMALL_NEED);
         }
     }
@@ -310,15 +310,15 @@ fn rule_broken_by_entry(
     let Some(entered) = cert.node(key) else {
         return Some(rule);
     };
-    let into = broken_rule_unless(has_changed_point(&entered, key.entry, s, entry), rule);
-    let need = broken_rule_unless(has_need_for_entry(node, s, &entered), SMALL_NEED);
+    let into = broken_rule_unless(has_point_covering_change(&entered, key.entry, s, entry), rule);
+    let need = broken_rule_unless(is_need_sufficient_for_entry(node, s, &entered), SMALL_NEED);
     let on = broken_rule_unless(is_return_met(node, s, &entered, key.kind, back), NO_POINT);
     lesser_broken_rule(lesser_broken_rule(into, need), on)
 }
 
 /// Returns whether a node's need has room for its locals, one area for the entry, and the entered
 /// node's need: K14.
-fn has_need_for_entry(node: &Node<'_>, s: &State, entered: &Node<'_>) -> bool
+fn is_need_sufficient_for_entry(node: &Node<'_>, s: &State, entered: &Node<'_>) -> bool
     ensures { IsTrue result ↔ (length s.now.locals.items + 1 + entered.now.need ≤ node.now.need) }
 {
     s.locals.len() + 1 + usize::from(entered.need) <= usize::from(node.need)
@@ -337,7 +337,7 @@ fn is_return_met(
     ensures { IsTrue result ↔ IsReturnMet node.now s.now entered.now kind back }
 {
     match back {
-        Some(at) => has_point_after_return(node, at, s, entered, kind),
+        Some(at) => is_return_covered(node, at, s, entered, kind),
         None => true,
     }
 }
@@ -345,7 +345,7 @@ fn is_return_met(
 /// Returns the least rule that a checked point breaks by the entry of the handler of misaligned
 /// accesses.
 #[inline(never)]
-fn rule_broken_by_aln_entry(at: &PointCheck<'_, '_>) -> Option<u8>
+fn rule_broken_by_misaligned_entry(at: &PointCheck<'_, '_>) -> Option<u8>
     ensures { FindsLeastBrokenByDuties at.now (misaligned_duty_at at.now ∷ []) result }
 {
     let node = at.node;

@@ -47,7 +47,7 @@ pub(crate) fn next_after_nop_or_jump(at: &PointCheck<'_, '_>, codes: &mut KnownC
     if first != Some(0x0D) && first != Some(0x1D) && first != Some(0x3C) && first != Some(0x9D) {
         return None;
     }
-    let Some(found) = codes.locate(image, at.plan, addr) else {
+    let Some(found) = codes.decode_cached(image, at.plan, addr) else {
         return None;
     };
     match found.shape {

@@ -53,7 +53,7 @@ impl LastInterrupts {
 
     /// Returns the join of the last kept context's A10 with the state's, if the state fits that
     /// context except for A10; else `None`.
-    fn joined_stack(&self, b: &Bounds, node: &Node<'_>, s: &State) -> Option<Val>
+    fn joined_sp(&self, b: &Bounds, node: &Node<'_>, s: &State) -> Option<Val>
         requires last { IfSome self.now.last (λ a. IsInLattice b.now a.sp) }
         requires values { AreInLattice b.now s.now.regs }
         ensures value { IfSome result (IsInLattice b.now) }
@@ -61,7 +61,7 @@ impl LastInterrupts {
     {
         match &self.last {
             Some(context) => {
-                if context.is && context.fits_except_stack(node, s) {
+                if context.is && context.fits_except_sp(node, s) {
                     Some(join(b, &context.sp, &s.regs[A10_SLOT]))
                 } else {
                     None
@@ -80,7 +80,7 @@ impl LastInterrupts {
         requires interrupts { LastInterruptsHold at.now.plan at.now.cert self.old }
         ensures { LastInterruptsHold at.now.plan at.now.cert self.new }
     {
-        let sp = stack_to_keep(at, &*self);
+        let sp = sp_to_keep(at, &*self);
         self.before = self.last.take();
         self.last = Some(InterruptContext::of_state(at.node, at.point.state, sp));
     }
@@ -116,7 +116,7 @@ impl InterruptContext {
 
     /// Returns true only if a state of the node has this context's stack in use, IE and CCPN, and
     /// leaves at least as many areas. A10 isn't compared.
-    fn fits_except_stack(&self, node: &Node<'_>, s: &State) -> bool
+    fn fits_except_sp(&self, node: &Node<'_>, s: &State) -> bool
         ensures { IsTrue result → FitsContextExceptStack self.now node.now s.now }
     {
         self.ie == s.ie
@@ -134,7 +134,7 @@ fn context_covers(context: &Option<InterruptContext>, node: &Node<'_>, s: &State
     ensures { IsTrue result → IsSomeAnd context.now (λ a. FitsContext a node.now s.now) }
 {
     match context {
-        Some(context) => context.fits_except_stack(node, s)
+        Some(context) => context.fits_except_sp(node, s)
             && (!context.is || leq(&s.regs[A10_SLOT], &context.sp)),
         None => false,
     }
@@ -146,7 +146,7 @@ fn context_covers(context: &Option<InterruptContext>, node: &Node<'_>, s: &State
 ///
 /// With the join kept, an A10 that changes from point to point soon needs nothing more: after some
 /// 64 points the join has all of its values.
-fn stack_to_keep(at: &PointCheck<'_, '_>, kept: &LastInterrupts) -> Val
+fn sp_to_keep(at: &PointCheck<'_, '_>, kept: &LastInterrupts) -> Val
     requires holds { InterruptsHold at.now.plan at.now.cert at.now.node at.now.point.state }
     requires interrupts { LastInterruptsHold at.now.plan at.now.cert kept.now }
     ensures value { IsInLattice at.now.bounds result }
@@ -155,7 +155,7 @@ fn stack_to_keep(at: &PointCheck<'_, '_>, kept: &LastInterrupts) -> Val
 {
     let s = at.point.state;
     let own = s.regs[A10_SLOT].copy();
-    let Some(sp) = kept.joined_stack(at.bounds, at.node, s) else {
+    let Some(sp) = kept.joined_sp(at.bounds, at.node, s) else {
         return own;
     };
     let _most_words = at.bounds.most_words();

@@ -49,7 +49,7 @@ pub(crate) fn is_own_state_covered(at: &PointCheck<'_, '_>, addr: u32) -> bool
 
 /// Returns true if the node has a point at this address that covers the checked branch's state,
 /// unrefined. The walk's next point is tried first; `c` is room.
-pub(crate) fn is_kept_state_covered(at: &PointCheck<'_, '_>, addr: u32, c: &mut Change) -> bool
+pub(crate) fn is_unrefined_state_covered(at: &PointCheck<'_, '_>, addr: u32, c: &mut Change) -> bool
     ensures { IsTrue result ↔ HasCoveringPoint at.now.node addr at.now.point.state }
 {
     if at.point.next == Some(addr) {
@@ -61,7 +61,7 @@ pub(crate) fn is_kept_state_covered(at: &PointCheck<'_, '_>, addr: u32, c: &mut 
 
 /// Returns true if the certificate's node has a point at this address that covers the state `s`
 /// after the change `c`.
-pub(crate) fn has_changed_point(node: &Node<'_>, addr: u32, s: &State, c: &Change) -> bool
+pub(crate) fn has_point_covering_change(node: &Node<'_>, addr: u32, s: &State, c: &Change) -> bool
     requires { AreWellFormed (state_after s.now c.now).regs }
     ensures { IsTrue result ↔ HasCoveringPoint node.now addr (state_after s.now c.now) }
 {
@@ -78,12 +78,12 @@ pub(crate) fn is_changed_state_covered(at: &PointCheck<'_, '_>, addr: u32, c: &C
     ensures { IsTrue result
         ↔ HasCoveringPoint at.now.node addr (state_after at.now.point.state c.now) }
 {
-    at.point.walk.is_covered_by_next(addr, c) || has_changed_point(at.node, addr, at.point.state, c)
+    at.point.walk.is_covered_by_next(addr, c) || has_point_covering_change(at.node, addr, at.point.state, c)
 }
 
 /// Returns true if the node has a point at `at` that covers the state after the entered frame's
 /// return. Also true if that frame has no exit.
-pub(crate) fn has_point_after_return(
+pub(crate) fn is_return_covered(
     node: &Node<'_>,
     at: u32,
     s: &State,

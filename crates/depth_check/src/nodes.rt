@@ -9,7 +9,7 @@ ghost use Rattle.depth_check.specs.NodeFaults as nodes;
 
 use crate::fast_paths::NO_REGISTERS;
 use crate::last_interrupts::LastInterrupts;
-use crate::points::{PointCheck, PointScratch, is_point_in_lattice, point_of_walk, rule_broken_at};
+use crate::points::{PointCheck, PointScratch, has_values_in_lattice, point_of_walk, rule_broken_at};
 use crate::rules::BAD_VALUES;
 use elf_image::Image;
 use packed_cert::{Cert, Node, PointWalk};
@@ -63,7 +63,7 @@ pub(crate) fn first_node_fault<'a>(
         point_address_fits_word(addr);
         let here = point_of_walk(b, node, addr, next > 0, &scratch.interrupts, &scratch.walk);
         next = next.wrapping_add(1);
-        if !is_point_in_lattice(b, here) {
+        if !has_values_in_lattice(b, here) {
             return earlier_node_fault(good, entry, addr, Some(BAD_VALUES));
         }
         let hinted = node.with_hint(next);

@@ -19,10 +19,10 @@ ghost use Rattle.packed_cert.specs.Walks.{IsNextWithSameState};
 use crate::duty_rules::{rule_broken_by_duties, rule_broken_by_interrupts};
 use crate::fast_paths::{CheckedRegisters, next_after_nop_or_jump, rule_broken_by_kept_state};
 use crate::last_interrupts::LastInterrupts;
-use crate::rules::{SMALL_NEED, has_need_for_point, lesser_broken_rule};
+use crate::rules::{SMALL_NEED, is_need_sufficient, lesser_broken_rule};
 use arrayvec::ArrayVec;
 use cfg_recover::{
-    KnownCodes, Located, OperationCache, broken_rule_unless, check_decoded, write_successor_change,
+    KnownCodes, Located, OperationCache, broken_rule_unless, check_decoded_instruction, write_successor_change,
 };
 use elf_image::Image;
 use packed_cert::{Cert, Node, PointWalk};
@@ -120,7 +120,7 @@ pub(crate) fn rule_broken_at(at: &PointCheck<'_, '_>, scratch: &mut PointScratch
     };
     let jump = rule_broken_by_kept_state(at, next);
     let irqs = rule_broken_by_interrupts(at);
-    let need = broken_rule_unless(has_need_for_point(at), SMALL_NEED);
+    let need = broken_rule_unless(is_need_sufficient(at), SMALL_NEED);
     lesser_broken_rule(lesser_broken_rule(jump, irqs), need)
 }
 
@@ -203,7 +203,7 @@ pub(crate) fn are_in_lattice(b: &Bounds, vs: &[Val]) -> bool
 }
 
 /// Returns true if all values of the checked point's state are in the lattice, as K2 asks.
-pub(crate) fn is_point_in_lattice(b: &Bounds, point: CurrentPoint<'_>) -> bool
+pub(crate) fn has_values_in_lattice(b: &Bounds, point: CurrentPoint<'_>) -> bool
     requires { IsTrue point.known → AreInLattice b.now point.state.now.regs }
     ensures { IsTrue result ↔ AreInLattice b.now point.entry.state.now.regs }
 {
@@ -226,12 +226,12 @@ fn rule_broken_by_decoded_point(at: &PointCheck<'_, '_>, scratch: &mut PointScra
 {
     let node = at.node;
     let s = at.point.state;
-    let located = scratch.codes.locate(at.image, at.plan, at.point.addr);
-    match check_decoded(at.bounds, at.plan, &node.key, s, &located) {
+    let located = scratch.codes.decode_cached(at.image, at.plan, at.point.addr);
+    match check_decoded_instruction(at.bounds, at.plan, &node.key, s, &located) {
         Err(rule) => Some(rule),
         Ok(found) => {
             let duties = rule_broken_by_duties(at, found, scratch);
-            let need = broken_rule_unless(has_need_for_point(at), SMALL_NEED);
+            let need = broken_rule_unless(is_need_sufficient(at), SMALL_NEED);
             lesser_broken_rule(duties, need)
         }
     }

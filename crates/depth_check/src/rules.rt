@@ -49,7 +49,7 @@ pub(crate) fn lesser_broken_rule(a: Option<u8>, b: Option<u8>) -> Option<u8>
 
 /// Returns true if K14's own part holds: the node's need covers the checked point's locals and, at
 /// the start's entry, leaves the reserve free.
-pub(crate) fn has_need_for_point(at: &PointCheck<'_, '_>) -> bool
+pub(crate) fn is_need_sufficient(at: &PointCheck<'_, '_>) -> bool
     ensures { IsTrue result ↔ HasNeedForPoint at.now.image at.now.plan at.now.node at.now.point }
 {
     let image = at.image;

@@ -9,7 +9,7 @@ ghost use Rattle.depth_check.specs.CheckedRegisters.{CheckedRegistersHoldAt, Reg
 ghost use Rattle.tc_isa.specs.declared.shapes.Target.TheVariants.{Reg};
 
 use crate::fast_paths::{may_skip_change, may_skip_refinement, rule_broken_by_kept_state};
-use crate::node_covers::{has_covering_points, is_changed_state_covered, is_kept_state_covered};
+use crate::node_covers::{has_covering_points, is_changed_state_covered, is_unrefined_state_covered};
 use crate::points::{PointCheck, PointScratch, write_change_at};
 use crate::rules::{NO_POINT, lesser_broken_rule};
 use cfg_recover::{Located, broken_rule_unless, targets};
@@ -114,7 +114,7 @@ fn rule_broken_by_branch_side(
 {
     let _bounds = at.bounds;
     if may_skip_refinement(shape) {
-        if is_kept_state_covered(at, to, c) {
+        if is_unrefined_state_covered(at, to, c) {
             return None;
         }
     }

@@ -9,7 +9,7 @@ ghost use Rattle.depth_maker.specs.declared.answering.MakeErr.TheVariants.{NoMem
 
 use crate::fixpoint::least_fixpoint;
 use crate::inputs_and_limits::Ground;
-use crate::interrupt_handlers::all_handlers;
+use crate::interrupt_handlers::irq_handlers;
 use crate::needs::{least_frame_needs, need_refusal};
 use crate::rows::Source;
 use crate::spelling::serialize_cert;
@@ -60,7 +60,7 @@ pub fn make(alloc: Global, image: &Image, plan: &Plan, version: u8) -> Result<Ce
     ensures made { IfOk result (IsLeastCert image.now plan.now version) }
     ensures refused { IfErr result (IsRightMakeErr image.now plan.now version) }
 {
-    let bytes = make_bytes(alloc, image, plan, version)?;
+    let bytes = cert_as_bytes(alloc, image, plan, version)?;
     match Cert::read(alloc, bytes) {
         Ok(cert) => Ok(cert),
         Err(CertErr::NoMemory) => Err(MakeErr::NoMemory),
@@ -70,7 +70,7 @@ pub fn make(alloc: Global, image: &Image, plan: &Plan, version: u8) -> Result<Ce
 
 /// Returns the bytes of the least certificate of format 1 or 2 that the rules accept, or why none
 /// is accepted.
-fn make_bytes(alloc: Global, image: &Image, plan: &Plan, version: u8) -> Result<Vec<u8>, MakeErr>
+fn cert_as_bytes(alloc: Global, image: &Image, plan: &Plan, version: u8) -> Result<Vec<u8>, MakeErr>
     requires { (version ≡ 1) ⊎ (version ≡ 2) }
     ensures made { IfOk result (λ out. AreLeastCertBytes image.now plan.now version out.items) }
     ensures refused { IfErr result (IsRightMakeErr image.now plan.now version) }
@@ -83,12 +83,12 @@ fn make_bytes(alloc: Global, image: &Image, plan: &Plan, version: u8) -> Result<
         image,
         plan,
     };
-    make_bytes_within_limits(alloc, &ground, version)
+    cert_bytes_for_inputs(alloc, &ground, version)
 }
 
 /// Returns the bytes of the least certificate for the image, plan and limits in `ground`, or why no
 /// certificate is accepted.
-fn make_bytes_within_limits(alloc: Global, ground: &Ground, version: u8) -> Result<Vec<u8>, MakeErr>
+fn cert_bytes_for_inputs(alloc: Global, ground: &Ground, version: u8) -> Result<Vec<u8>, MakeErr>
     requires version { (version ≡ 1) ⊎ (version ≡ 2) }
     requires limits { HasLimitsOfFormat ground.now version }
     ensures made { IfOk result (λ out. AreLeastCertBytesForInputs ground.now version out.items) }
@@ -115,14 +115,14 @@ fn cert_bytes_from_table(
     ensures err { IfErr result (MakeErrHolds ground.now) }
 {
     let numbers = frame_number_map(alloc, table.frames.as_slice())?;
-    let handlers = all_handlers(alloc, ground.plan, &numbers)?;
+    let handlers = irq_handlers(alloc, ground.plan, &numbers)?;
     let source = Source {
         ground,
         table,
         numbers: &numbers,
         handlers: handlers.as_slice(),
     };
-    cert_bytes_with_needs(alloc, &source, version)
+    cert_with_least_needs(alloc, &source, version)
 }
 
 /// Returns the maker's error for a refusal: the rule that fails with its frame and address, an
@@ -146,7 +146,7 @@ fn make_err_from_refusal(_ground: &Ground, refusal: Refusal) -> MakeErr
 
 /// Returns the certificate's bytes of a finished table with its frames' least needs, or a refusal
 /// by K14 if the start needs too many areas.
-fn cert_bytes_with_needs(alloc: Global, source: &Source, version: u8) -> Result<Vec<u8>, MakeErr>
+fn cert_with_least_needs(alloc: Global, source: &Source, version: u8) -> Result<Vec<u8>, MakeErr>
     requires source { IsRowSource source.now }
     requires version { (version ≡ 1) ⊎ (version ≡ 2) }
     requires limits { HasLimitsOfFormat source.now.ground.now version }

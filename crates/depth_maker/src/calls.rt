@@ -8,8 +8,8 @@ ghost use Rattle.depth_maker.specs.VisitDuties.{enter_duties, resume_duties, Are
 ghost use Rattle.depth_maker.specs.Visits.{VisitInvariantHolds};
 
 use crate::inputs_and_limits::Visit;
-use crate::join_entries::{join_call_entries, join_entry_and_return, register_and_join_return};
-use crate::last_call::{LastCall, MOST_CALLS, find_call};
+use crate::join_entries::{join_call_entries, join_entry_and_return, read_exit_and_join_return};
+use crate::last_call::{LastCall, MOST_CALLS, find_cached_call};
 use crate::table::Table;
 use arrayvec::ArrayVec;
 use cfg_recover::{direct_target, entered_key, targets};
@@ -99,11 +99,11 @@ fn join_indirect_call_entries(
         (JoinedBy v.now table.old table.new (enter_duties v.now targets.now.items)) }
     ensures err { IfErr result (RefusalIsRight v.now.ground.now) }
 {
-    if are_calls_covered(&*table, v, entry, targets) {
+    if has_covering_call(&*table, v, entry, targets) {
         return Ok(());
     }
     join_call_entries(alloc, table, v, entry, targets.as_slice())?;
-    note_covered_call(alloc, table, v, entry, targets)?;
+    cache_covered_call(alloc, table, v, entry, targets)?;
     Ok(())
 }
 
@@ -124,20 +124,20 @@ fn join_call_returns(
 {
     for t in targets {
         let key = entered_key(&v.key, CALL, *t);
-        register_and_join_return(alloc, table, v, key, back)?;
+        read_exit_and_join_return(alloc, table, v, key, back)?;
     }
     Ok(())
 }
 
 /// Returns true only if the last noted call of these functions shows that their entries cover the
 /// visited point's state after the change `entry`.
-fn are_calls_covered(table: &Table, v: &Visit, entry: &Change, targets: &ArrayVec<u32, 128>) -> bool
+fn has_covering_call(table: &Table, v: &Visit, entry: &Change, targets: &ArrayVec<u32, 128>) -> bool
     requires visited { VisitInvariantHolds v.now table.now }
     requires entry { state_after v.now.state.now entry.now ≡ call_entry v.now.state.now }
     ensures { IsTrue result
         → AreDutiesCovered v.now table.now (enter_duties v.now targets.now.items) }
 {
-    match find_call(table.covered.calls.as_slice(), &v.key, targets) {
+    match find_cached_call(table.covered.calls.as_slice(), &v.key, targets) {
         Some(last) => {
             let incoming = Incoming::Changed(v.state, entry);
             last.entry.covers(v.ground.bounds, &incoming)
@@ -149,7 +149,7 @@ fn are_calls_covered(table: &Table, v: &Visit, entry: &Change, targets: &ArrayVe
 /// Notes a call of two or more functions, whose entries are covered, as the latest of 16, unless
 /// the visited point has new work.
 #[inline(never)]
-fn note_covered_call(
+fn cache_covered_call(
     alloc: Global,
     table: &mut Table,
     v: &Visit,
@@ -168,7 +168,7 @@ fn note_covered_call(
     if is_place_queued(&table.places, table.near) {
         return Ok(());
     }
-    let entry = covered_entry(alloc, &*table, v, entry, targets)?;
+    let entry = entry_to_cache(alloc, &*table, v, entry, targets)?;
     let calls = &mut table.covered.calls;
     calls.truncate(MOST_CALLS - 1);
     calls.insert(0, LastCall::of(&v.key, targets, entry))?;
@@ -177,7 +177,7 @@ fn note_covered_call(
 
 /// Returns the entry state to note for a call of these functions, joined with that of their last
 /// noted call if there is one.
-fn covered_entry(
+fn entry_to_cache(
     alloc: Global,
     table: &Table,
     v: &Visit,
@@ -190,7 +190,7 @@ fn covered_entry(
 {
     let b = v.ground.bounds;
     let incoming = Incoming::Changed(v.state, entry);
-    if let Some(last) = find_call(table.covered.calls.as_slice(), &v.key, targets) {
+    if let Some(last) = find_cached_call(table.covered.calls.as_slice(), &v.key, targets) {
         if let Some(joined) = last.entry.join(alloc, b, &incoming)? {
             return Ok(joined);
         }

@@ -55,13 +55,13 @@ impl InterruptContext {
         requires other { IsWellFormed (a10_of s.now) }
         ensures { IsTrue result → IsWithinContext self.now is s.now }
     {
-        self.is == is && self.ccpn <= s.ccpn && self.covers_stack(s)
+        self.is == is && self.ccpn <= s.ccpn && self.covers_sp(s)
     }
 
     /// Returns true only if the handlers' entries from this context cover those from frames with
     /// this CCPN and any A10: none uses the interrupt stack.
     #[inline(always)]
-    fn covers_any_stack(&self, is: bool, ccpn: u8) -> bool
+    fn covers_any_sp(&self, is: bool, ccpn: u8) -> bool
         ensures { IsTrue result → (s : State) → s.ccpn ≡ ccpn → IsWithinContext self.now is s }
     {
         !is && !self.is && self.ccpn <= ccpn
@@ -69,7 +69,7 @@ impl InterruptContext {
 
     /// Returns true only if this context has the state's CCPN, and the interrupt stack in use or
     /// not, as `is` says. A10 may differ.
-    pub(crate) fn is_equal_except_stack(&self, is: bool, s: &State) -> bool
+    pub(crate) fn is_equal_except_sp(&self, is: bool, s: &State) -> bool
         ensures { IsTrue result → IsEqualExceptStack self.now is s.now }
     {
         self.is == is && self.ccpn == s.ccpn
@@ -77,7 +77,7 @@ impl InterruptContext {
 
     /// Joins the stack pointer A10 of a state into that of this interrupt context, which then
     /// covers both.
-    pub(crate) fn join_stack(&mut self, b: &Bounds, s: &State)
+    pub(crate) fn join_sp(&mut self, b: &Bounds, s: &State)
         requires own { IsInLattice b.now self.old.sp }
         requires other { IsInLattice b.now (a10_of s.now) }
         ensures { self.new ≡ joined_context b.now self.old (a10_of s.now) }
@@ -87,7 +87,7 @@ impl InterruptContext {
 
     /// Returns true if this interrupt context covers A10 of a state, or is off the interrupt stack,
     /// where A10 doesn't matter to the handlers' entries.
-    fn covers_stack(&self, s: &State) -> bool
+    fn covers_sp(&self, s: &State) -> bool
         requires own { IsWellFormed self.now.sp }
         requires other { IsWellFormed (a10_of s.now) }
         ensures { IsTrue result → IsTrue self.now.is
@@ -99,7 +99,7 @@ impl InterruptContext {
 
 /// Returns true only if the last two noted contexts show that the visited point's interrupts enter
 /// no handler in a state that isn't covered.
-pub(crate) fn are_interrupts_covered(table: &Table, v: &Visit) -> bool
+pub(crate) fn has_covering_context(table: &Table, v: &Visit) -> bool
     requires { VisitInvariantHolds v.now table.now }
     ensures { IsTrue result → AreDutiesCovered v.now table.now (interrupt_duties v.now) }
 {
@@ -117,11 +117,11 @@ pub(crate) fn are_interrupts_covered(table: &Table, v: &Visit) -> bool
 /// Returns true only if `is` is false and the last noted context, off the interrupt stack too,
 /// covers the handlers' entries for this CCPN.
 #[inline(always)]
-pub(crate) fn are_interrupts_covered_for_ccpn(table: &Table, is: bool, ccpn: u8) -> bool
+pub(crate) fn has_covering_context_for_ccpn(table: &Table, is: bool, ccpn: u8) -> bool
     ensures { IsTrue result → AreInterruptsCoveredForCcpn table.now is ccpn }
 {
     match &table.covered.interrupts.last {
-        Some(last) => last.covers_any_stack(is, ccpn),
+        Some(last) => last.covers_any_sp(is, ccpn),
         None => false,
     }
 }
@@ -130,7 +130,7 @@ pub(crate) fn are_interrupts_covered_for_ccpn(table: &Table, is: bool, ccpn: u8)
 /// if only A10 differs. Nothing is noted if the point has new work. A function of its own: a value
 /// takes room on its stack.
 #[inline(never)]
-pub(crate) fn note_covered_interrupts(table: &mut Table, v: &Visit)
+pub(crate) fn cache_interrupt_context(table: &mut Table, v: &Visit)
     requires fine { TableInvariantHoldsForInputs v.now.ground.now table.old }
     requires near { IsVisitedPlace table.old (Point v.now.key v.now.addr) }
     requires well_formed { IsWellFormedState v.now.ground.now.bounds.now v.now.state.now }
@@ -142,8 +142,8 @@ pub(crate) fn note_covered_interrupts(table: &mut Table, v: &Visit)
         return;
     }
     if let Some(last) = &mut table.covered.interrupts.last {
-        if last.is_equal_except_stack(v.key.is, v.state) {
-            last.join_stack(v.ground.bounds, v.state);
+        if last.is_equal_except_sp(v.key.is, v.state) {
+            last.join_sp(v.ground.bounds, v.state);
             return;
         }
     }

@@ -20,7 +20,7 @@ pub(crate) struct Handler {
 
 /// Returns a handler for each interrupt of the plan: its priority, and the number of the handler's
 /// frame.
-pub(crate) fn all_handlers(
+pub(crate) fn irq_handlers(
     alloc: Global,
     plan: &Plan,
     numbers: &IndexMap<Key, usize>,

@@ -14,7 +14,7 @@ ghost use Rattle.depth_cert.specs.Known.{state};
 use crate::calls::join_call_duties;
 use crate::entered_frames::may_enter_misaligned_handler;
 use crate::inputs_and_limits::Visit;
-use crate::interrupt_contexts::{are_interrupts_covered, note_covered_interrupts};
+use crate::interrupt_contexts::{has_covering_context, cache_interrupt_context};
 use crate::join_place::join_at_place;
 use crate::join_successors::join_return;
 use crate::table::Table;
@@ -55,7 +55,7 @@ pub(crate) fn join_entry_duties(
 
 /// Joins what a visited access owes: the entry of the handler of misaligned accesses, if that trap
 /// is planned and may happen.
-pub(crate) fn join_access_duties(
+pub(crate) fn join_misaligned_duties(
     alloc: Global,
     table: &mut Table,
     v: &Visit,
@@ -84,7 +84,7 @@ pub(crate) fn join_irq_duties(alloc: Global, table: &mut Table, v: &Visit) -> Re
     if !v.state.ie {
         return Ok(());
     }
-    if are_interrupts_covered(&*table, v) {
+    if has_covering_context(&*table, v) {
         return Ok(());
     }
     let irqs = possible_irqs(v.ground.plan, v.state);
@@ -92,7 +92,7 @@ pub(crate) fn join_irq_duties(alloc: Global, table: &mut Table, v: &Visit) -> Re
         return Ok(());
     }
     join_interrupt_entries(alloc, table, v, irqs.as_slice())?;
-    note_covered_interrupts(table, v);
+    cache_interrupt_context(table, v);
     Ok(())
 }
 
@@ -141,7 +141,7 @@ pub(crate) fn join_entry(
 
 /// Makes the visited point a reader of the exit of the frame `key`, and joins the state after that
 /// frame's return at `back`.
-pub(crate) fn register_and_join_return(
+pub(crate) fn read_exit_and_join_return(
     alloc: Global,
     table: &mut Table,
     v: &Visit,
@@ -180,7 +180,7 @@ pub(crate) fn join_entry_and_return(
     ensures err { IfErr result (RefusalIsRight v.now.ground.now) }
 {
     join_entry(alloc, table, v, key, c)?;
-    register_and_join_return(alloc, table, v, key, back)
+    read_exit_and_join_return(alloc, table, v, key, back)
 }
 
 /// Joins the entry of the handler of SYSCALL with the number `tin`, and the state after its return

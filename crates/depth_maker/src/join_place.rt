@@ -108,7 +108,7 @@ fn join_without_requeuing(
     let Some((_, own)) = table.places.get_index(table.near) else {
         unreachable!();
     };
-    let value = own.value.compact_copy(alloc, incoming)?;
+    let value = own.value.copy_incoming(alloc, incoming)?;
     match add_place_if_new(table, *y, value)? {
         None => Ok(true),
         Some(number) => join_known_place(alloc, table, v, number, y, incoming),

@@ -42,7 +42,7 @@ impl LastCall {
 
 /// Returns the latest of these noted calls of exactly these functions from a frame with the
 /// priority and stack of `key`, or `None`.
-pub(crate) fn find_call<'a>(
+pub(crate) fn find_cached_call<'a>(
     calls: &'a [LastCall],
     key: &Key,
     targets: &ArrayVec<u32, 128>,

@@ -11,7 +11,7 @@ use crate::rows::{Source, need_rows};
 use cfg_recover::start_key;
 use depth_cert::Key;
 use frame_places::{
-    NEEDS_RULE, NeedRow, frame_edges, get_or_zero, least_needs, needs_in_few_passes, node_ranks,
+    NEEDS_RULE, NeedRow, frame_edges, get_or_zero, least_needs, needs_in_few_passes, topological_ranks,
 };
 use std::alloc::{AllocError, Global};
 use tcd_plan::Plan;
@@ -48,7 +48,7 @@ pub(crate) fn least_frame_needs(
         return Ok(Ok(found));
     }
     let edges = frame_edges(alloc, rows.as_slice())?;
-    let ranks = node_ranks(alloc, frames.len(), edges.as_slice())?;
+    let ranks = topological_ranks(alloc, frames.len(), edges.as_slice())?;
     rows.sort_by_key(|row| get_or_zero(ranks.as_slice(), row.node))?;
     let recurs = first_recursion(alloc, source, edges.as_slice(), ranks.as_slice(), frames)?;
     least_needs_from_rows(alloc, source, rows.as_slice(), recurs, frames)

@@ -7,7 +7,7 @@ ghost use Rattle.depth_maker.specs.TableInvariant.{TableInvariantHoldsForInputs}
 ghost use Rattle.depth_maker.specs.Visits.{IsVisitedPlace};
 
 use crate::inputs_and_limits::Site;
-use crate::interrupt_contexts::are_interrupts_covered_for_ccpn;
+use crate::interrupt_contexts::has_covering_context_for_ccpn;
 use crate::join_place::add_place_if_new;
 use crate::spelling::ccpn_fits_byte;
 use crate::table::Table;
@@ -19,7 +19,7 @@ use tc_isa::Shape;
 /// Joins a nop's or jump's state at its new successor, which shares the state unread. Otherwise
 /// joins nothing, and returns false. Tried only at the place that was found last: other places'
 /// successors are mostly known.
-pub(crate) fn join_shared(alloc: Global, table: &mut Table, site: &Site) -> Result<bool, Refusal>
+pub(crate) fn share_state(alloc: Global, table: &mut Table, site: &Site) -> Result<bool, Refusal>
     requires fine { TableInvariantHoldsForInputs site.now.ground.now table.old }
     requires near { IsVisitedPlace table.old (Point site.now.key site.now.addr) }
     requires code { LocatesInstructionIfAny site.now }
@@ -78,7 +78,7 @@ fn may_share_state(table: &Table, site: &Site) -> bool
     match own.value.outline() {
         Some(outline) => {
             ccpn_fits_byte(outline.ccpn);
-            !outline.ie || are_interrupts_covered_for_ccpn(table, site.key.is, outline.ccpn)
+            !outline.ie || has_covering_context_for_ccpn(table, site.key.is, outline.ccpn)
         }
         None => false,
     }

@@ -15,7 +15,7 @@ use crate::table::Table;
 use cfg_recover::{Located, check_local_rules, start_state};
 use depth_cert::Key;
 use frame_places::{
-    Marked, NeedRow, Spot, entered_frame_numbers, frame_number_near, is_plain_mark,
+    Marked, NeedRow, Spot, entered_frame_numbers, frame_number_with_hint, is_plain_mark,
 };
 use indexmap::IndexMap;
 use small_states::{Outline, ScratchState, SmallKnown};
@@ -147,9 +147,9 @@ fn add_row_of_place(
     let Spot::Point(key, addr) = place else {
         return Ok(());
     };
-    let node = frame_number_near(source.numbers, draft.node, key);
+    let node = frame_number_with_hint(source.numbers, draft.node, key);
     draft.node = node;
-    if has_equal_row(draft.outlines.as_slice(), node, known) {
+    if has_listed_outline(draft.outlines.as_slice(), node, known) {
         return Ok(());
     }
     let at = KnownPoint {
@@ -165,7 +165,7 @@ fn add_row_of_place(
 /// Returns true only if a row of the frame `node`, by its noted outline, equals that of a plain
 /// point with this value.
 #[inline(always)]
-fn has_equal_row(outlines: &[Option<Outline>], node: usize, known: &Marked<SmallKnown>) -> bool
+fn has_listed_outline(outlines: &[Option<Outline>], node: usize, known: &Marked<SmallKnown>) -> bool
     ensures { IsTrue result → HasEqualRow outlines.now node known.now }
 {
     if !is_plain_mark(known.mark) {

@@ -17,11 +17,11 @@ ghost use Rattle.vd_transfer.specs.EffectsOnStates.{LocalsFitInstruction};
 use crate::entered_frames::enters_no_frame;
 use crate::fixpoint::VisitScratch;
 use crate::inputs_and_limits::{Ground, Site, Visit};
-use crate::join_entries::{join_access_duties, join_entry_duties, join_irq_duties};
+use crate::join_entries::{join_misaligned_duties, join_entry_duties, join_irq_duties};
 use crate::join_successors::{join_exit_if_leaving, join_successors};
-use crate::passing::join_shared;
+use crate::passing::share_state;
 use crate::table::Table;
-use cfg_recover::{Located, OperationCache, check_decoded, write_successor_change};
+use cfg_recover::{Located, OperationCache, check_decoded_instruction, write_successor_change};
 use frame_places::{Refusal, Spot};
 use std::alloc::Global;
 use tc_isa::Shape;
@@ -53,14 +53,14 @@ pub(crate) fn visit_place(
     let Spot::Point(key, addr) = *at else {
         return Ok(false);
     };
-    let located = scratch.codes.locate(ground.image, ground.plan, addr);
+    let located = scratch.codes.decode_cached(ground.image, ground.plan, addr);
     let site = Site {
         ground,
         key,
         addr,
         located: &located,
     };
-    if join_shared(alloc, table, &site)? {
+    if share_state(alloc, table, &site)? {
         return Ok(true);
     }
     visit_point(alloc, table, &site, scratch, change, cache)
@@ -104,7 +104,7 @@ fn join_visit_duties(
 {
     join_successors(alloc, table, v, found, c, cache)?;
     join_entry_duties(alloc, table, v, found.shape, found.size, c)?;
-    join_access_duties(alloc, table, v, found)?;
+    join_misaligned_duties(alloc, table, v, found)?;
     join_irq_duties(alloc, table, v)?;
     join_exit_if_leaving(alloc, table, v, found.shape)
 }
@@ -145,7 +145,7 @@ fn visit_point(
         state: scratch.state.state(),
     };
     let g = v.ground;
-    match check_decoded(g.bounds, g.plan, &v.key, v.state, site.located) {
+    match check_decoded_instruction(g.bounds, g.plan, &v.key, v.state, site.located) {
         Ok(found) => {
             join_visit_duties(alloc, table, &v, found, change, cache)?;
             Ok(enters_no_frame(g.plan, found.shape))

@@ -48,7 +48,7 @@ pub(crate) fn check_program_headers(bytes: &[u8]) -> Result<(), ImageErr>
 
 // Checks that no two program headers of an ELF file load bytes to the same address.
 #[tactic(auto, unfolding(crate::specs::ReadElf::overlap_refusal))]
-pub(crate) fn check_no_overlap(loads: &[Header]) -> Result<(), ImageErr>
+pub(crate) fn check_no_segment_overlap(loads: &[Header]) -> Result<(), ImageErr>
     ensures { result_err result ≡ overlap_refusal loads.now }
 {
     for (i, header) in loads.iter().enumerate() {

@@ -98,7 +98,7 @@ pub(crate) fn loads_file_bytes(header: &Header) -> bool
 
 // Returns the program headers of an ELF file that load bytes, in order, or `TooLarge` for more than
 // 64, or more than 2^24 bytes.
-pub(crate) fn load_headers(alloc: Global, bytes: &[u8]) -> Result<Vec<Header>, ImageErr>
+pub(crate) fn loading_headers(alloc: Global, bytes: &[u8]) -> Result<Vec<Header>, ImageErr>
     requires long { 52 ≤ length bytes.now }
     requires good { program_header_refusal bytes.now ≡ None }
     ensures ok { IfOk result (λ v. (v.items ≡ load_headers bytes.now)

@@ -1,8 +1,8 @@
 // An image: the segments of an executable, within limits that always hold.
 use crate::ImageErr;
-use crate::file_checks::{check_elf_header, check_no_overlap, check_program_headers};
+use crate::file_checks::{check_elf_header, check_no_segment_overlap, check_program_headers};
 use crate::file_writer::elf_file;
-use crate::headers::{E_ENTRY, elf_word_at, load_headers};
+use crate::headers::{E_ENTRY, elf_word_at, loading_headers};
 use crate::segments::{Segment, loaded_segments, segment_byte, segment_contains};
 use std::alloc::Global;
 use std::marker::Model;
@@ -40,8 +40,8 @@ impl Image {
     {
         check_elf_header(bytes)?;
         check_program_headers(bytes)?;
-        let loads = load_headers(alloc, bytes)?;
-        check_no_overlap(&loads)?;
+        let loads = loading_headers(alloc, bytes)?;
+        check_no_segment_overlap(&loads)?;
         let segments = loaded_segments(alloc, bytes, &loads)?;
         Ok(Image {
             entry: elf_word_at(bytes, E_ENTRY),

@@ -35,7 +35,7 @@ pub fn establish_segment_bytes(segments: &[Segment])
     ensures { AreSegmentBytes (map segment_data segments.now) }
 {
     for segment in segments {
-        segment_bytes_below_256(&segment.bytes);
+        establish_bytes_below_256(&segment.bytes);
     }
 }
 
@@ -59,7 +59,7 @@ pub(crate) fn loaded_segments(
 }
 
 /// Establishes a fact for proofs: the bytes of a segment of an executable are numbers below 256.
-fn segment_bytes_below_256(bytes: &[u8])
+fn establish_bytes_below_256(bytes: &[u8])
     ensures { All (λ b. b < 2 ^ 8) bytes.now }
 {
     for byte in bytes {

@@ -16,12 +16,12 @@ mod work_list;
 pub use counting::record_place;
 pub use marks::{begin_visit, end_visit, is_place_queued, is_plain_mark};
 pub use needs::least::{least_needs, needs_in_few_passes};
-pub use needs::ranks::{get_or_zero, node_ranks};
+pub use needs::ranks::{get_or_zero, topological_ranks};
 pub use needs::reach::{
     FrameEdge, first_recursive_node, frame_edges, has_marked_node, reaching_marks,
 };
 pub use needs::row::NeedRow;
-pub use numbers::{entered_frame_numbers, frame_number, frame_number_map, frame_number_near};
+pub use numbers::{entered_frame_numbers, frame_number, frame_number_map, frame_number_with_hint};
 pub use ordering::{PointEntry, numbers_of_keys, points_of_frame, sorted_frames, sorted_points};
 pub use places::{
     Mark, Marked, Spot, add_or_find_place, add_queued_place, address_in_frame, place_address,

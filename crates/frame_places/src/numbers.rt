@@ -39,7 +39,7 @@ pub fn frame_number(numbers: &IndexMap<Key, usize>, key: Key) -> usize
 /// Returns the number of the frame with this key, or 0 if the map has none. The number `near` is
 /// tried first.
 #[inline(always)]
-pub fn frame_number_near(numbers: &IndexMap<Key, usize>, near: usize, key: &Key) -> usize
+pub fn frame_number_with_hint(numbers: &IndexMap<Key, usize>, near: usize, key: &Key) -> usize
     ensures { (frames : List Key) → AreNumbersOfFrames numbers.now frames
         → Contains frames key.now → result ≡ frame_number_in frames key.now }
 {

@@ -198,7 +198,7 @@ pub fn set_and_queue_place<V: Drop>(
     place.value = value;
     if let Mark::Queued = place.mark {
         if is_unvisited_entry(entry, place.visits) {
-            work.push_entry(number)?;
+            work.push_to_round(number)?;
         }
         return Ok(());
     }

@@ -81,7 +81,7 @@ impl Work {
 
     /// Puts a place on the work list, at the end of the queue of those that are next.
     #[inline(always)]
-    pub(crate) fn push_next(&mut self, number: usize) -> Result<(), AllocError>
+    pub(crate) fn push_to_queue(&mut self, number: usize) -> Result<(), AllocError>
         ensures { OnOk result (PushesNext self.old self.new number) }
     {
         self.next.push(number)?;
@@ -90,7 +90,7 @@ impl Work {
 
     /// Puts a place on the work list among those that wait for the next round.
     #[inline(always)]
-    pub(crate) fn push_waiting(&mut self, number: usize) -> Result<(), AllocError>
+    pub(crate) fn push_to_waiting(&mut self, number: usize) -> Result<(), AllocError>
         ensures { OnOk result (PushesWaiting self.old self.new number) }
     {
         self.waiting.push(Reverse(number))?;
@@ -101,7 +101,7 @@ impl Work {
     /// round. Entry points put there since the last pop, up to 64, are taken earlier. A listed
     /// place is listed again, once for each rise of its state.
     #[inline(always)]
-    pub(crate) fn push_entry(&mut self, number: usize) -> Result<(), AllocError>
+    pub(crate) fn push_to_round(&mut self, number: usize) -> Result<(), AllocError>
         ensures { OnOk result (PushesEntry self.old self.new number) }
     {
         let len = self.round.len();
@@ -119,7 +119,7 @@ impl Work {
         ensures empty { IfOk result (λ o. IfNone o (all_work self.new ≡ [])) }
         ensures err { OnErr result (HasSameWork self.old self.new) }
     {
-        if let Some(number) = self.pop_next() {
+        if let Some(number) = self.pop_from_queue() {
             return Ok(Some(number));
         }
         if let Some(number) = self.pop_from_round() {
@@ -131,18 +131,18 @@ impl Work {
 
     /// Takes the first place of the work list's queue, or `None` if no place is next.
     #[inline(always)]
-    fn pop_next(&mut self) -> Option<usize>
+    fn pop_from_queue(&mut self) -> Option<usize>
         ensures some { IfSome result (PopsPlace self.old self.new) }
         ensures none { IfNone result (HasEmptyQueue self.old self.new) }
     {
-        if let Some(number) = self.pop_first() {
+        if let Some(number) = self.pop_front() {
             return Some(number);
         }
         if self.next.len() > 1 {
-            self.refill_first();
-            return self.pop_first();
+            self.refill_front();
+            return self.pop_front();
         }
-        self.pop_last()
+        self.pop_back()
     }
 
     /// Takes a place of the work list's current round, or `None` if the round is over.
@@ -175,7 +175,7 @@ impl Work {
 
     /// Takes the front place of the work list's queue, or `None` if its reversed part is empty.
     #[inline(always)]
-    fn pop_first(&mut self) -> Option<usize>
+    fn pop_front(&mut self) -> Option<usize>
         ensures some { IfSome result (PopsFirst self.old self.new) }
         ensures none { IfNone result ((self.old.first ≡ []) × (self.new ≡ self.old)) }
     {
@@ -184,7 +184,7 @@ impl Work {
 
     /// Refills the reversed part of the work list's queue, from whose end places are taken, with
     /// the places that are next.
-    fn refill_first(&mut self)
+    fn refill_front(&mut self)
         ensures { RefillsFirst self.old self.new }
     {
         swap(&mut self.first, &mut self.next);
@@ -194,7 +194,7 @@ impl Work {
     /// Takes the last place of the part of the work list's queue that isn't reversed, or `None` if
     /// that part is empty.
     #[inline(always)]
-    fn pop_last(&mut self) -> Option<usize>
+    fn pop_back(&mut self) -> Option<usize>
         ensures some { IfSome result (PopsLast self.old self.new) }
         ensures none { IfNone result ((self.old.next ≡ []) × (self.new ≡ self.old)) }
     {
@@ -208,9 +208,9 @@ pub(crate) fn enqueue(work: &mut Work, number: usize, waits: bool) -> Result<(),
     ensures { OnOk result (PushesWaitingOrNext waits work.old work.new number) }
 {
     if waits {
-        work.push_waiting(number)
+        work.push_to_waiting(number)
     } else {
-        work.push_next(number)
+        work.push_to_queue(number)
     }
 }
 
@@ -221,8 +221,8 @@ pub(crate) fn enqueue_new(work: &mut Work, number: usize, entry: bool) -> Result
     ensures { OnOk result (PushesEntryOrNext entry work.old work.new number) }
 {
     if entry {
-        work.push_entry(number)
+        work.push_to_round(number)
     } else {
-        work.push_next(number)
+        work.push_to_queue(number)
     }
 }

@@ -16,7 +16,7 @@ use tcd_base::{FileCursor, TRAILING, form_err_at};
 /// Reads the format and the places of the nodes of the certificate that the bytes spell, or returns
 /// their first fault.
 #[tactic(auto, unfolding(depth_cert::specs::Grammar::certificate_of, depth_cert::specs::Grammar::cert_at))]
-pub(crate) fn read_cert_parts(alloc: Global, bytes: &[u8]) -> Result<(u8, Vec<NodePlaces>), CertErr>
+pub(crate) fn read_cert_data(alloc: Global, bytes: &[u8]) -> Result<(u8, Vec<NodePlaces>), CertErr>
     requires { length bytes.now ≤ 2 ^ 30 }
     ensures ok { IfOk result
         (λ r. certificate_of bytes.now ≡ Ok (cert_in_bytes r.0 bytes.now r.1.items)) }

@@ -5,7 +5,7 @@ ghost use Rattle.depth_cert.specs.Answers.{IsFaultOf};
 ghost use Rattle.packed_cert.specs.NodesInBytes.{AreNodePlaces, AscendByKey, IsCountOfNodesBelow, count_node_points};
 ghost use Rattle.packed_cert.specs.EnteredAlike.{HasEntryAndExitAt};
 
-use crate::cert_reader::read_cert_parts;
+use crate::cert_reader::read_cert_data;
 use crate::nodes::{Node, count_points_below};
 use crate::places::NodePlaces;
 use depth_cert::{CertErr, Key, key_number};
@@ -49,7 +49,7 @@ impl Cert {
         // No other bytes spell it.
         ensures one { IfOk result (λ c. bytes_of_cert c ≡ bytes.items) }
     {
-        let (version, nodes) = read_cert_parts(alloc, &bytes)?;
+        let (version, nodes) = read_cert_data(alloc, &bytes)?;
         cert_bytes_below_256(&bytes);
         Ok(Cert {
             bytes,
@@ -117,10 +117,10 @@ impl Cert {
     {
         let bytes = self.bytes.as_slice();
         let nodes = self.nodes.as_slice();
-        let Some(one) = entry_and_exit_places(bytes, self.version, nodes, a) else {
+        let Some(one) = entry_and_exit_offsets(bytes, self.version, nodes, a) else {
             return false;
         };
-        let Some(two) = entry_and_exit_places(bytes, self.version, nodes, b) else {
+        let Some(two) = entry_and_exit_offsets(bytes, self.version, nodes, b) else {
             return false;
         };
         one.0 == two.0 && one.1 == two.1
@@ -129,7 +129,7 @@ impl Cert {
 
 /// Returns the places of the state at a key's entry and of the node's exit, if any; `None` without
 /// such a node or point. `bytes` and `version` are for the contract.
-fn entry_and_exit_places(
+fn entry_and_exit_offsets(
     bytes: &[u8],
     version: u8,
     nodes: &[NodePlaces],

@@ -11,7 +11,7 @@ ghost use Rattle.value_domain.specs.Sets.{IsAscending, Within};
 use crate::certs::cert_bytes_below_256;
 use crate::restored_values::ValuesAt;
 use crate::value_reader::value_length_by_tag;
-use crate::values_at_places::{is_below_value_at, value_at_place, word_at_place};
+use crate::values_at_places::{is_below_value_at, value_at_offset, word_at_offset};
 use depth_cert::{SPAN, lower_register_value};
 use value_domain::{State, Val, extent_of, leq};
 use vd_transfer::{Change, changed_value};
@@ -59,13 +59,13 @@ pub(crate) fn are_values_covered_at(
 /// Returns true if the abstract value at the place `low` of a certificate's bytes is below the
 /// value at the place `high`. The first one is decoded.
 #[inline(never)]
-pub(crate) fn is_below_at_places(low: ValuesAt<'_>, high: ValuesAt<'_>) -> bool
+pub(crate) fn is_encoded_value_below(low: ValuesAt<'_>, high: ValuesAt<'_>) -> bool
     requires low { PointsToValue low }
     requires high { PointsToValue high }
     ensures { IsTrue result ↔ IsBelow (decoded_value low.entry) (decoded_value high.entry) }
 {
     cert_bytes_below_256(low.bytes);
-    let v = value_at_place(low.bytes, low.version, low.place);
+    let v = value_at_offset(low.bytes, low.version, low.place);
     is_below_value_at(&v, high.bytes, high.version, high.place)
 }
 
@@ -76,8 +76,8 @@ pub(crate) fn is_below_span_at(v: &Val, bytes: &[u8], version: u8, place: usize)
     requires span { 128 < slice_index bytes.now place }
     ensures { IsTrue result ↔ IsBelow v.now (value_in_bytes version bytes.now place) }
 {
-    let lo = word_at_place(bytes, place + 1);
-    let last = word_at_place(bytes, place + 5);
+    let lo = word_at_offset(bytes, place + 1);
+    let last = word_at_offset(bytes, place + 5);
     let step = bytes[place] - SPAN;
     let e = extent_of(v);
     if e.least < lo || last < e.greatest {
@@ -97,7 +97,7 @@ pub(crate) fn are_words_in_set_at(own: &[u32], bytes: &[u8], place: usize, n: us
     let mut k = 0;
     for x in own {
         k = first_word_at_least(bytes, place, n, k, *x);
-        if k == n || word_at_place(bytes, place + 4 * k) != *x {
+        if k == n || word_at_offset(bytes, place + 4 * k) != *x {
             return false;
         }
         k += 1;
@@ -113,7 +113,7 @@ pub(crate) fn is_below_decoded_value(v: &Val, bytes: &[u8], version: u8, place: 
     requires stands { HasValueInBytes version bytes.now place }
     ensures { IsTrue result ↔ IsBelow v.now (value_in_bytes version bytes.now place) }
 {
-    leq(v, &value_at_place(bytes, version, place))
+    leq(v, &value_at_offset(bytes, version, place))
 }
 
 /// Returns value number `i` of those that a certificate's values are to cover. `any`, a value of
@@ -160,11 +160,11 @@ fn first_word_at_least(bytes: &[u8], place: usize, n: usize, k: usize, x: u32) -
     ensures below { (j : ℕ) → k ≤ j → j < result → word_in_bytes bytes.now (place + 4 * j) < x }
     ensures reached { result < n → x ≤ word_in_bytes bytes.now (place + 4 * result) }
 {
-    if k < n && word_at_place(bytes, place + 4 * k) == x {
+    if k < n && word_at_offset(bytes, place + 4 * k) == x {
         return k;
     }
     let mut at = k;
-    while at < n && word_at_place(bytes, place + 4 * at) < x {
+    while at < n && word_at_offset(bytes, place + 4 * at) < x {
         at += 1;
     }
     at

@@ -11,7 +11,7 @@ use crate::point_reader::ExitRoom;
 use crate::repeated_bytes::skip_if_repeated;
 use crate::restored_values::ValuesAt;
 use crate::values_at_places::are_values_at;
-use depth_cert::{Exit, blank_exit, read_exit, read_has_exit};
+use depth_cert::{Exit, blank_exit, read_exit, read_exit_flag};
 use std::marker::Model;
 use tcd_base::{FileCursor, FormErr};
 use value_domain::{Bounds, State};
@@ -143,7 +143,7 @@ pub(crate) fn read_optional_exit(
     ensures last { OnOk result (HasLastExit version bytes.now room.new) }
     ensures bytes { c.new.bytes ≡ c.old.bytes }
 {
-    if !read_has_exit(c, kind)? {
+    if !read_exit_flag(c, kind)? {
         return Ok(None);
     }
     Ok(Some(read_or_skip_exit(c, bytes, version, room)?))

@@ -44,7 +44,7 @@ pub(crate) fn read_node(
     ensures bytes { c.new.bytes ≡ c.old.bytes }
 {
     let _place = c.place(); // so that the prover knows that the bytes are few
-    let key = read_key(c, last_read_node_number(before))?;
+    let key = read_key(c, last_key_number(before))?;
     let number = key_number(&key);
     let need = read_need(c)?;
     let exit = read_optional_exit(c, bytes, version, key.kind, &mut room.exit)?;
@@ -60,7 +60,7 @@ pub(crate) fn read_node(
 
 /// Returns the number of the key that the reader of nodes read last, which the next key's number
 /// must be above; `None` if no node was read.
-fn last_read_node_number(nodes: &[NodePlaces]) -> Option<u64>
+fn last_key_number(nodes: &[NodePlaces]) -> Option<u64>
     ensures { result ≡ last_number_read (map (λ n. n.number) nodes.now) }
 {
     match nodes.last() {

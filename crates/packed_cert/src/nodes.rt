@@ -123,7 +123,7 @@ pub(crate) fn count_points_below(points: &[PointPlace], addr: u32, near: usize) 
     if after < points.len() && points[after].addr == addr {
         return after;
     }
-    let far = guessed_point_number(points, addr, near);
+    let far = guessed_point_index(points, addr, near);
     if far < points.len() && points[far].addr == addr {
         return far;
     }
@@ -132,7 +132,7 @@ pub(crate) fn count_points_below(points: &[PointPlace], addr: u32, near: usize) 
 
 /// Returns the number that the point at `addr` has if each instruction between `addr` and point
 /// number `near` has four bytes and a point. A guess, to save a search.
-fn guessed_point_number(points: &[PointPlace], addr: u32, near: usize) -> usize {
+fn guessed_point_index(points: &[PointPlace], addr: u32, near: usize) -> usize {
     if near >= points.len() {
         return near;
     }

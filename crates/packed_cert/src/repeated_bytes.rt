@@ -32,8 +32,8 @@ pub(crate) fn count_repeated_bytes(bytes: &[u8], x: usize, y: usize, n: usize) -
     if n >= MANY_BYTES && are_bytes_repeated(bytes, x, y, n) {
         return n;
     }
-    let blocks = count_repeated_blocks(bytes, x, y, n);
-    let from = count_repeated_eights(bytes, x, y, blocks, n);
+    let blocks = count_repeated_by_blocks(bytes, x, y, n);
+    let from = count_repeated_by_eights(bytes, x, y, blocks, n);
     if are_last_eight_repeated(bytes, x, y, from, n) {
         return n;
     }
@@ -60,7 +60,7 @@ const BLOCK: usize = 64;
 
 /// Returns how many of the `n` bytes from `x` on are repeated from `y` on, in whole blocks of 64.
 #[inline(always)]
-fn count_repeated_blocks(bytes: &[u8], x: usize, y: usize, n: usize) -> usize
+fn count_repeated_by_blocks(bytes: &[u8], x: usize, y: usize, n: usize) -> usize
     requires first { x + n ≤ length bytes.now }
     requires second { y + n ≤ length bytes.now }
     ensures within { result ≤ n }
@@ -79,7 +79,7 @@ fn count_repeated_blocks(bytes: &[u8], x: usize, y: usize, n: usize) -> usize
 /// Returns how many of the `n` bytes from `x` on are repeated from `y` on, as far as eight at a
 /// time are. The first `from` are known to be.
 #[inline(always)]
-fn count_repeated_eights(bytes: &[u8], x: usize, y: usize, from: usize, n: usize) -> usize
+fn count_repeated_by_eights(bytes: &[u8], x: usize, y: usize, from: usize, n: usize) -> usize
     requires first { x + n ≤ length bytes.now }
     requires second { y + n ≤ length bytes.now }
     requires from { from ≤ n }

@@ -7,10 +7,10 @@ ghost use Rattle.depth_cert.specs.Exits.{values_after_return};
 ghost use Rattle.packed_cert.specs.ValuesInBytes.{place_after_value, decoded_value, decoded_values, PointsToValue, PointsToValues};
 
 use crate::certs::cert_bytes_below_256;
-use crate::covered_values::is_below_at_places;
+use crate::covered_values::is_encoded_value_below;
 use crate::places::VALUES;
 use crate::value_reader::value_length_by_tag;
-use crate::values_at_places::{is_below_value_at, value_at_place};
+use crate::values_at_places::{is_below_value_at, value_at_offset};
 use value_domain::Val;
 use vd_transfer::is_lower_slot;
 
@@ -49,7 +49,7 @@ pub(crate) fn are_restored_below(regs: &[Val; 27], lower: ValuesAt<'_>, high: Va
         if !is_restored_below(regs, i, low, here) {
             return false;
         }
-        from = next_exit_value_place(i, low);
+        from = next_exit_value_offset(i, low);
         at += value_length_by_tag(high.bytes[at]);
     }
     true
@@ -74,14 +74,14 @@ fn is_restored_below(regs: &[Val; 27], i: usize, low: ValuesAt<'_>, high: Values
         return true;
     }
     if is_lower_slot(i) {
-        return is_below_at_places(low, high);
+        return is_encoded_value_below(low, high);
     }
     is_below_value_at(&regs[i], high.bytes, high.version, high.place)
 }
 
 /// Returns the place of the exit's value for the next lower register: the one after `low` if slot
 /// `i` is a lower register's, else `low`.
-fn next_exit_value_place(i: usize, low: ValuesAt<'_>) -> usize
+fn next_exit_value_offset(i: usize, low: ValuesAt<'_>) -> usize
     requires { IsTrue (is_lower_slot i) → PointsToValue low }
     ensures { result
         ≡ (if is_lower_slot i then place_after_value low.entry.bytes.now low.entry.place

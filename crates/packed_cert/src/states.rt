@@ -107,7 +107,7 @@ impl<'a> StateAt<'a> {
         if !flags_imply(self.locals().as_slice(), s.locals.as_slice()) {
             return false;
         }
-        let place = place_of_values(self.bytes, self.version, self.place);
+        let place = offset_of_register_values(self.bytes, self.version, self.place);
         are_values_covered_at(&ToCover::Whole(s), VALUES, self.bytes, self.version, place)
     }
 
@@ -124,7 +124,7 @@ impl<'a> StateAt<'a> {
         if !flags_imply(self.locals().as_slice(), c.locals.as_slice()) {
             return false;
         }
-        let place = place_of_values(self.bytes, self.version, self.place);
+        let place = offset_of_register_values(self.bytes, self.version, self.place);
         are_values_covered_at(
             &ToCover::Changed(s, c),
             VALUES,
@@ -150,7 +150,7 @@ impl<'a> StateAt<'a> {
         let high = ValuesAt {
             bytes: self.bytes,
             version: self.version,
-            place: place_of_values(self.bytes, self.version, self.place),
+            place: offset_of_register_values(self.bytes, self.version, self.place),
         };
         are_restored_below(&s.regs, exit.lower(), high)
     }
@@ -182,7 +182,7 @@ fn state_locals_at(bytes: &[u8], place: usize, count: u8) -> ArrayVec<bool, 8>
 }
 
 /// Returns the place of the 27 register values of the state at `place` in a certificate's bytes.
-fn place_of_values(bytes: &[u8], version: u8, place: usize) -> usize
+fn offset_of_register_values(bytes: &[u8], version: u8, place: usize) -> usize
     requires { IsStateAt version bytes.now place }
     ensures have { HaveValuesInBytes version bytes.now result 27 }
     ensures values { (state_in_bytes version bytes.now place).regs

@@ -57,7 +57,7 @@ pub(crate) fn read_changed_values(
         } else {
             skip_values_to(c, place);
             read_value(c, version, &mut out[i])?;
-            row = row_with_read_value(row, i as u8, place as u32);
+            row = row_extended_to(row, i as u8, place as u32);
             place = c.place();
             stop = next + count_repeated_before(bytes, next, place, before.end);
         }
@@ -127,7 +127,7 @@ pub(crate) fn read_or_skip_values(
 
 /// Returns a row of values that were read with one more: value number `i`, after the others, at
 /// `place`.
-fn row_with_read_value(row: ValueRow, i: u8, place: u32) -> ValueRow
+fn row_extended_to(row: ValueRow, i: u8, place: u32) -> ValueRow
     requires order { row.first ≤ row.behind }
     requires behind { row.behind ≤ i }
     requires number { i < 27 }

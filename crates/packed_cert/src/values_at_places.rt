@@ -56,18 +56,18 @@ pub(crate) fn are_values_at(b: &Bounds, bytes: &[u8], version: u8, place: usize,
 
 /// Decodes and returns the abstract value at a place of a certificate's bytes.
 #[inline(never)]
-pub(crate) fn value_at_place(bytes: &[u8], version: u8, place: usize) -> Val
+pub(crate) fn value_at_offset(bytes: &[u8], version: u8, place: usize) -> Val
     requires { HasValueInBytes version bytes.now place }
     ensures { result ≡ value_in_bytes version bytes.now place }
 {
     let mut out = Val::any();
-    read_value_at_place(bytes, version, place, &mut out);
+    read_value_at_offset(bytes, version, place, &mut out);
     out
 }
 
 /// Reads the abstract value at a place of a certificate's bytes over `out`, without a cursor.
 /// Nothing is written if `out` is that Set of two or more words already.
-pub(crate) fn read_value_at_place(bytes: &[u8], version: u8, place: usize, out: &mut Val)
+pub(crate) fn read_value_at_offset(bytes: &[u8], version: u8, place: usize, out: &mut Val)
     requires { HasValueInBytes version bytes.now place }
     ensures { out.new ≡ value_in_bytes version bytes.now place }
 {
@@ -77,12 +77,12 @@ pub(crate) fn read_value_at_place(bytes: &[u8], version: u8, place: usize, out: 
         return;
     }
     if tag == 1 {
-        set_words(out, &[word_at_place(bytes, place + 1)]);
+        set_words(out, &[word_at_offset(bytes, place + 1)]);
         return;
     }
     if tag > MOST_WORDS {
-        let lo = word_at_place(bytes, place + 1);
-        let last = word_at_place(bytes, place + 5);
+        let lo = word_at_offset(bytes, place + 1);
+        let last = word_at_offset(bytes, place + 5);
         set_span(out, lo, last, tag - SPAN);
         return;
     }
@@ -90,15 +90,15 @@ pub(crate) fn read_value_at_place(bytes: &[u8], version: u8, place: usize, out: 
         return;
     }
     if tag <= 8 {
-        read_set_at_place::<8>(out, bytes, place + 1, tag as usize);
+        read_set_at_offset::<8>(out, bytes, place + 1, tag as usize);
     } else {
-        read_set_at_place::<128>(out, bytes, place + 1, tag as usize);
+        read_set_at_offset::<128>(out, bytes, place + 1, tag as usize);
     }
 }
 
 /// Overwrites `out` with the Set of the `n` words at a place of a certificate's bytes. There are at
 /// most `N` words, which is the room for them.
-fn read_set_at_place<const N: usize>(out: &mut Val, bytes: &[u8], place: usize, n: usize)
+fn read_set_at_offset<const N: usize>(out: &mut Val, bytes: &[u8], place: usize, n: usize)
     requires within { place + 4 * n ≤ length bytes.now }
     requires few { n ≤ N }
     requires small { N ≤ 128 }
@@ -107,7 +107,7 @@ fn read_set_at_place<const N: usize>(out: &mut Val, bytes: &[u8], place: usize, 
 {
     let mut words = [0u32; N];
     for i in 0..n {
-        words[i] = word_at_place(bytes, place + 4 * i);
+        words[i] = word_at_offset(bytes, place + 4 * i);
     }
     set_words(out, &words[..n]);
 }
@@ -126,7 +126,7 @@ fn is_set_of_words_at(v: &Val, bytes: &[u8], place: usize, n: usize) -> bool
         return false;
     }
     for i in 0..n {
-        if own[i] != word_at_place(bytes, place + 4 * i) {
+        if own[i] != word_at_offset(bytes, place + 4 * i) {
             return false;
         }
     }
@@ -140,11 +140,11 @@ fn is_value_at(b: &Bounds, bytes: &[u8], version: u8, place: usize) -> bool
     requires { HasValueInBytes version bytes.now place }
     ensures { IsTrue result ↔ IsInLattice b.now (value_in_bytes version bytes.now place) }
 {
-    is_value(b, &value_at_place(bytes, version, place))
+    is_value(b, &value_at_offset(bytes, version, place))
 }
 
 /// Returns the word at a place of a certificate's bytes, little-endian.
-pub(crate) fn word_at_place(bytes: &[u8], place: usize) -> u32
+pub(crate) fn word_at_offset(bytes: &[u8], place: usize) -> u32
     requires { place + 4 ≤ length bytes.now }
     ensures { result ≡ word_in_bytes bytes.now place }
 {

@@ -11,7 +11,7 @@ use crate::places::{PointPlace, ValueRow, empty_row};
 use crate::point_reader::blank_state_for_reading;
 use crate::states::StateAt;
 use crate::value_reader::value_length_by_tag;
-use crate::values_at_places::read_value_at_place;
+use crate::values_at_places::read_value_at_offset;
 use std::marker::Model;
 use value_domain::{State, Val};
 use vd_transfer::{Base, Change};
@@ -203,7 +203,7 @@ fn read_row_values(bytes: &[u8], version: u8, point: PointPlace, out: &mut [Val;
     let _regs = &out[..];
     let mut at = point.row.from as usize;
     for i in point.row.first as usize..point.row.behind as usize {
-        read_value_at_place(bytes, version, at, &mut out[i]);
+        read_value_at_offset(bytes, version, at, &mut out[i]);
         at += value_length_by_tag(bytes[at]);
     }
 }

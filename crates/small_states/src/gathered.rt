@@ -32,7 +32,7 @@ impl Model for Gathered {
 
 /// Returns whether this range holds all words, which a certificate spells as one zero byte.
 #[inline(always)]
-fn is_all_words_range(lo: u32, last: u32, step: u8) -> bool
+fn is_span_of_all_words(lo: u32, last: u32, step: u8) -> bool
     ensures { result ≡ is_span_of_all_words lo last step }
 {
     lo == 0 && last == u32::MAX && step == 0
@@ -128,7 +128,7 @@ impl Gathered {
         ensures { OnOk result (out.new.items ++ self.new
             ≡ (out.old.items ++ self.old) ++ bytes_of_value (Span lo last step)) }
     {
-        if is_all_words_range(lo, last, step) {
+        if is_span_of_all_words(lo, last, step) {
             return self.push_unknowns(out, 1);
         }
         self.make_room(out, 9)?;

@@ -65,7 +65,7 @@ pub fn incoming_ccpn(incoming: &Incoming) -> u8
 
 /// Returns whether what flows into a place is the exit of a frame, not a state.
 #[inline(always)]
-pub(crate) fn is_exit_flow(incoming: &Incoming) -> bool
+pub(crate) fn is_incoming_exit(incoming: &Incoming) -> bool
     ensures { result ≡ is_incoming_exit incoming.now }
 {
     match incoming {
@@ -110,7 +110,7 @@ pub(crate) fn incoming_form(values: Rc<Values>, incoming: &Incoming) -> KnownFor
     ensures { whole_known result ≡ incoming_known incoming.now }
 {
     let k = incoming_context(incoming);
-    if is_exit_flow(incoming) {
+    if is_incoming_exit(incoming) {
         return KnownForm::Leaves(SmallExit {
             ie: k.ie,
             ccpn: k.ccpn,

@@ -53,7 +53,7 @@ pub(crate) fn incoming_values_from_sender(
     match incoming {
         Incoming::Changed(s, c) => values_after_change(alloc, own, s, c),
         _ => {
-            let values = copy_from_sender(alloc, own.as_ref(), incoming)?;
+            let values = copy_sent_values(alloc, own.as_ref(), incoming)?;
             Ok(Rc::new(alloc, values)?)
         }
     }
@@ -169,7 +169,7 @@ fn values_after_change(
 /// Returns a new compact list of the values that flow in, copied from the sender's compact list
 /// `own` and the exit's.
 #[inline(never)]
-fn copy_from_sender(alloc: Global, own: &Values, incoming: &Incoming) -> Result<Values, AllocError>
+fn copy_sent_values(alloc: Global, own: &Values, incoming: &Incoming) -> Result<Values, AllocError>
     requires { all_values own.now ≡ (sender_state incoming.now).regs }
     ensures { IfOk result (λ values. all_values values ≡ incoming_values incoming.now) }
 {

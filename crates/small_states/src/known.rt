@@ -6,7 +6,7 @@ ghost use Rattle.depth_cert.specs.Known.{CoversKnown, joined_known, state, leavi
 ghost use Rattle.depth_cert.specs.WellFormed.{IsWellFormedKnown};
 
 use crate::incoming::{
-    Given, Incoming, incoming_context, incoming_form, is_exit_flow, is_incoming_exit_covered,
+    Given, Incoming, incoming_context, incoming_form, is_incoming_exit, is_incoming_exit_covered,
     is_incoming_state_covered, join_incoming_exit, join_incoming_state,
 };
 use crate::incoming_values::{copy_incoming_values, incoming_values_from_sender};
@@ -97,7 +97,7 @@ impl SmallKnown {
 
     /// Returns a compact copy of the state or exit that flows from the point with this known state.
     /// Unchanged lists of values are shared.
-    pub fn compact_copy(&self, alloc: Global, incoming: &Incoming) -> Result<SmallKnown, AllocError>
+    pub fn copy_incoming(&self, alloc: Global, incoming: &Incoming) -> Result<SmallKnown, AllocError>
         requires { self.now ≡ state (sender_state incoming.now) }
         ensures { IfOk result (λ c. c ≡ incoming_known incoming.now) }
     {
@@ -135,13 +135,13 @@ impl SmallKnown {
         let k = incoming_context(incoming);
         match &self.form {
             KnownForm::Point(upper) => {
-                if is_exit_flow(incoming) {
+                if is_incoming_exit(incoming) {
                     return false;
                 }
                 is_incoming_state_covered(upper, incoming, &k)
             }
             KnownForm::Leaves(upper) => {
-                if !is_exit_flow(incoming) {
+                if !is_incoming_exit(incoming) {
                     return false;
                 }
                 is_incoming_exit_covered(upper, incoming, &k)
@@ -164,13 +164,13 @@ impl SmallKnown {
         let k = incoming_context(incoming);
         match &self.form {
             KnownForm::Point(left) => {
-                if is_exit_flow(incoming) {
+                if is_incoming_exit(incoming) {
                     return Ok(None);
                 }
                 join_incoming_state(alloc, b, left, incoming, &k)
             }
             KnownForm::Leaves(left) => {
-                if !is_exit_flow(incoming) {
+                if !is_incoming_exit(incoming) {
                     return Ok(None);
                 }
                 join_incoming_exit(alloc, b, left, incoming, &k)
@@ -193,8 +193,8 @@ impl SmallKnown {
         ensures { IfOk result (λ r. r ≡ joined_known b.now self.now (incoming_known incoming.now)) }
     {
         if may_cover_known(&self.form, incoming) {
-            let above = own.compact_copy(alloc, incoming)?;
-            if above.is_above(self, b) {
+            let above = own.copy_incoming(alloc, incoming)?;
+            if above.covers_with_same_gaps(self, b) {
                 return Ok(Some(above));
             }
         }
@@ -254,7 +254,7 @@ impl SmallKnown {
 
     /// Returns true only if both are states, with the same gaps between known values, and this
     /// state covers `low`.
-    fn is_above(&self, low: &SmallKnown, _b: &Bounds) -> bool
+    fn covers_with_same_gaps(&self, low: &SmallKnown, _b: &Bounds) -> bool
         requires own { IsWellFormedKnown _b.now self.now }
         requires low { IsWellFormedKnown _b.now low.now }
         ensures { IsTrue result → CoversKnown self.now low.now }

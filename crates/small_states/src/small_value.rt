@@ -177,7 +177,7 @@ impl Small {
                     let form = SmallForm::One(first);
                     return Ok(Small { form });
                 }
-                Small::from_shared(alloc, v)
+                Small::with_shared_copy(alloc, v)
             }
             Val::Span { lo, last, step } => {
                 // All words have a form of their own, which is recognised at once.
@@ -370,7 +370,7 @@ impl Small {
         if self.is_equal(v) {
             return true;
         }
-        self.covers_compact(v)
+        self.covers_unequal(v)
     }
 
     /// Returns whether a compact value has all members of an incoming one.
@@ -425,14 +425,14 @@ impl Small {
                 if self.is_equal(v) {
                     return v.copy();
                 }
-                self.join_compact(alloc, b, v)
+                self.join_unequal(alloc, b, v)
             }
         }
     }
 
     /// Returns a compact value that holds a copy of a whole one, which its copies share.
     #[inline(never)]
-    fn from_shared(alloc: Global, v: &Val) -> Result<Small, AllocError>
+    fn with_shared_copy(alloc: Global, v: &Val) -> Result<Small, AllocError>
         ensures { IfOk result (λ s. s ≡ v.now) }
     {
         let form = SmallForm::Many(Rc::new(alloc, v.copy())?);
@@ -489,7 +489,7 @@ impl Small {
     /// Returns whether a compact value has all members of another one, which has been found
     /// unequal.
     #[inline(never)]
-    fn covers_compact(&self, v: &Small) -> bool
+    fn covers_unequal(&self, v: &Small) -> bool
         requires own { IsWellFormed self.now }
         requires value { IsWellFormed v.now }
         ensures { IsTrue result ↔ IsBelow v.now self.now }
@@ -565,7 +565,7 @@ impl Small {
             return Small::from_word_lists(alloc, b, words, held);
         }
         if missing > 16 {
-            return self.join_whole(alloc, b, v);
+            return self.join_in_whole_copy(alloc, b, v);
         }
         self.with_words(alloc, b, &words[n..])
     }
@@ -586,7 +586,7 @@ impl Small {
                 return Small::from_value(alloc, v);
             }
         }
-        self.join_whole(alloc, b, v)
+        self.join_in_whole_copy(alloc, b, v)
     }
 
     /// Returns the least compact value with the words of a set and `others`, which are added to a
@@ -640,7 +640,7 @@ impl Small {
     /// Returns the least compact value with the members of this one and of a whole one, which are
     /// added to a whole copy.
     #[inline(never)]
-    fn join_whole(&self, alloc: Global, b: &Bounds, v: &Val) -> Result<Small, AllocError>
+    fn join_in_whole_copy(&self, alloc: Global, b: &Bounds, v: &Val) -> Result<Small, AllocError>
         requires own { IsInLattice b.now self.now }
         requires value { IsInLattice b.now v.now }
         ensures { IfOk result (λ s. s ≡ join_of b.now self.now v.now) }
@@ -682,7 +682,7 @@ impl Small {
     /// Returns the least compact value with the members of this one and of another, which has been
     /// found unequal.
     #[inline(never)]
-    fn join_compact(&self, alloc: Global, b: &Bounds, v: &Small) -> Result<Small, AllocError>
+    fn join_unequal(&self, alloc: Global, b: &Bounds, v: &Small) -> Result<Small, AllocError>
         requires own { IsInLattice b.now self.now }
         requires value { IsInLattice b.now v.now }
         ensures { IfOk result (λ s. s ≡ join_of b.now self.now v.now) }

@@ -14,7 +14,7 @@ use tcd_base::NoMemory;
 
 /// Returns the byte that spells a flag of a compact state or exit: 1 or 0.
 #[inline(always)]
-fn flag_as_byte(x: bool) -> u8
+fn cert_flag_byte(x: bool) -> u8
     ensures { result ≡ cert_flag_byte x }
 {
     if x { 1 } else { 0 }
@@ -23,7 +23,7 @@ fn flag_as_byte(x: bool) -> u8
 /// Appends the certificate's bytes of all values of a compact list, known and unknown, by way of
 /// the buffer.
 #[inline(always)]
-fn append_list(out: &mut Vec<u8>, gathered: &mut Gathered, values: &Values) -> Result<(), NoMemory>
+fn write_values(out: &mut Vec<u8>, gathered: &mut Gathered, values: &Values) -> Result<(), NoMemory>
     requires { All IsWellFormed (all_values values.now) }
     ensures { OnOk result (out.new.items ++ gathered.new
         ≡ (out.old.items ++ gathered.old) ++ flat_map bytes_of_value (all_values values.now)) }
@@ -74,14 +74,14 @@ impl SmallState {
     {
         let locals = self.locals.as_slice();
         let mut gathered = Gathered::new();
-        gathered.push(flag_as_byte(self.ie));
+        gathered.push(cert_flag_byte(self.ie));
         gathered.push(self.ccpn);
-        gathered.push(flag_as_byte(self.lower));
+        gathered.push(cert_flag_byte(self.lower));
         gathered.push(locals.len() as u8);
         for flag in locals {
-            gathered.push(flag_as_byte(*flag));
+            gathered.push(cert_flag_byte(*flag));
         }
-        append_list(out, &mut gathered, self.regs.as_ref())?;
+        write_values(out, &mut gathered, self.regs.as_ref())?;
         gathered.append_to(out)
     }
 }
@@ -96,9 +96,9 @@ impl SmallExit {
     {
         let mut gathered = Gathered::new();
         gathered.push(1);
-        gathered.push(flag_as_byte(self.ie));
+        gathered.push(cert_flag_byte(self.ie));
         gathered.push(self.ccpn);
-        append_list(out, &mut gathered, self.lower.as_ref())?;
+        write_values(out, &mut gathered, self.lower.as_ref())?;
         gathered.append_to(out)
     }
 }

@@ -98,7 +98,7 @@ impl Values {
     {
         let (n, anys) = self.locate_index(i);
         if n < self.known.len() {
-            return self.set_before_known(n, anys, value);
+            return self.set_in_entry(n, anys, value);
         }
         self.set_after_known(anys, value)
     }
@@ -210,7 +210,7 @@ impl Values {
 
     /// Sets a value of a compact list, `anys` unknown values after the first `n` known ones: the
     /// next known value, or an unknown one before.
-    fn set_before_known(&mut self, n: usize, anys: usize, value: Small) -> Result<(), AllocError>
+    fn set_in_entry(&mut self, n: usize, anys: usize, value: Small) -> Result<(), AllocError>
         requires within { n < length self.old.known.items }
         requires before { HasUnknownsBefore self.old n anys }
         ensures { OnOk result

@@ -3,16 +3,16 @@ ghost use Rattle.std.specs.Prelude.{◌≡◌, ◌≤◌, length};
 ghost use Rattle.task_chains.specs.Devices.{view_devices_beside_block};
 
 use arrayvec::ArrayVec;
-use tcd_plan::{Device, Plan, cut_plan_ranges};
+use tcd_plan::{Device, Plan, ranges_outside};
 
 /// Returns the peripherals of a task's view: the plan's, then the parts of each ram range outside
 /// the `n` bytes from `x`, which answer with any word.
-pub(crate) fn view_devices_beside_block(plan: &Plan, x: u32, n: u32) -> ArrayVec<Device, 16>
+pub(crate) fn view_devices_outside_block(plan: &Plan, x: u32, n: u32) -> ArrayVec<Device, 16>
     requires { length (view_devices_beside_block plan.now x n) ≤ 16 }
     ensures { result.items ≡ view_devices_beside_block plan.now x n }
 {
     let _areas = plan.areas;
-    let left = cut_plan_ranges(plan.ram.as_slice(), x, n);
+    let left = ranges_outside(plan.ram.as_slice(), x, n);
     let mut devices = ArrayVec::new();
     devices
         .try_extend_from_slice(plan.devices.as_slice())
@@ -33,5 +33,5 @@ pub(crate) fn count_view_devices(plan: &Plan, x: u32, n: u32) -> usize
     ensures { result ≡ length (view_devices_beside_block plan.now x n) }
 {
     let _areas = plan.areas;
-    plan.devices.len() + cut_plan_ranges(plan.ram.as_slice(), x, n).len()
+    plan.devices.len() + ranges_outside(plan.ram.as_slice(), x, n).len()
 }

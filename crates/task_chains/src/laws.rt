@@ -24,7 +24,7 @@ pub fn safe_tasks_law()
 
 /// Guard laws: plain equations give machines that start tasks, tasks that are ready for their first
 /// turn, and tasks that fit a plan. A text has one list of tasks, or one error.
-pub fn task_guard_laws()
+pub fn task_premise_guard_laws()
     ensures ready { EveryTaskIsReady }
     ensures fits { EveryPlanFits }
     ensures starts { EveryTasksStart }
@@ -33,7 +33,7 @@ pub fn task_guard_laws()
 
 /// Guard laws: each state of a safe run of tasks has these parts, in plain equations, and they are
 /// all that is promised.
-pub fn safe_task_guard_laws()
+pub fn safe_tasks_definition_guard_laws()
     ensures says { SafeTasksSay }
     ensures parts { TaskPartsAreSafe }
 {}

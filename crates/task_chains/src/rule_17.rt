@@ -43,8 +43,8 @@ pub(crate) fn keeps_rule_17(
         ↔ KeepsRule17AtPoint r.bounds.now r.view.now r.plan.now r.tasks.now key.now
         (record { addr = addr; state = s.now }) }
 {
-    match codes.locate(rule.view, rule.plan, addr) {
-        Some(found) => stays_apart(rule, key, addr, s, found.shape),
+    match codes.decode_cached(rule.view, rule.plan, addr) {
+        Some(found) => keeps_rule_17_by_shape(rule, key, addr, s, found.shape),
         None => true,
     }
 }
@@ -70,7 +70,7 @@ pub(crate) fn are_accesses_outside(at: &Val, size: u8, from: u32, len: u32) -> b
 
 /// Returns whether an instruction of this shape keeps K17 at an address of a frame, with this state
 /// before it.
-pub(crate) fn stays_apart(rule: &TasksRule, key: &Key, addr: u32, s: &State, shape: Shape) -> bool
+pub(crate) fn keeps_rule_17_by_shape(rule: &TasksRule, key: &Key, addr: u32, s: &State, shape: Shape) -> bool
     requires shape { IsShape shape }
     requires values { AreInLattice rule.now.bounds.now s.now.regs }
     ensures { let r = rule.now in
@@ -78,7 +78,7 @@ pub(crate) fn stays_apart(rule: &TasksRule, key: &Key, addr: u32, s: &State, sha
         ↔ KeepsRule17ByShape r.bounds.now r.plan.now r.tasks.now key.now addr s.now shape }
 {
     may_have_point_at(rule.tasks, key, addr)
-        && misses_areas_and_routine(rule.bounds, rule.plan, rule.tasks, s, shape)
+        && load_misses_areas_and_routine(rule.bounds, rule.plan, rule.tasks, s, shape)
         && reads_no_context_register(shape)
         && (key.prio != 0 || key.is || is_no_bisr(shape))
 }
@@ -146,7 +146,7 @@ fn may_have_point_at(tasks: &Tasks, key: &Key, addr: u32) -> bool
 
 /// Returns whether the instruction is no load, or each of its possible accesses misses the save
 /// areas and the routine.
-fn misses_areas_and_routine(b: &Bounds, plan: &Plan, tasks: &Tasks, s: &State, shape: Shape) -> bool
+fn load_misses_areas_and_routine(b: &Bounds, plan: &Plan, tasks: &Tasks, s: &State, shape: Shape) -> bool
     requires shape { IsShape shape }
     requires values { AreInLattice b.now s.now.regs }
     ensures { IsTrue result ↔ LoadMissesAreasAndRoutine b.now plan.now tasks.now s.now shape }

@@ -5,7 +5,7 @@ ghost use Rattle.task_chains.specs.Tasks.{count};
 ghost use Rattle.task_chains.specs.Views.{FitPlan, with_view_routine_from, view_segment, view_image_of, view_plan_of};
 
 use crate::Tasks;
-use crate::devices::view_devices_beside_block;
+use crate::devices::view_devices_outside_block;
 use crate::routine::view_routine_bytes;
 use arrayvec::ArrayVec;
 use elf_image::{Image, Segment, establish_segment_bytes};
@@ -15,7 +15,7 @@ use tcd_plan::Plan;
 
 /// Returns the image of the view of task `u`. It begins at the task's entry. In its switch routine,
 /// what the routine reads of the block and of PCXI is an input, and nothing is written there.
-pub fn view_image(alloc: Global, image: &Image, tasks: &Tasks, u: usize) -> Result<Image, NoMemory>
+pub fn task_view_image(alloc: Global, image: &Image, tasks: &Tasks, u: usize) -> Result<Image, NoMemory>
     requires { u < count tasks.now }
     ensures { IfOk result (λ i. i ≡ view_image_of image.now tasks.now u) }
 {
@@ -33,7 +33,7 @@ pub fn view_image(alloc: Global, image: &Image, tasks: &Tasks, u: usize) -> Resu
 /// Returns the plan of the view of task `u`. It has the task's stack pointer, and no ram: what is
 /// left of ram without the block are peripherals that answer with any word. Interrupts are off at
 /// the start of all tasks except the first.
-pub fn view_plan(plan: &Plan, tasks: &Tasks, u: usize) -> Plan
+pub fn task_view_plan(plan: &Plan, tasks: &Tasks, u: usize) -> Plan
     requires task { u < count tasks.now }
     requires fit { FitPlan plan.now tasks.now }
     ensures { result ≡ view_plan_of plan.now tasks.now u }
@@ -41,7 +41,7 @@ pub fn view_plan(plan: &Plan, tasks: &Tasks, u: usize) -> Plan
     Plan {
         rom: ArrayVec::try_from(plan.rom.as_slice()).unwrap(),
         ram: ArrayVec::new(),
-        devices: view_devices_beside_block(plan, tasks.block, tasks.block_size()),
+        devices: view_devices_outside_block(plan, tasks.block, tasks.block_size()),
         csa_at: plan.csa_at,
         areas: plan.areas,
         reserve: plan.reserve,
@@ -52,7 +52,7 @@ pub fn view_plan(plan: &Plan, tasks: &Tasks, u: usize) -> Plan
         irqs: ArrayVec::try_from(plan.irqs.as_slice()).unwrap(),
         sys: plan.sys,
         aln: plan.aln,
-        start_ie: are_interrupts_on_at_start(plan, u),
+        start_ie: are_interrupts_enabled_at_start(plan, u),
         start_ccpn: plan.start_ccpn,
         start_is: plan.start_is,
         globals: plan.globals,
@@ -98,7 +98,7 @@ fn write_view_byte(bytes: &mut [u8], at: u32, x: u64, byte: u8)
 
 /// Returns whether interrupts are enabled at the start of task `u`: as the plan says for task 0,
 /// disabled for each other.
-fn are_interrupts_on_at_start(plan: &Plan, u: usize) -> bool
+fn are_interrupts_enabled_at_start(plan: &Plan, u: usize) -> bool
     ensures { result ≡ (if u == 0 then plan.now.start_ie else false) }
 {
     if u == 0 { plan.start_ie } else { false }

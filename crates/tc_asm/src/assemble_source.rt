@@ -15,7 +15,7 @@ ghost use Rattle.tc_stmt.specs.SourceViews.{source_lines};
 use crate::AsmErr;
 use crate::draft::Draft;
 use crate::finished_object::emit_object;
-use crate::put_checked_items::add_checked_items;
+use crate::put_checked_items::check_and_add_items;
 use crate::symbols::Symbols;
 use std::alloc::{AllocError, Global};
 use tc_object::Object;
@@ -65,7 +65,7 @@ fn draft_of_lines<'a>(
             continue;
         }
         let first = first_items(rest, line.count);
-        let found = add_checked_items(alloc, &mut draft, labels, known, first)?;
+        let found = check_and_add_items(alloc, &mut draft, labels, known, first)?;
         let rule = line.rule.min(found);
         if rule != NO_RULE {
             return Err(AsmErr::Bad {

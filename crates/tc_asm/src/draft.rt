@@ -99,7 +99,7 @@ impl<'a> Draft<'a> {
     /// Adds bytes at the end of the draft's current section, if they are within the limit.
     #[inline(always)]
     #[tactic(auto, unfolding(crate::specs::Drafts::with_bytes))]
-    pub(crate) fn add_bytes(&mut self, bytes: &[u8]) -> Result<(), AllocError>
+    pub(crate) fn add_bytes_if_room(&mut self, bytes: &[u8]) -> Result<(), AllocError>
         ensures { OnOk result (self.new ≡ with_bytes self.old bytes.now) }
     {
         if self.has_current_section() && self.has_room(bytes.len()) {
@@ -113,7 +113,7 @@ impl<'a> Draft<'a> {
     /// 4, and there is room for both.
     #[inline(always)]
     #[tactic(auto, unfolding(crate::specs::Drafts::with_use))]
-    pub(crate) fn add_use(&mut self, size: usize, r: Reference<'a>) -> Result<(), AllocError>
+    pub(crate) fn add_reloc_use(&mut self, size: usize, r: Reference<'a>) -> Result<(), AllocError>
         ensures { OnOk result (self.new ≡ with_use self.old size (reference_of r.entry)) }
     {
         if self.has_current_section()
@@ -139,7 +139,7 @@ impl<'a> Draft<'a> {
             (self.new ≡ with_content self.old bytes.now (reference_if_any r.now)) }
     {
         self.add_reference(bytes.len(), r)?;
-        self.add_bytes(bytes)
+        self.add_bytes_if_room(bytes)
     }
 
     /// Extends the draft by an item of the source. `labels` are the symbols of the whole source.
@@ -169,7 +169,7 @@ impl<'a> Draft<'a> {
                 let r = Some(reference_to(WORD32, *name, *minus, *size));
                 self.add_content(first_assembled_bytes(&[0; 4], *len), &r)
             }
-            Item::Zeros(n) => self.add_zeros(*n as usize),
+            Item::Zeros(n) => self.add_zeros_if_room(*n as usize),
         }
     }
 
@@ -227,7 +227,7 @@ impl<'a> Draft<'a> {
     {
         if is_source_name(r.name) {
             self.symbols.add_name(r.name)?;
-            self.add_use(size, *r)?;
+            self.add_reloc_use(size, *r)?;
         }
         Ok(())
     }
@@ -315,7 +315,7 @@ impl<'a> Draft<'a> {
     /// are only counted.
     #[inline(always)]
     #[tactic(auto, unfolding(crate::specs::Drafts::with_bytes))]
-    fn add_zeros(&mut self, n: usize) -> Result<(), AllocError>
+    fn add_zeros_if_room(&mut self, n: usize) -> Result<(), AllocError>
         ensures { OnOk result (self.new ≡ with_bytes self.old (replicate n 0)) }
     {
         if self.has_current_section() && self.has_room(n) {
@@ -387,7 +387,7 @@ impl<'a> Draft<'a> {
             (reference_if_any r.now)) (replicate n 0)) }
     {
         self.add_symbol_of_reference(r)?;
-        self.add_zeros(n)
+        self.add_zeros_if_room(n)
     }
 
     // Adds the symbol of an item, if there is one, to the symbols of the first pass's draft, which

@@ -50,7 +50,7 @@ pub(crate) fn assembled_code_size(row: u8) -> u8
 /// Returns these fields, with which an instruction is encoded, with no broken rule and no symbol
 /// noted.
 #[inline(always)]
-fn unbroken_fields<'a>(fields: Fields) -> RowFields<'a>
+fn bare_row_fields<'a>(fields: Fields) -> RowFields<'a>
     ensures { row_fields_of result ≡ unbroken_fields fields }
 {
     RowFields {
@@ -90,7 +90,7 @@ impl<'a> Draft<'a> {
         if place < rows.len() {
             self.resolve_target(labels, &rows[place], fields, r)
         } else {
-            unbroken_fields(*fields)
+            bare_row_fields(*fields)
         }
     }
 
@@ -111,7 +111,7 @@ impl<'a> Draft<'a> {
         assembled_code(row, &found.fields)
     }
 
-    /// The fields to encode once the target is resolved, if it needs no relocation. `item_rule`
+    /// The fields to encode once the target is resolved, if it needs no relocation. `rule_broken_by_item`
     /// calls this for each symbol, so symbols that need a relocation are handled here too.
     #[inline(always)]
     fn resolve_target(
@@ -126,12 +126,12 @@ impl<'a> Draft<'a> {
             (reference_if_any r.now) }
     {
         match r {
-            None => unbroken_fields(*fields),
+            None => bare_row_fields(*fields),
             Some(r) => {
                 if r.kind == NO_RELOC {
                     self.resolve_jump(labels, row, fields, *r)
                 } else {
-                    unbroken_fields(*fields)
+                    bare_row_fields(*fields)
                 }
             }
         }
@@ -158,7 +158,7 @@ impl<'a> Draft<'a> {
                 rule: MISPLACED_SYMBOL,
                 reference: None,
             },
-            Some((minus, size)) => with_displacement(row, minus, size, unbroken_fields(*fields)),
+            Some((minus, size)) => with_displacement(row, minus, size, bare_row_fields(*fields)),
         }
     }
 

@@ -21,7 +21,7 @@ impl<'a> Draft<'a> {
 
     /// Adds an item, and returns the least rule that it breaks, or no rule. `labels` are the
     /// symbols of the whole source. If they are `known`, the draft is kept without symbols.
-    pub(crate) fn add_checked(
+    pub(crate) fn check_and_add_item(
         &mut self,
         alloc: Global,
         labels: &Symbols<'a>,
@@ -34,15 +34,15 @@ impl<'a> Draft<'a> {
             (λ rule. rule ≡ item_rule labels.now (kept known self.old) (item_of item.now)) }
     {
         if known {
-            self.add_checked_item_without_symbol(alloc, labels, item)
+            self.check_and_add_item_without_symbol(alloc, labels, item)
         } else {
-            self.add_checked_item_with_symbol(alloc, labels, item)
+            self.check_and_add_item_with_symbol(alloc, labels, item)
         }
     }
 
     // Adds an item to the draft, but no symbol, since the first pass found all. Returns the least
     // rule that the item breaks.
-    fn add_checked_item_without_symbol(
+    fn check_and_add_item_without_symbol(
         &mut self,
         alloc: Global,
         labels: &Symbols<'a>,
@@ -55,44 +55,44 @@ impl<'a> Draft<'a> {
             (λ rule. rule ≡ item_rule labels.now (without_symbols self.old) (item_of item.now)) }
     {
         match item {
-            Item::Label(name) => Ok(self.known_label_rule(labels, *name)),
-            Item::Global(name) => Ok(self.known_global_rule(labels, *name)),
-            Item::Code(row, fields) => self.add_checked_code(labels, *row, fields),
+            Item::Label(name) => Ok(self.rule_broken_by_known_label(labels, *name)),
+            Item::Global(name) => Ok(self.rule_broken_by_known_global(labels, *name)),
+            Item::Code(row, fields) => self.check_and_add_code(labels, *row, fields),
             Item::Linked(row, kind, minus, fields, size, name) => {
                 let r = reference_to(*kind, *name, *minus, *size);
-                self.add_checked_code_with_symbol(labels, *row, fields, r)
+                self.check_and_add_code_with_symbol(labels, *row, fields, r)
             }
-            Item::Data(len, bytes) => self.add_checked_bytes(first_assembled_bytes(bytes, *len)),
+            Item::Data(len, bytes) => self.check_and_add_bytes(first_assembled_bytes(bytes, *len)),
             Item::Word(len, minus, size, name) => {
                 let r = reference_to(WORD32, *name, *minus, *size);
-                self.add_checked_symbol_bytes(first_assembled_bytes(&[0; 4], *len), r)
+                self.check_and_add_reference(first_assembled_bytes(&[0; 4], *len), r)
             }
-            Item::Section(_) => self.add_checked_item_with_symbol(alloc, labels, item),
-            Item::Zeros(_) => self.add_checked_item_with_symbol(alloc, labels, item),
+            Item::Section(_) => self.check_and_add_item_with_symbol(alloc, labels, item),
+            Item::Zeros(_) => self.check_and_add_item_with_symbol(alloc, labels, item),
         }
     }
 
     /// Returns the least rule that a label breaks in a draft whose symbols are known, with room for
     /// all and none defined twice. Nothing is added.
-    fn known_label_rule(&self, labels: &Symbols<'a>, name: &[u8]) -> u8
+    fn rule_broken_by_known_label(&self, labels: &Symbols<'a>, name: &[u8]) -> u8
         ensures { result ≡ item_rule labels.now (without_symbols self.now) (label name.now) }
     {
-        let section = NO_RULE.min(self.section_rule());
-        section.min(Self::name_rule(name).min(NO_RULE))
+        let section = NO_RULE.min(self.rule_broken_before_section());
+        section.min(Self::rule_broken_by_name(name).min(NO_RULE))
     }
 
     /// Returns the least rule that a global name breaks in a draft whose symbols are known, with
     /// room for all. Nothing is added.
-    fn known_global_rule(&self, labels: &Symbols<'a>, name: &[u8]) -> u8
+    fn rule_broken_by_known_global(&self, labels: &Symbols<'a>, name: &[u8]) -> u8
         ensures { result ≡ item_rule labels.now (without_symbols self.now) (global name.now) }
     {
-        let room = NO_RULE.min(Self::undefined_global_rule(labels, name));
-        Self::name_rule(name).min(room)
+        let room = NO_RULE.min(Self::rule_broken_by_undefined_global(labels, name));
+        Self::rule_broken_by_name(name).min(room)
     }
 
     // Adds an instruction without a symbol, and returns the least rule that it breaks.
     #[inline(always)]
-    fn add_checked_code(
+    fn check_and_add_code(
         &mut self,
         labels: &Symbols<'a>,
         row: u8,
@@ -104,7 +104,7 @@ impl<'a> Draft<'a> {
             (λ rule. rule ≡ item_rule labels.now self.old (code row fields.now None)) }
     {
         let code = assembled_code(row, fields);
-        let rule = self.add_checked_bytes(first_assembled_bytes(&code.bytes, code.len))?;
+        let rule = self.check_and_add_bytes(first_assembled_bytes(&code.bytes, code.len))?;
         // There is no target that breaks a rule.
         Ok(NO_RULE.min(rule))
     }
@@ -112,7 +112,7 @@ impl<'a> Draft<'a> {
     // Adds an instruction with a known symbol, and returns the least rule that the instruction
     // breaks.
     #[tactic(auto, unfolding(crate::specs::Rules::item_rule, crate::specs::Drafts::draft_after_item, crate::specs::Drafts::code_bytes))]
-    fn add_checked_code_with_symbol(
+    fn check_and_add_code_with_symbol(
         &mut self,
         labels: &Symbols<'a>,
         row: u8,
@@ -127,31 +127,31 @@ impl<'a> Draft<'a> {
     {
         let found = self.resolve_instruction(labels, row, fields, &Some(r));
         let code = assembled_code(row, &found.fields);
-        let rule = self.add_checked_symbol_bytes(first_assembled_bytes(&code.bytes, code.len), r)?;
+        let rule = self.check_and_add_reference(first_assembled_bytes(&code.bytes, code.len), r)?;
         Ok(found.rule.min(rule))
     }
 
     // Adds bytes and the use of their known symbol, and returns the least rule that the bytes
     // break.
     #[inline(never)]
-    fn add_checked_symbol_bytes(&mut self, bytes: &[u8], r: Reference<'a>) -> Result<u8, AllocError>
+    fn check_and_add_reference(&mut self, bytes: &[u8], r: Reference<'a>) -> Result<u8, AllocError>
         ensures draft { OnOk result (without_symbols self.new
             ≡ without_symbols (with_content self.old bytes.now (Some (reference_of r.entry)))) }
         ensures rule { IfOk result (λ rule. rule ≡ content_rule (without_symbols self.old)
             (length bytes.now) (Some (reference_of r.entry))) }
     {
         let room = self
-            .byte_limit_rule(bytes.len())
-            .min(NO_RULE.min(self.reloc_limit_rule(r)));
-        let rule = self.section_rule().min(room);
+            .rule_broken_by_byte_count(bytes.len())
+            .min(NO_RULE.min(self.rule_broken_by_reloc_count(r)));
+        let rule = self.rule_broken_before_section().min(room);
         self.add_use_of_known_symbol(bytes.len(), r)?;
-        self.add_bytes(bytes)?;
+        self.add_bytes_if_room(bytes)?;
         Ok(rule)
     }
 
     // Adds an item to the draft, with its symbol if it has one, and returns the least rule that the
     // item breaks.
-    fn add_checked_item_with_symbol(
+    fn check_and_add_item_with_symbol(
         &mut self,
         alloc: Global,
         labels: &Symbols<'a>,
@@ -162,7 +162,7 @@ impl<'a> Draft<'a> {
         ensures rule { IfOk result
             (λ rule. rule ≡ item_rule labels.now self.old (item_of item.now)) }
     {
-        let rule = self.item_rule(labels, item);
+        let rule = self.rule_broken_by_item(labels, item);
         self.add_item(alloc, labels, item)?;
         Ok(rule)
     }
@@ -170,7 +170,7 @@ impl<'a> Draft<'a> {
     // Adds bytes without a symbol, and returns the least rule that they break.
     #[inline(never)]
     #[tactic(auto, unfolding(crate::specs::Drafts::with_bytes))]
-    fn add_checked_bytes(&mut self, bytes: &[u8]) -> Result<u8, AllocError>
+    fn check_and_add_bytes(&mut self, bytes: &[u8]) -> Result<u8, AllocError>
         ensures draft { OnOk result (self.new ≡ with_bytes self.old bytes.now) }
         ensures rule { IfOk result
             (λ rule. rule ≡ content_rule self.old (length bytes.now) None) }
@@ -180,7 +180,7 @@ impl<'a> Draft<'a> {
             self.total += bytes.len();
             return Ok(NO_RULE);
         }
-        Ok(self.content_rule(bytes.len(), &None))
+        Ok(self.rule_broken_by_content(bytes.len(), &None))
     }
 
     /// Notes in the draft that its next `size` bytes use a symbol that is known. A bad name changes
@@ -191,7 +191,7 @@ impl<'a> Draft<'a> {
             ≡ without_symbols (with_reference self.old size (Some (reference_of r.entry)))) }
     {
         if is_source_name(r.name) {
-            self.add_use(size, r)?;
+            self.add_reloc_use(size, r)?;
         }
         Ok(())
     }
@@ -199,7 +199,7 @@ impl<'a> Draft<'a> {
 
 /// Adds items to a draft one after another, and returns the least rule that they break, or no rule.
 /// If symbols are `known`, none is added.
-pub(crate) fn add_checked_items<'a>(
+pub(crate) fn check_and_add_items<'a>(
     alloc: Global,
     draft: &mut Draft<'a>,
     labels: &Symbols<'a>,
@@ -213,7 +213,7 @@ pub(crate) fn add_checked_items<'a>(
 {
     let mut rule = NO_RULE;
     for item in items {
-        rule = draft.add_checked(alloc, labels, known, item)?.min(rule);
+        rule = draft.check_and_add_item(alloc, labels, known, item)?.min(rule);
     }
     Ok(rule)
 }

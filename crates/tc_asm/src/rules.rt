@@ -29,7 +29,7 @@ impl<'a> Draft<'a> {
 
     /// Returns rule 8 if the draft has no current section, which labels, instructions and data
     /// need, else no rule.
-    pub(crate) fn section_rule(&self) -> u8
+    pub(crate) fn rule_broken_before_section(&self) -> u8
         ensures { result ≡ section_rule self.now }
     {
         if self.has_current_section() {
@@ -47,7 +47,7 @@ impl<'a> Draft<'a> {
     }
 
     /// Returns rule 13 if a symbol of this name would be the draft's 65,536th, else no rule.
-    pub(crate) fn symbol_limit_rule(&self, name: &[u8]) -> u8
+    pub(crate) fn rule_broken_by_symbol_count(&self, name: &[u8]) -> u8
         ensures { result ≡ symbol_limit_rule self.now name.now }
     {
         if self.has_symbol_room() || self.symbols.get(name).is_some() {
@@ -59,7 +59,7 @@ impl<'a> Draft<'a> {
 
     /// Returns rule 13 if the relocation that this reference needs would be the draft's 65,536th,
     /// else no rule.
-    pub(crate) fn reloc_limit_rule(&self, r: Reference<'a>) -> u8
+    pub(crate) fn rule_broken_by_reloc_count(&self, r: Reference<'a>) -> u8
         ensures { result ≡ reloc_limit_rule self.now (reference_of r.entry) }
     {
         if is_relocation_kind(r.kind) && self.count >= MOST_RELOCS {
@@ -71,7 +71,7 @@ impl<'a> Draft<'a> {
 
     /// Returns rule 13 if `n` more bytes would exceed the 16,777,216 bytes of all sections of a
     /// draft, else no rule.
-    pub(crate) fn byte_limit_rule(&self, n: usize) -> u8
+    pub(crate) fn rule_broken_by_byte_count(&self, n: usize) -> u8
         ensures { result ≡ byte_limit_rule self.now n }
     {
         if self.has_room(n) {
@@ -82,15 +82,15 @@ impl<'a> Draft<'a> {
     }
 
     /// The least rule that `size` bytes and their symbol break.
-    pub(crate) fn content_rule(&self, size: usize, r: &Option<Reference<'a>>) -> u8
+    pub(crate) fn rule_broken_by_content(&self, size: usize, r: &Option<Reference<'a>>) -> u8
         ensures { result ≡ content_rule self.now size (reference_if_any r.now) }
     {
-        let room = self.byte_limit_rule(size).min(self.reference_rule(r));
-        self.section_rule().min(room)
+        let room = self.rule_broken_by_byte_count(size).min(self.rule_broken_by_reference(r));
+        self.rule_broken_before_section().min(room)
     }
 
     /// Returns rule 9 if these bytes are no name that a source may use, else no rule.
-    pub(crate) fn name_rule(name: &[u8]) -> u8
+    pub(crate) fn rule_broken_by_name(name: &[u8]) -> u8
         ensures { result ≡ name_rule name.now }
     {
         if is_source_name(name) {
@@ -101,7 +101,7 @@ impl<'a> Draft<'a> {
     }
 
     /// Returns rule 14 if no label of the source defines this global name, else no rule.
-    pub(crate) fn undefined_global_rule(labels: &Symbols<'a>, name: &[u8]) -> u8
+    pub(crate) fn rule_broken_by_undefined_global(labels: &Symbols<'a>, name: &[u8]) -> u8
         ensures { result ≡ undefined_global_rule labels.now name.now }
     {
         if labels.place(name).is_some() {
@@ -114,53 +114,53 @@ impl<'a> Draft<'a> {
     /// The least rule that an item breaks after this draft, or no rule. `labels` are the symbols of
     /// the whole source.
     #[tactic(auto, unfolding(crate::specs::Rules::item_rule))]
-    pub(crate) fn item_rule(&self, labels: &Symbols<'a>, item: &Item<'a>) -> u8
+    pub(crate) fn rule_broken_by_item(&self, labels: &Symbols<'a>, item: &Item<'a>) -> u8
         ensures { result ≡ item_rule labels.now self.now (item_of item.now) }
     {
         match item {
             Item::Label(name) => {
-                let stands = self.label_rule(*name).min(self.section_rule());
-                stands.min(Self::name_rule(*name).min(self.symbol_limit_rule(*name)))
+                let stands = self.rule_broken_by_label(*name).min(self.rule_broken_before_section());
+                stands.min(Self::rule_broken_by_name(*name).min(self.rule_broken_by_symbol_count(*name)))
             }
-            Item::Section(name) => Self::name_rule(*name).min(self.section_limit_rule(*name)),
+            Item::Section(name) => Self::rule_broken_by_name(*name).min(self.rule_broken_by_section_count(*name)),
             Item::Global(name) => {
                 let room = self
-                    .symbol_limit_rule(*name)
-                    .min(Self::undefined_global_rule(labels, *name));
-                Self::name_rule(*name).min(room)
+                    .rule_broken_by_symbol_count(*name)
+                    .min(Self::rule_broken_by_undefined_global(labels, *name));
+                Self::rule_broken_by_name(*name).min(room)
             }
-            Item::Code(row, fields) => self.code_rule(labels, *row, fields, &None),
+            Item::Code(row, fields) => self.rule_broken_by_code(labels, *row, fields, &None),
             Item::Linked(row, kind, minus, fields, size, name) => {
                 let r = Some(reference_to(*kind, *name, *minus, *size));
-                self.code_rule(labels, *row, fields, &r)
+                self.rule_broken_by_code(labels, *row, fields, &r)
             }
-            Item::Data(len, bytes) => self.content_rule(
+            Item::Data(len, bytes) => self.rule_broken_by_content(
                 first_assembled_bytes(bytes, *len).len(),
                 &None,
             ),
             Item::Word(len, minus, size, name) => {
                 let r = Some(reference_to(WORD32, *name, *minus, *size));
-                self.content_rule(first_assembled_bytes(&[0; 4], *len).len(), &r)
+                self.rule_broken_by_content(first_assembled_bytes(&[0; 4], *len).len(), &r)
             }
-            Item::Zeros(n) => self.section_rule().min(self.byte_limit_rule(*n as usize)),
+            Item::Zeros(n) => self.rule_broken_before_section().min(self.rule_broken_by_byte_count(*n as usize)),
         }
     }
 
     // Returns rule 13 if the draft has no room for the symbol of a reference or for its relocation,
     // else no rule.
-    fn reference_rule(&self, r: &Option<Reference<'a>>) -> u8
+    fn rule_broken_by_reference(&self, r: &Option<Reference<'a>>) -> u8
         ensures { result ≡ reference_rule self.now (reference_if_any r.now) }
     {
         match r {
             None => NO_RULE,
             Some(r) => self
-                .symbol_limit_rule(r.name)
-                .min(self.reloc_limit_rule(*r)),
+                .rule_broken_by_symbol_count(r.name)
+                .min(self.rule_broken_by_reloc_count(*r)),
         }
     }
 
     // Returns rule 7 if the draft has a label of this name already, else no rule.
-    fn label_rule(&self, name: &[u8]) -> u8
+    fn rule_broken_by_label(&self, name: &[u8]) -> u8
         ensures { result ≡ label_rule self.now name.now }
     {
         if self.symbols.place(name).is_some() {
@@ -171,7 +171,7 @@ impl<'a> Draft<'a> {
     }
 
     // Returns rule 13 if a section of this name would be the draft's 65th, else no rule.
-    fn section_limit_rule(&self, name: &[u8]) -> u8
+    fn rule_broken_by_section_count(&self, name: &[u8]) -> u8
         ensures { result ≡ section_limit_rule self.now name.now }
     {
         let known = section_number(&self.parts, name) < self.parts.len();
@@ -186,7 +186,7 @@ impl<'a> Draft<'a> {
     // symbols of the whole source.
     #[inline(never)]
     #[tactic(auto, unfolding(crate::specs::Rules::item_rule))]
-    fn code_rule(
+    fn rule_broken_by_code(
         &self,
         labels: &Symbols<'a>,
         row: u8,
@@ -199,6 +199,6 @@ impl<'a> Draft<'a> {
         let target = self.resolve_instruction(labels, row, fields, r).rule;
         let code = self.code_bytes(labels, row, fields, r);
         let len = first_assembled_bytes(&code.bytes, code.len).len();
-        target.min(self.content_rule(len, r))
+        target.min(self.rule_broken_by_content(len, r))
     }
 }

@@ -19,7 +19,7 @@ ghost use Rattle.tc_disasm.specs.Lexed.{IsTokenEnd, listing_tokens};
 ghost use Rattle.tc_disasm.specs.Assembled.{ListingLaw};
 
 /// The numbers, addresses and registers of a listing are read as the values that were printed.
-pub fn number_laws()
+pub fn numbers_read_back()
     ensures decimals { (n : ℕ) → n < 2 ^ 64 → token_number (decimal n) ≡ Some n }
     ensures addresses { (x : ℕ) → x < 2 ^ 32 → token_number (hex_literal x) ≡ Some x }
     ensures registers { (bank : Bool) (n : ℕ) → n < 16
@@ -28,7 +28,7 @@ pub fn number_laws()
 
 /// A word or decimal number at the start of a text is its first token, and the tokens of the rest
 /// follow.
-pub fn token_laws()
+pub fn tokens_read_back()
     ensures words { (c : ℕ) (cs rest : List ℕ) → is_name_start c ≡ true
         → list_all is_name_byte (c ∷ cs) ≡ true
         → IsTokenEnd rest → token_front_of ((c ∷ cs) ++ rest)
@@ -44,7 +44,7 @@ pub fn token_laws()
 
 /// An instruction's name and its printed operands are a statement of that instruction: its row and
 /// its fields, with no symbol, and no rule broken.
-pub fn statement_law()
+pub fn statements_read_back()
     ensures { (i : InstData) (is : IsInst i)
         → statement is.row.name (printed_operands is.row (inst_fields i))
         ≡ Ok (i.row, record zero_fields { fields = inst_fields i }) }
@@ -52,6 +52,6 @@ pub fn statement_law()
 
 /// The listing of an image can be assembled: it is short enough for `assemble`, and no line breaks
 /// a rule. The sections of its object are the image's segments in ascending order of addresses.
-pub fn listing_law()
+pub fn listings_read_back()
     ensures { ListingLaw }
 {}

@@ -11,5 +11,5 @@ mod reassembling;
 mod texts;
 
 pub use images::listing;
-pub use laws::{listing_law, number_laws, statement_law, token_laws};
+pub use laws::{listings_read_back, numbers_read_back, statements_read_back, tokens_read_back};
 pub use reassembling::reassemble;

@@ -6,7 +6,7 @@ ghost use Rattle.tc_disasm.specs.Listing.{two_byte_comment, four_byte_comment, i
 ghost use Rattle.tc_disasm.specs.Texts.{data_text};
 
 use crate::instructions::append_instruction;
-use crate::texts::append_listing_address;
+use crate::texts::append_comment_start;
 use tc_encode::decode;
 use tcd_base::NoMemory;
 use tcd_text::{append_ascii, append_hex_byte, append_str, hex_byte, hex_word};
@@ -41,12 +41,12 @@ fn append_line_at(
     ensures some { IfOk result (λ n. 0 < n) }
     ensures within { IfOk result (λ n. at + n ≤ length bytes.now) }
 {
-    append_line(text, address + at as u32, &bytes[at..])
+    append_first_line(text, address + at as u32, &bytes[at..])
 }
 
 // Appends the line of the first instruction or data, and returns its size in bytes.
 #[tactic(auto, unfolding(crate::specs::Listing::listing_line_at))]
-fn append_line(text: &mut String, address: u32, bytes: &[u8]) -> Result<usize, NoMemory>
+fn append_first_line(text: &mut String, address: u32, bytes: &[u8]) -> Result<usize, NoMemory>
     requires { 0 < length bytes.now }
     ensures text { OnOk result
         (string_bytes text.new ≡ string_bytes text.old ++ listing_line_at address bytes.now) }
@@ -158,7 +158,7 @@ fn append_long_comment(text: &mut String, address: u32, bytes: &[u8]) -> Result<
     ensures { OnOk result
         (string_bytes text.new ≡ string_bytes text.old ++ listing_comment address bytes.now) }
 {
-    append_listing_address(text, address)?;
+    append_comment_start(text, address)?;
     append_hex_bytes(text, bytes)?;
     append_str(text, "\n")
 }

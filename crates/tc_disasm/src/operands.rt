@@ -52,7 +52,7 @@ pub(crate) fn append_operands(
     if let Some((first, others)) = wants.split_first() {
         append_str(text, " ")?;
         append_operand(text, form, f, *first)?;
-        append_other_operands(text, form, f, others)?;
+        append_further_operands(text, form, f, others)?;
     }
     Ok(())
 }
@@ -194,7 +194,7 @@ fn code_operand_address(f: &Fields) -> u32
 }
 
 /// Appends the texts of all operands after the first one, each after a comma and a blank.
-fn append_other_operands(
+fn append_further_operands(
     text: &mut String,
     form: Form,
     f: &Fields,
@@ -206,13 +206,13 @@ fn append_other_operands(
         ≡ string_bytes text.old ++ further_operands_text form f.now wants.now) }
 {
     for want in wants {
-        append_next(text, form, f, *want)?;
+        append_further_operand(text, form, f, *want)?;
     }
     Ok(())
 }
 
 // Appends a comma, a blank and the text of a further operand to a listing.
-fn append_next(text: &mut String, form: Form, f: &Fields, want: Want) -> Result<(), NoMemory>
+fn append_further_operand(text: &mut String, form: Form, f: &Fields, want: Want) -> Result<(), NoMemory>
     requires { AreFieldsBelow f.now (field_bounds form) }
     ensures { OnOk result
         (string_bytes text.new

@@ -9,7 +9,7 @@ ghost use Rattle.tc_encode.specs.WordSearch.{IsWordOf, RowLacksWord};
 use crate::completions::completion;
 use crate::errors::DecodeErr;
 use crate::forms::{fields_of_word, word_of_fields};
-use crate::word_search::find_by_word;
+use crate::word_search::instruction_of_word;
 use tc_isa::{Form, Inst, Row, inst};
 
 /// Returns the instruction that the bytes begin with, and its length in bytes. If there is none,
@@ -47,7 +47,7 @@ pub(crate) fn decode_row_word(place: u8, row: &Row, w: u32) -> Option<Inst>
 }
 
 /// Returns the length of an instruction whose first byte is this one: 4 bytes if it is odd, else 2.
-pub(crate) fn decoded_length(first: u8) -> u8
+pub(crate) fn instruction_length(first: u8) -> u8
     ensures { result ≡ decoded_length first }
 {
     if first % 2 == 1 { 4 } else { 2 }
@@ -119,7 +119,7 @@ fn decode_four_bytes(a: u8, b: u8, c: u8, d: u8) -> Result<(Inst, usize), Decode
     requires { a % 2 ≡ 1 }
     ensures { (rest : List ℕ) → decoded_of (a ∷ b ∷ c ∷ d ∷ rest) ≡ result }
 {
-    match find_by_word(u32::from_le_bytes([a, b, c, d])) {
+    match instruction_of_word(u32::from_le_bytes([a, b, c, d])) {
         Some(found) => Ok((found, 4)),
         None => Err(DecodeErr::NotListed),
     }
@@ -130,7 +130,7 @@ fn decode_two_bytes(a: u8, b: u8) -> Result<(Inst, usize), DecodeErr>
     requires { a % 2 ≡ 0 }
     ensures { (rest : List ℕ) → decoded_of (a ∷ b ∷ rest) ≡ result }
 {
-    match find_by_word(u32::from(a) + u32::from(b) * 256) {
+    match instruction_of_word(u32::from(a) + u32::from(b) * 256) {
         Some(found) => Ok((found, 2)),
         None => Err(DecodeErr::NotListed),
     }

@@ -2,7 +2,7 @@
 ghost use Rattle.std.specs.Prelude.{◌≡◌, length, take, drop, All};
 ghost use Rattle.tc_isa.specs.Spelling.{Spells, instruction_bytes};
 
-use crate::decoding::decoded_length;
+use crate::decoding::instruction_length;
 use crate::forms::word_of_fields;
 use tc_isa::{Fields, Inst, rows};
 
@@ -29,7 +29,7 @@ pub fn encode(inst: &Inst) -> Code
     };
     let word = word_of_fields(row.form, row.op1, row.op2, &fields);
     Code {
-        len: decoded_length(row.op1),
+        len: instruction_length(row.op1),
         bytes: word.to_le_bytes(),
     }
 }

@@ -121,7 +121,7 @@ pub fn fields_of_word(form: Form, w: u32) -> Fields
 /// Returns the second operation code in the word of an instruction of this form, or 0 if the form
 /// has none.
 #[tactic(auto, unfolding(tc_isa::specs::Forms::second_code_by_form))]
-pub fn second_code(form: Form, w: u32) -> u8
+pub fn second_opcode(form: Form, w: u32) -> u8
     requires { w < 2 ^ 32 }
     ensures { result ≡ second_code_by_form form w }
 {

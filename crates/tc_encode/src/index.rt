@@ -85,7 +85,7 @@ static PLACES: [u8; PLACE_COUNT] = [
 
 /// Returns the index of rows by codes: a base for each first byte, and a list with the row's number
 /// at base plus second code.
-pub fn index_by_codes() -> (&'static [u16; 256], &'static [u8; PLACE_COUNT])
+pub fn index_by_opcodes() -> (&'static [u16; 256], &'static [u8; PLACE_COUNT])
     ensures bases { length result.0.now ≡ 256 }
     ensures places { length result.1.now ≡ PLACE_COUNT }
     ensures all { IndexesRowsByOpcodes result.0.now result.1.now }
@@ -242,7 +242,7 @@ static PLAIN: [bool; ROW_COUNT] = [
 
 /// Returns for each row of the table, by number, whether it has all fields of its form.
 #[tactic(auto, unfolding(tc_isa::specs::Forms::field_bounds))]
-pub fn full_rows() -> &'static [bool; ROW_COUNT]
+pub fn has_all_fields_by_row() -> &'static [bool; ROW_COUNT]
     ensures { result.now ≡ map is_full_row table_rows }
 {
     &PLAIN
@@ -250,12 +250,12 @@ pub fn full_rows() -> &'static [bool; ROW_COUNT]
 
 /// Returns the number of the table row with these two operation codes. If no row has them, the
 /// answer is any number or `None`.
-pub(crate) fn row_number_by_codes(first: u8, second: u8) -> Option<u8>
+pub(crate) fn row_number_by_opcodes(first: u8, second: u8) -> Option<u8>
     ensures within { IfSome result (λ p. p < ROW_COUNT) }
     ensures only { (place : ℕ) (r : RowData) → slice_get table_rows place ≡ Some r → r.op1 ≡ first
         → r.op2 ≡ second → result ≡ Some place }
 {
-    let (bases, places) = index_by_codes();
+    let (bases, places) = index_by_opcodes();
     let at = usize::from(bases[usize::from(first)]) + usize::from(second);
     if at < places.len() {
         Some(places[at])

@@ -6,30 +6,30 @@ ghost use Rattle.tc_isa.specs.InBounds.{AreFieldsBelow};
 ghost use Rattle.tc_isa.specs.ValidRowFields.{uses_of, are_unused_fields_zero};
 ghost use Rattle.tc_encode.specs.WordSearch.{EvenWordHas16Bits, IsWordOf, NoInstructionHasWord, RowLacksWord, are_unused_bits_zero};
 
-use crate::forms::{fields_of_word, second_code};
-use crate::index::{form_of_first_byte, full_rows, index_by_codes, row_number_by_codes};
+use crate::forms::{fields_of_word, second_opcode};
+use crate::index::{form_of_first_byte, has_all_fields_by_row, index_by_opcodes, row_number_by_opcodes};
 use tc_isa::{
     Fields, Form, Inst, ROW_COUNT, Row, are_registers_allowed, are_unused_fields_zero, rows,
-    uses_by_row,
+    used_fields_by_row,
 };
 
 /// Returns the instruction of a word, which has 16 bits if its lowest byte is even, or `None`.
-pub fn find_by_word(w: u32) -> Option<Inst>
+pub fn instruction_of_word(w: u32) -> Option<Inst>
     requires { EvenWordHas16Bits w }
     ensures some { IfSome result (IsWordOf w) }
     ensures none { IfNone result (NoInstructionHasWord w) }
 {
     let first = (w % 256) as u8;
-    let second = second_code_by_first_byte(first, w);
-    let Some(place) = row_number_by_codes(first, second) else {
+    let second = second_opcode_by_first_byte(first, w);
+    let Some(place) = row_number_by_opcodes(first, second) else {
         return None;
     };
-    find_word_by_codes(place, first, second, w)
+    instruction_by_opcodes(place, first, second, w)
 }
 
 /// Returns the instruction of the word `w`, which has this row's codes, or `None` if the other bits
 /// of `w` don't fit the row.
-pub(crate) fn find_word_in_row(place: u8, row: &Row, w: u32) -> Option<Inst>
+pub(crate) fn instruction_in_row(place: u8, row: &Row, w: u32) -> Option<Inst>
     requires place { slice_get table_rows place ≡ Some (row_of row.now) }
     requires within { place < ROW_COUNT }
     requires first { row.now.op1 ≡ w % 256 }
@@ -60,7 +60,7 @@ pub(crate) fn find_word_in_row(place: u8, row: &Row, w: u32) -> Option<Inst>
 
 /// Returns the instruction of the word `w` if the row with number `place` has these codes, those of
 /// `w`, and fits; else `None`.
-pub(crate) fn find_word_by_codes(place: u8, first: u8, second: u8, w: u32) -> Option<Inst>
+pub(crate) fn instruction_by_opcodes(place: u8, first: u8, second: u8, w: u32) -> Option<Inst>
     requires place { place < ROW_COUNT }
     requires first { first ≡ w % 256 }
     requires second { (r : RowData) → slice_get table_rows place ≡ Some r → r.op1 ≡ first
@@ -77,16 +77,16 @@ pub(crate) fn find_word_by_codes(place: u8, first: u8, second: u8, w: u32) -> Op
     if row.op2 != second {
         return None;
     }
-    find_word_in_row(place, row, w)
+    instruction_in_row(place, row, w)
 }
 
 /// Returns the second operation code in the word `w`, by the form of the table rows that begin with
 /// this byte.
-fn second_code_by_first_byte(first: u8, w: u32) -> u8
+fn second_opcode_by_first_byte(first: u8, w: u32) -> u8
     ensures { (place : ℕ) (r : RowData) → slice_get table_rows place ≡ Some r → r.op1 ≡ first
         → result ≡ second_code_by_form r.form w }
 {
-    second_code(form_of_first_byte(first), w)
+    second_opcode(form_of_first_byte(first), w)
 }
 
 /// Returns true if the word of the search is 0 in all bits that its form has for no field and no
@@ -110,5 +110,5 @@ fn are_missing_fields_zero(place: u8, row: &Row, f: &Fields) -> bool
     ensures { result ≡ are_unused_fields_zero (uses_of (row_of row.now)) f.now }
 {
     let at = usize::from(place);
-    full_rows()[at] || are_unused_fields_zero(&uses_by_row()[at], f)
+    has_all_fields_by_row()[at] || are_unused_fields_zero(&used_fields_by_row()[at], f)
 }

@@ -6,7 +6,7 @@ ghost use Rattle.tc_isa.specs.Insts.{IsInst};
 ghost use Rattle.tc_isa.specs.NamedInstructions.{instruction};
 
 use crate::bounds::{are_fields_below, field_bounds};
-use crate::row_uses::{are_unused_fields_zero, uses_by_row};
+use crate::row_uses::{are_unused_fields_zero, used_fields_by_row};
 use crate::{Fields, Inst, Row, Uses, rows};
 
 /// The first code of loads with a base and an offset of 10 bits, post-increment among them.
@@ -30,7 +30,7 @@ pub fn inst(row: u8, c: u8, s1: u8, s2: u8, n: u8, k: u32) -> Option<Inst>
         return None;
     }
     let fields = Fields { c, s1, s2, n, k };
-    if !fields_fit_row(&rows[place], &uses_by_row()[place], &fields) {
+    if !fields_fit_row(&rows[place], &used_fields_by_row()[place], &fields) {
         return None;
     }
     Some(Inst {

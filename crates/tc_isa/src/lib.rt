@@ -25,7 +25,7 @@ pub use fitting_fields::{are_registers_allowed, inst};
 pub use halves::{adjusted_upper_half, lower_half};
 pub use instruction::Inst;
 pub use relocation_kinds::{ABS24, HI16, LO16, OFFSET16, REL15, REL24, WORD32};
-pub use row_uses::{are_unused_fields_zero, uses_by_row};
+pub use row_uses::{are_unused_fields_zero, used_fields_by_row};
 pub use shape_of_instruction::{shape, shape_laws};
 pub use shapes::{Arg, Cond, Op, Shape, Target};
 pub use table::{Form, ROW_COUNT, Row, rows};

@@ -247,7 +247,7 @@ static USES: [Uses; ROW_COUNT] = [
 ];
 
 /// Returns for each row of the table, in order, which fields its instructions have.
-pub fn uses_by_row() -> &'static [Uses]
+pub fn used_fields_by_row() -> &'static [Uses]
     ensures { result.now ≡ map uses_of table_rows }
 {
     &USES

@@ -35,7 +35,7 @@ pub fn shape_laws()
 
 /// Returns the word of a constant in what an instruction does (its shape), from its fields by the
 /// meaning of its row.
-pub(crate) fn shape_constant(constant: Immediate, f: &Fields) -> u32
+pub(crate) fn constant_from_fields(constant: Immediate, f: &Fields) -> u32
     ensures { result ≡ shape_constant constant f.now }
 {
     match constant {
@@ -60,43 +60,43 @@ fn shape_from_fields(meaning: &Meaning, f: &Fields) -> Shape
     match *meaning {
         Meaning::Computes(op, dst, x, y) => Shape::Compute {
             op,
-            dst: shape_register(dst, f),
-            x: shape_operand(x, f),
-            y: shape_operand(y, f),
+            dst: register_from_fields(dst, f),
+            x: operand_from_fields(x, f),
+            y: operand_from_fields(y, f),
         },
         Meaning::Scales(dst, base, index) => Shape::Scaled {
-            dst: shape_register(dst, f),
-            base: shape_register(base, f),
-            index: shape_register(index, f),
+            dst: register_from_fields(dst, f),
+            base: register_from_fields(base, f),
+            index: register_from_fields(index, f),
             n: f.n,
         },
         Meaning::Loads(dst, base, offset, size, signed, after) => Shape::Load {
-            dst: shape_register(dst, f),
-            base: shape_operand(base, f),
-            offset: shape_constant(offset, f),
+            dst: register_from_fields(dst, f),
+            base: operand_from_fields(base, f),
+            offset: constant_from_fields(offset, f),
             size,
             signed,
             after,
         },
         Meaning::Stores(src, base, offset, size, after) => Shape::Store {
-            src: shape_register(src, f),
-            base: shape_operand(base, f),
-            offset: shape_constant(offset, f),
+            src: register_from_fields(src, f),
+            base: operand_from_fields(base, f),
+            offset: constant_from_fields(offset, f),
             size,
             after,
         },
         Meaning::Branches(cond, x, y, by, lowers) => Shape::Branch {
             cond,
-            x: shape_register(x, f),
-            y: shape_operand(y, f),
-            by: shape_distance(by, f),
+            x: register_from_fields(x, f),
+            y: operand_from_fields(y, f),
+            by: distance_from_fields(by, f),
             lowers,
         },
         Meaning::Jumps(to) => Shape::Jump {
-            to: shape_target(to, f),
+            to: target_from_fields(to, f),
         },
         Meaning::Calls(to) => Shape::Call {
-            to: shape_target(to, f),
+            to: target_from_fields(to, f),
         },
         Meaning::Masks => Shape::Bisr {
             c: (f.k % 256) as u8,
@@ -105,11 +105,11 @@ fn shape_from_fields(meaning: &Meaning, f: &Fields) -> Shape
             tin: (f.k % 256) as u8,
         },
         Meaning::ReadsCore(dst) => Shape::Mfcr {
-            dst: shape_register(dst, f),
+            dst: register_from_fields(dst, f),
             number: (f.k % 65536) as u16,
         },
         Meaning::WritesCore(src) => Shape::Mtcr {
-            src: shape_register(src, f),
+            src: register_from_fields(src, f),
             number: (f.k % 65536) as u16,
         },
         Meaning::Always(shape) => shape,
@@ -118,7 +118,7 @@ fn shape_from_fields(meaning: &Meaning, f: &Fields) -> Shape
 
 /// Returns the number of a register in what an instruction does (its shape), by the meaning of its
 /// row: that of a field, or a fixed one.
-fn shape_register(place: RegField, f: &Fields) -> u8
+fn register_from_fields(place: RegField, f: &Fields) -> u8
     requires { AreFieldsSmall f.now }
     ensures { result ≡ shape_register place f.now }
 {
@@ -135,18 +135,18 @@ fn shape_register(place: RegField, f: &Fields) -> u8
 }
 
 /// Returns an operand of an instruction's shape: a register, or the word of a constant.
-fn shape_operand(operand: Operand, f: &Fields) -> Arg
+fn operand_from_fields(operand: Operand, f: &Fields) -> Arg
     requires { AreFieldsSmall f.now }
     ensures { result ≡ shape_operand operand f.now }
 {
     match operand {
-        Operand::At(place) => Arg::Reg(shape_register(place, f)),
-        Operand::Of(word) => Arg::Word(shape_constant(word, f)),
+        Operand::At(place) => Arg::Reg(register_from_fields(place, f)),
+        Operand::Of(word) => Arg::Word(constant_from_fields(word, f)),
     }
 }
 
 /// Returns the distance in bytes of a jump or a branch, from its displacement.
-fn shape_distance(distance: Displacement, f: &Fields) -> u32
+fn distance_from_fields(distance: Displacement, f: &Fields) -> u32
     ensures { result ≡ shape_distance distance f.now }
 {
     match distance {
@@ -158,13 +158,13 @@ fn shape_distance(distance: Displacement, f: &Fields) -> u32
 }
 
 /// Returns the target of a jump or a call, from the fields.
-fn shape_target(goal: Destination, f: &Fields) -> Target
+fn target_from_fields(goal: Destination, f: &Fields) -> Target
     requires { AreFieldsSmall f.now }
     ensures { result ≡ shape_target goal f.now }
 {
     match goal {
-        Destination::By(by) => Target::Rel(shape_distance(by, f)),
+        Destination::By(by) => Target::Rel(distance_from_fields(by, f)),
         Destination::Code => Target::Abs(f.k / 1_048_576 % 16 * 268_435_456 + f.k % 1_048_576 * 2),
-        Destination::In(place) => Target::Reg(shape_register(place, f)),
+        Destination::In(place) => Target::Reg(register_from_fields(place, f)),
     }
 }

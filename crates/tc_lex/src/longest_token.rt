@@ -16,13 +16,13 @@ pub(crate) fn longest_token_at(line: &[u8], at: usize) -> Front
     ensures value { result ≡ token_front_of (drop at line.now) }
     ensures within { IsTokenWithin result (length line.now - at) }
 {
-    token_front_by_byte(line[at], &line[at..])
+    first_token_by_byte(line[at], &line[at..])
 }
 
 // What the rest of a source's line begins with: a token with its length, a blank, the end, or a bad
 // byte. `c` is the first byte of that rest.
 #[tactic(auto, unfolding(crate::specs::Cut::token_front_by_byte))]
-fn token_front_by_byte(c: u8, text: &[u8]) -> Front
+fn first_token_by_byte(c: u8, text: &[u8]) -> Front
     requires some { 0 < length text.now }
     requires first { c ≡ slice_index text.now 0 }
     ensures value { result ≡ token_front_by_byte c text.now }

@@ -33,14 +33,14 @@ fn number_by_digits(base: u8, text: &[u8]) -> Option<u128>
 {
     let mut so_far = Some(0);
     for c in text {
-        so_far = add_digit(base, so_far, *c);
+        so_far = append_digit(base, so_far, *c);
     }
     so_far
 }
 
 /// The number of a token with one more digit c, in base 10 or 16; `None` if 2^128 or more.
 #[tactic(auto, unfolding(crate::specs::Numbers::add_digit), using(crate::proofs::SmallTimes::small_times))]
-fn add_digit(base: u8, so_far: Option<u128>, c: u8) -> Option<u128>
+fn append_digit(base: u8, so_far: Option<u128>, c: u8) -> Option<u128>
     ensures { result ≡ add_digit base so_far c }
 {
     match so_far {
@@ -49,7 +49,7 @@ fn add_digit(base: u8, so_far: Option<u128>, c: u8) -> Option<u128>
             if n < 0x1_0000_0000_0000_0000 {
                 Some(n * u128::from(base) + u128::from(token_digit_value(c)))
             } else {
-                add_digit_to_large_number(base, n, c)
+                append_digit_to_large_number(base, n, c)
             }
         }
     }
@@ -72,7 +72,7 @@ fn token_digit_value(c: u8) -> u8
 // The number n, of 2^64 or more, with one more digit c; `None` if 2^128 or more.
 #[inline(never)]
 #[tactic(auto, unfolding(crate::specs::Numbers::add_digit))]
-fn add_digit_to_large_number(base: u8, n: u128, c: u8) -> Option<u128>
+fn append_digit_to_large_number(base: u8, n: u128, c: u8) -> Option<u128>
     ensures { result ≡ add_digit base (Some n) c }
 {
     match n.checked_mul(u128::from(base)) {

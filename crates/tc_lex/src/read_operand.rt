@@ -10,7 +10,7 @@ use crate::operand::{Operand, Shape, Value};
 use crate::pieces::{Piece, is_token_kind, token_text};
 use crate::same_bytes::is_same_text;
 use crate::scratch::Scratch;
-use crate::split_operands::operands;
+use crate::split_operands::operands_into;
 
 /// Reads the operand that these tokens spell, and adds the operand to the list. Each arm of one
 /// token builds the operand in the list, so that its 80 bytes aren't copied.

@@ -10,7 +10,7 @@ use crate::read_operand::read_operand_into;
 use crate::scratch::Scratch;
 
 /// Replaces the contents of `out` by the operands that these tokens spell.
-pub fn operands<'a>(ps: &[Piece<'a>], out: &mut Scratch<Operand<'a>, 65>)
+pub fn operands_into<'a>(ps: &[Piece<'a>], out: &mut Scratch<Operand<'a>, 65>)
     requires { length ps.now ≤ 64 }
     ensures { map operand_of out.new.items ≡ operands (map piece_of ps.now) }
 {

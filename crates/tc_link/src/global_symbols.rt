@@ -27,14 +27,14 @@ pub(crate) fn globals_by_name<'a>(
 }
 
 /// Returns true if no global symbol has the name. `names` is the map of global symbols.
-pub(crate) fn has_no_global(names: &HashMap<&str, Definition>, name: &str) -> bool
+pub(crate) fn has_no_definition(names: &HashMap<&str, Definition>, name: &str) -> bool
     ensures { (n : ℕ) → HasCountedDefinitions names.now name.now n → result ≡ (n == 0) }
 {
     !names.contains_key(name)
 }
 
 /// Returns true if several global symbols have the name. `names` is the map of global symbols.
-pub(crate) fn has_several_globals(names: &HashMap<&str, Definition>, name: &str) -> bool
+pub(crate) fn has_multiple_definitions(names: &HashMap<&str, Definition>, name: &str) -> bool
     ensures { (n : ℕ) → HasCountedDefinitions names.now name.now n → result ≡ nat_lt 1 n }
 {
     match names.get(name) {

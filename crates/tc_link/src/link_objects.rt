@@ -10,9 +10,9 @@ use crate::addresses::global_symbol_address;
 use crate::global_symbols::globals_by_name;
 use crate::placed::place_objects;
 use crate::relocated_sections::all_relocated_sections;
-use crate::section_checks::check_places;
+use crate::section_checks::check_section_places;
 use crate::segments::segments_of;
-use crate::symbol_checks::{check_missing_symbols, check_repeated_symbols};
+use crate::symbol_checks::{check_missing_symbols, check_duplicate_symbols};
 use crate::{Layout, LinkErr};
 use elf_image::{Image, establish_segment_bytes};
 use std::alloc::Global;
@@ -29,9 +29,9 @@ pub fn link_borrowed(
     ensures err { IfErr result (IsRefusalOf (image_of_objects objects.now layout.now)) }
 {
     let names = globals_by_name(alloc, objects)?;
-    check_repeated_symbols(alloc, &names, objects)?;
+    check_duplicate_symbols(alloc, &names, objects)?;
     check_missing_symbols(alloc, &names, objects)?;
-    check_places(alloc, &layout.places, objects)?;
+    check_section_places(alloc, &layout.places, objects)?;
     let placed = place_objects(alloc, &layout.places, objects)?;
     let contents = all_relocated_sections(alloc, &names, &placed)?;
     let Some(entry) = global_symbol_address(&names, &placed, layout.entry.as_str()) else {

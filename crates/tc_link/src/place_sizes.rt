@@ -35,7 +35,7 @@ pub(crate) fn add_section_size(places: &[Place], sizes: &mut [u64], section: &Se
 
 // Whether a place has fewer bytes than its used ones, `sizes`, or all use more than 2^24 bytes.
 #[tactic(auto, unfolding(crate::specs::PlaceSizes::are_places_overfull, crate::specs::PlaceSizes::total_used_size))]
-pub(crate) fn are_places_overfull(places: &[Place], sizes: &[u64]) -> bool
+pub(crate) fn has_region_overflow(places: &[Place], sizes: &[u64]) -> bool
     requires count { length sizes.now ≡ length places.now }
     requires few { length places.now ≤ 64 }
     ensures over { (before : List SectionData) → AreTaken places.now before sizes.now

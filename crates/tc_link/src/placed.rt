@@ -7,7 +7,7 @@ ghost use Rattle.tc_link.specs.PlaceSizes.{AreTaken, AreUsedSizesAfter, AreSmall
 ghost use Rattle.tc_link.specs.Errors.{IsRefusal, IsNoRoomAfterUsedBytes};
 
 use crate::layouts::find_place;
-use crate::place_sizes::{add_section_size, are_places_overfull, next_multiple_of_4};
+use crate::place_sizes::{add_section_size, has_region_overflow, next_multiple_of_4};
 use crate::{LinkErr, Place};
 use std::alloc::Global;
 use std::marker::Model;
@@ -92,7 +92,7 @@ pub(crate) fn place_sections(
     for section in sections {
         bases.push(section_base(places, sizes, section))?;
         add_section_size(places, sizes, section);
-        if are_places_overfull(places, sizes) {
+        if has_region_overflow(places, sizes) {
             return Err(LinkErr::NoRoom(String::from_str(alloc, section.name)?));
         }
     }

@@ -13,7 +13,7 @@ use crate::LinkErr;
 use crate::addresses::{address_in_section, symbol_address_at, symbol_addresses};
 use crate::definitions::Definition;
 use crate::placed::Placed;
-use crate::written_sections::{WrittenSection, append_written_sections, copies_of_sections};
+use crate::written_sections::{WrittenSection, append_relocated_sections, copies_of_sections};
 use std::alloc::Global;
 use std::collections::HashMap;
 use tc_object::Reloc;
@@ -37,7 +37,7 @@ pub(crate) fn all_relocated_sections<'a>(
     let mut contents = Vec::new(alloc);
     for (number, each) in placed.iter().enumerate() {
         let sections = relocate_object(alloc, names, placed, number as u32, each)?;
-        append_written_sections(&mut contents, sections)?;
+        append_relocated_sections(&mut contents, sections)?;
     }
     Ok(contents)
 }
@@ -69,13 +69,13 @@ fn relocate_object<'a>(
     let object = each.object;
     let addresses = symbol_addresses(alloc, names, placed, each)?;
     let mut sections = copies_of_sections(alloc, &object.sections)?;
-    write_all_relocs(&addresses, number, each, &mut sections)?;
+    apply_relocs(&addresses, number, each, &mut sections)?;
     Ok(sections)
 }
 
 // Writes all relocations of object `number` into its sections, or returns the first refused.
 #[inline(never)]
-fn write_all_relocs(
+fn apply_relocs(
     addresses: &[u32],
     number: u32,
     placed: &Placed<'_, '_>,
@@ -88,7 +88,7 @@ fn write_all_relocs(
 {
     let object = placed.object;
     for reloc in &object.relocs {
-        if let Err(err) = write_reloc_in_object(addresses, placed, reloc, sections) {
+        if let Err(err) = apply_reloc(addresses, placed, reloc, sections) {
             return Err(LinkErr::Reloc {
                 object: number,
                 section: u32::from(reloc.section),
@@ -101,7 +101,7 @@ fn write_all_relocs(
 }
 
 // Writes a relocation into its section, one of these. `addresses` are those of the symbols.
-fn write_reloc_in_object(
+fn apply_reloc(
     addresses: &[u32],
     placed: &Placed<'_, '_>,
     reloc: &Reloc,
@@ -121,11 +121,11 @@ fn write_reloc_in_object(
 {
     let place = address_in_section(&placed.bases, reloc.section, reloc.offset);
     let value = reloc_value(addresses, reloc);
-    write_reloc_in_section(&mut sections[reloc.section as usize], reloc, place, value)
+    apply_reloc_to_section(&mut sections[reloc.section as usize], reloc, place, value)
 }
 
 // Fills the field of a relocation, at address `place`, in its section, with the value.
-fn write_reloc_in_section(
+fn apply_reloc_to_section(
     section: &mut WrittenSection<'_>,
     reloc: &Reloc,
     place: u32,

@@ -8,13 +8,13 @@ ghost use Rattle.tc_link.specs.Errors.{IsRefusal};
 ghost use Rattle.tc_link.specs.declared.errors.LinkErr.TheVariants.{NoMemory};
 
 use crate::layouts::has_place_for;
-use crate::symbol_checks::set_check_mark;
+use crate::symbol_checks::set_flag;
 use crate::{LinkErr, Place};
 use std::alloc::Global;
 use tc_object::{ObjectRef, SectionRef, UNDEFINED_SYMBOL};
 
 /// Checks that each section with bytes, or with a symbol, has a place.
-pub(crate) fn check_places(
+pub(crate) fn check_section_places(
     alloc: Global,
     places: &[Place],
     objects: &[ObjectRef<'_>],
@@ -23,7 +23,7 @@ pub(crate) fn check_places(
     ensures err { IfErr result (IsRefusal (first_no_place_refusal places.now objects.now)) }
 {
     for object in objects {
-        let held = section_symbol_marks(alloc, object)?;
+        let held = section_has_symbol_flags(alloc, object)?;
         if let Some(name) = first_unplaced_section(places, &held, &object.sections) {
             return Err(LinkErr::NoPlace(String::from_str(alloc, name)?));
         }
@@ -32,7 +32,7 @@ pub(crate) fn check_places(
 }
 
 // For each section of an object, true if a symbol is defined there.
-fn section_symbol_marks(alloc: Global, object: &ObjectRef<'_>) -> Result<Vec<bool>, LinkErr>
+fn section_has_symbol_flags(alloc: Global, object: &ObjectRef<'_>) -> Result<Vec<bool>, LinkErr>
     ensures held { IfOk result (λ held. AreFlagsOf held.items (length object.now.sections)
         (has_symbol_in_section object.now.symbols)) }
     ensures count { IfOk result (λ held. length held.items ≡ length object.now.sections) }
@@ -41,7 +41,7 @@ fn section_symbol_marks(alloc: Global, object: &ObjectRef<'_>) -> Result<Vec<boo
     let mut held = vec![in alloc; false; object.sections.len()]?;
     for symbol in &object.symbols {
         if symbol.kind != UNDEFINED_SYMBOL {
-            set_check_mark(&mut held, symbol.section as usize);
+            set_flag(&mut held, symbol.section as usize);
         }
     }
     Ok(held)

@@ -46,14 +46,14 @@ fn join_sections(
 {
     let mut bytes = Vec::new(alloc);
     for section in sections {
-        add_section(&mut bytes, name, section)?;
+        append_section_of_name(&mut bytes, name, section)?;
     }
     Ok(bytes)
 }
 
 /// Appends a section to the bytes of a segment, at the next multiple of 4, if the section has
 /// `name`. Otherwise nothing changes.
-fn add_section(bytes: &mut Vec<u8>, name: &str, section: &WrittenSection<'_>) -> Result<(), LinkErr>
+fn append_section_of_name(bytes: &mut Vec<u8>, name: &str, section: &WrittenSection<'_>) -> Result<(), LinkErr>
     ensures ok { OnOk result (bytes.new.items ≡ with_section name.now bytes.old.items section.now) }
     ensures err { IfErr result (λ e. e ≡ NoMemory) }
 {

@@ -10,13 +10,13 @@ ghost use Rattle.tc_link.specs.declared.errors.LinkErr.TheVariants.{NoMemory};
 
 use crate::LinkErr;
 use crate::definitions::Definition;
-use crate::global_symbols::{has_no_global, has_several_globals};
+use crate::global_symbols::{has_no_definition, has_multiple_definitions};
 use std::alloc::Global;
 use std::collections::HashMap;
 use tc_object::{GLOBAL_SYMBOL, ObjectRef, SymbolRef, UNDEFINED_SYMBOL};
 
 /// Checks that no two objects define the same global symbol.
-pub(crate) fn check_repeated_symbols(
+pub(crate) fn check_duplicate_symbols(
     alloc: Global,
     names: &HashMap<&str, Definition>,
     objects: &[ObjectRef<'_>],
@@ -29,7 +29,7 @@ pub(crate) fn check_repeated_symbols(
         return Ok(());
     }
     for object in objects {
-        if let Some(name) = first_repeated_symbol(names, &object.symbols) {
+        if let Some(name) = first_duplicate_symbol(names, &object.symbols) {
             return Err(LinkErr::Twice(String::from_str(alloc, name)?));
         }
     }
@@ -38,7 +38,7 @@ pub(crate) fn check_repeated_symbols(
 
 /// Sets the mark of this number, if there is one: that of a used symbol in the checks for symbols,
 /// or of a section that has a symbol in those for sections.
-pub(crate) fn set_check_mark(marks: &mut Vec<bool>, number: usize)
+pub(crate) fn set_flag(marks: &mut Vec<bool>, number: usize)
     ensures { marks.new.items ≡ slice_set marks.old.items number true }
 {
     if number < marks.len() {
@@ -57,7 +57,7 @@ pub(crate) fn check_missing_symbols(
     ensures err { IfErr result (IsRefusal (first_missing_symbol_refusal objects.now)) }
 {
     for object in objects {
-        let used = used_symbol_marks(alloc, object)?;
+        let used = symbol_is_used_flags(alloc, object)?;
         if let Some(name) = first_missing_symbol(names, &used, &object.symbols) {
             return Err(LinkErr::Missing(String::from_str(alloc, name)?));
         }
@@ -66,7 +66,7 @@ pub(crate) fn check_missing_symbols(
 }
 
 // The name of the first of these symbols that several objects define.
-fn first_repeated_symbol<'a>(
+fn first_duplicate_symbol<'a>(
     names: &HashMap<&str, Definition>,
     symbols: &[SymbolRef<'a>],
 ) -> Option<&'a str>
@@ -75,7 +75,7 @@ fn first_repeated_symbol<'a>(
         ≡ option_map (λ name. twice name.now) result }
 {
     for symbol in symbols {
-        if is_repeated_symbol(names, symbol) {
+        if is_duplicate_symbol(names, symbol) {
             return Some(symbol.name);
         }
     }
@@ -83,15 +83,15 @@ fn first_repeated_symbol<'a>(
 }
 
 // Whether a symbol is global and several objects define its name.
-fn is_repeated_symbol(names: &HashMap<&str, Definition>, symbol: &SymbolRef<'_>) -> bool
+fn is_duplicate_symbol(names: &HashMap<&str, Definition>, symbol: &SymbolRef<'_>) -> bool
     ensures { (objects : List ObjectData) → KnowsRepeatedGlobals names.now objects → result
         ≡ (is_global symbol.now && nat_lt 1 (count_globals_named objects symbol.now.name)) }
 {
-    symbol.kind == GLOBAL_SYMBOL && has_several_globals(names, symbol.name)
+    symbol.kind == GLOBAL_SYMBOL && has_multiple_definitions(names, symbol.name)
 }
 
 // For each symbol of an object, true if a relocation uses the symbol.
-fn used_symbol_marks(alloc: Global, object: &ObjectRef<'_>) -> Result<Vec<bool>, LinkErr>
+fn symbol_is_used_flags(alloc: Global, object: &ObjectRef<'_>) -> Result<Vec<bool>, LinkErr>
     ensures used { IfOk result (λ used. AreFlagsOf used.items (length object.now.symbols)
         (is_used_by_relocs object.now.relocs)) }
     ensures count { IfOk result (λ used. length used.items ≡ length object.now.symbols) }
@@ -99,7 +99,7 @@ fn used_symbol_marks(alloc: Global, object: &ObjectRef<'_>) -> Result<Vec<bool>,
 {
     let mut used = vec![in alloc; false; object.symbols.len()]?;
     for reloc in &object.relocs {
-        set_check_mark(&mut used, reloc.symbol as usize);
+        set_flag(&mut used, reloc.symbol as usize);
     }
     Ok(used)
 }
@@ -132,5 +132,5 @@ fn is_missing_symbol(names: &HashMap<&str, Definition>, used: bool, symbol: &Sym
         ≡ (symbol.now.kind == undefined_symbol && used
         && count_globals_named objects symbol.now.name == 0) }
 {
-    symbol.kind == UNDEFINED_SYMBOL && used && has_no_global(names, symbol.name)
+    symbol.kind == UNDEFINED_SYMBOL && used && has_no_definition(names, symbol.name)
 }

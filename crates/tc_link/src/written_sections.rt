@@ -23,7 +23,7 @@ impl<'a> Model for WrittenSection<'a> {
 }
 
 // Appends the relocated sections of a further object to those of the earlier ones.
-pub(crate) fn append_written_sections<'a>(
+pub(crate) fn append_relocated_sections<'a>(
     contents: &mut Vec<WrittenSection<'a>>,
     more: Vec<WrittenSection<'a>>,
 ) -> Result<(), LinkErr>

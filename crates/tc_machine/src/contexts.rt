@@ -13,7 +13,7 @@ use tc_mem::Mem;
 
 /// Returns the link in bits 19:0 of FCX, PCXI or another word, for the machine's saves and restores
 /// of contexts.
-pub(crate) fn context_link(word: u32) -> u32
+pub(crate) fn link_in(word: u32) -> u32
     ensures { result ≡ link_in word }
 {
     word % 0x10_0000
@@ -90,7 +90,7 @@ impl Machine {
     pub(crate) fn save(&mut self, upper: bool)
         ensures { self.new ≡ save self.old upper }
     {
-        let free = context_link(self.fcx);
+        let free = link_in(self.fcx);
         if free == 0 {
             self.die(Cause::Fcu);
             return;
@@ -99,7 +99,7 @@ impl Machine {
             self.die(Cause::NoArea);
             return;
         };
-        let limit = context_link(self.lcx);
+        let limit = link_in(self.lcx);
         self.save_to_area(free, words[0], upper);
         if free == limit {
             self.die(Cause::Fcd);
@@ -144,7 +144,7 @@ impl Machine {
         let words = self.words_to_save(upper);
         self.mem.set_area(address_of(free), &words);
         self.pcxi = self.pcxi_after_save(upper, free);
-        self.fcx = self.fcx / 0x10_0000 * 0x10_0000 + context_link(next);
+        self.fcx = self.fcx / 0x10_0000 * 0x10_0000 + link_in(next);
     }
 
     /// Restores the upper registers from the words of the area that PCXI names, and frees the area.

@@ -13,13 +13,13 @@ use tc_mem::Mem;
 
 /// Decodes the instruction that at most four mapped bytes from an address on begin with. Returns
 /// its length in bytes too.
-fn fetch_at_address(mem: &Mem, addr: u32) -> Result<(Inst, usize), DecodeErr>
+fn decode_at_address(mem: &Mem, addr: u32) -> Result<(Inst, usize), DecodeErr>
     ensures decoded { result ≡ decoded_of (mapped_bytes 4 mem.now addr) }
     ensures small { IfOk result (λ found. found.1 ≤ 4) }
 {
     match mem.word(addr) {
         Some(word) => decode_fetched_bytes(&fetched_word_bytes(word)),
-        None => fetch_by_bytes(mem, addr),
+        None => decode_at_address_by_bytes(mem, addr),
     }
 }
 
@@ -52,7 +52,7 @@ fn fetched_word_bytes(word: u32) -> [u8; 4]
 /// Decodes the instruction that at most four mapped bytes from an address on begin with, read byte
 /// by byte. Returns its length in bytes too.
 #[tactic(auto, unfolding(crate::specs::Fetching::mapped_bytes))]
-fn fetch_by_bytes(mem: &Mem, addr: u32) -> Result<(Inst, usize), DecodeErr>
+fn decode_at_address_by_bytes(mem: &Mem, addr: u32) -> Result<(Inst, usize), DecodeErr>
     ensures decoded { result ≡ decoded_of (mapped_bytes 4 mem.now addr) }
     ensures small { IfOk result (λ found. found.1 ≤ 4) }
 {
@@ -80,7 +80,7 @@ impl Machine {
         ensures shape { result ≡ shape_at_pc self.now }
         ensures bounded { IfOk result (λ found. IsShape found.0) }
     {
-        match fetch_at_address(&self.mem, self.pc) {
+        match decode_at_address(&self.mem, self.pc) {
             Ok((inst, n)) => Ok((shape(&inst), n as u32)),
             Err(e) => Err(fetch_failure_cause(e)),
         }

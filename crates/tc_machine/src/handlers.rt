@@ -6,7 +6,7 @@ use crate::{End, Machine};
 
 /// Returns PSW in a handler by PSW before: IO is 2, IS is 1, PRS and GW are 0, and the other bits
 /// stay.
-fn psw_of_handler(psw: u32) -> u32
+fn handler_psw(psw: u32) -> u32
     ensures { result ≡ handler_psw psw }
 {
     psw / 0x4000 * 0x4000 + 0xa00 + psw % 0x100
@@ -20,7 +20,7 @@ impl Machine {
     {
         let back = self.pc;
         let entry = self.biv | u32::from(irq) * 32;
-        let stack = self.stack_of_handler();
+        let stack = self.handler_stack_pointer();
         let psw = self.psw;
         self.save(true);
         match self.end {
@@ -38,7 +38,7 @@ impl Machine {
         ensures { self.new ≡ after_trap self.old class tin back }
     {
         let entry = self.btv | u32::from(class) * 32;
-        let stack = self.stack_of_handler();
+        let stack = self.handler_stack_pointer();
         let psw = self.psw;
         self.save(true);
         match self.end {
@@ -52,7 +52,7 @@ impl Machine {
 
     /// Returns the stack pointer that a handler begins with: the interrupt stack's, or A10 if that
     /// stack is in use already.
-    fn stack_of_handler(&self) -> u32
+    fn handler_stack_pointer(&self) -> u32
         ensures { result ≡ handler_stack self.now }
     {
         if self.psw / 0x200 % 2 == 1 {
@@ -74,7 +74,7 @@ impl Machine {
     {
         self.a[11] = back;
         self.a[10] = stack;
-        self.psw = psw_of_handler(psw);
+        self.psw = handler_psw(psw);
         self.ie = false;
         self.pc = entry;
     }

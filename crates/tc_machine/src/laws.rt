@@ -17,7 +17,7 @@ pub fn machine_laws()
 
 /// The guard laws pin the definitions of fitting events and runs, start states, safety and stores:
 /// each concludes from, or gives, plain equations.
-pub fn guard_laws()
+pub fn safety_definition_laws()
     ensures events { EventEquationsSuffice }
     ensures runs { RunEquationsSuffice }
     ensures starts { StartEquationsSuffice }

@@ -7,14 +7,14 @@ ghost use Rattle.tc_machine.specs.Fetching.{shape_at_pc};
 ghost use Rattle.tc_machine.specs.Stepping.{load_of_fetched, next_load_of, used_area_count, step};
 ghost use Rattle.tc_machine.specs.InstructionKinds.{is_area_keeping_shape, is_area_keeping_event};
 
-use crate::contexts::context_link;
+use crate::contexts::link_in;
 use crate::{Cause, End, Event, Machine};
 use csa_chain::address_of;
 use tc_isa::Shape;
 
 /// Returns true if an instruction of this shape never changes the memory or PCXI under this event,
 /// so that the number of the machine's used areas stays as it is.
-fn is_area_keeping_shape(event: &Event, shape: Shape) -> bool
+fn is_area_preserving_shape(event: &Event, shape: Shape) -> bool
     ensures { result ≡ is_area_keeping_shape event.now shape }
 {
     match shape {
@@ -53,7 +53,7 @@ impl Machine {
 
     /// Returns true if the event takes no interrupt and `found`, what the bytes at pc do, never
     /// changes the memory or PCXI. Then the areas in use stay.
-    pub fn keeps_areas(&self, event: &Event, found: &Result<(Shape, u32), Cause>) -> bool
+    pub fn preserves_areas(&self, event: &Event, found: &Result<(Shape, u32), Cause>) -> bool
         requires { found.now ≡ shape_at_pc self.now }
         ensures is { result ≡ is_area_keeping_event self.now event.now found.now }
         ensures kept { OnTrue result
@@ -63,7 +63,7 @@ impl Machine {
             return false;
         }
         match found {
-            Ok((shape, _)) => is_area_keeping_shape(event, *shape),
+            Ok((shape, _)) => is_area_preserving_shape(event, *shape),
             Err(_) => false,
         }
     }
@@ -76,11 +76,11 @@ impl Machine {
         let mut word = self.pcxi;
         let mut count = 0;
         let mut near = 0;
-        while context_link(word) != 0 {
+        while link_in(word) != 0 {
             if count == 4096 {
                 return None;
             }
-            word = self.next_chain_word(word, &mut near)?;
+            word = self.next_link_word(word, &mut near)?;
             count += 1;
         }
         Some(count)
@@ -107,12 +107,12 @@ impl Machine {
     /// Returns word 0 of the area whose link is in `word`, or `None` if the area isn't wholly
     /// mapped. `near` is a hint that speeds up the memory.
     #[tactic(auto, using(crate::proofs::WholeAccesses::first_of_area))]
-    fn next_chain_word(&self, word: u32, near: &mut usize) -> Option<u32>
+    fn next_link_word(&self, word: u32, near: &mut usize) -> Option<u32>
         ensures { result ≡
             (if is_area self.now.mem (link_in word)
             then Some (area_word self.now.mem (link_in word) 0) else None) }
     {
         self.mem
-            .area_first_word(address_of(context_link(word)), near)
+            .area_first_word(address_of(link_in(word)), near)
     }
 }

@@ -14,7 +14,7 @@ use tc_mem::Mem;
 use tcd_base::{NoMemory, Range};
 
 /// Returns the link of the context save area at an address, for the free list of a start state.
-pub(crate) fn start_area_link(at: u32) -> u32
+pub(crate) fn link_of_area_at(at: u32) -> u32
     ensures { result ≡ link_at at }
 {
     at / 0x1000_0000 * 0x1_0000 + at % 0x1000_0000 / 64
@@ -40,7 +40,7 @@ pub(crate) fn start_memory(
     let ranges = start_memory_ranges(alloc, rom, ram, Range { at, len: 64 * n })?;
     let mut mem = Mem::of(alloc, &ranges)?;
     copy_image(&mut mem, image, rom);
-    link_start_areas(&mut mem, at, start_area_link(at), n);
+    link_start_areas(&mut mem, at, link_of_area_at(at), n);
     Ok(mem)
 }
 

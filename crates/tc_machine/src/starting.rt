@@ -2,7 +2,7 @@
 ghost use Rattle.std.specs.Prelude.{◌≡◌, IfOk};
 ghost use Rattle.tc_machine.specs.Starting.{psw_at_start, StartsInZeros};
 
-use crate::start_memory::{start_area_link, start_memory};
+use crate::start_memory::{link_of_area_at, start_memory};
 use crate::{End, Machine};
 use elf_image::Image;
 use std::alloc::Global;
@@ -10,7 +10,7 @@ use tcd_base::NoMemory;
 use tcd_plan::Plan;
 
 /// Returns PSW at the start: IO is 2, IS is `is`, the plan's, and the other bits are 0.
-fn start_psw(is: bool) -> u32
+fn psw_at_start(is: bool) -> u32
     ensures { result ≡ psw_at_start is }
 {
     if is { 0xa00 } else { 0x800 }
@@ -32,7 +32,7 @@ impl Machine {
             csa_at,
             areas,
         )?;
-        let first = start_area_link(csa_at);
+        let first = link_of_area_at(csa_at);
         let globals = plan.globals;
         Ok(Machine {
             pc: image.entry,
@@ -41,7 +41,7 @@ impl Machine {
                 globals[0], globals[1], 0, 0, 0, 0, 0, 0, globals[2], globals[3], plan.sp, 0, 0, 0,
                 0, 0,
             ],
-            psw: start_psw(plan.start_is),
+            psw: psw_at_start(plan.start_is),
             pcxi: 0,
             fcx: first,
             lcx: first + (areas - plan.reserve),

@@ -84,7 +84,7 @@ pub(crate) fn write_page_word(bytes: &mut [u8; 4096], offset: usize, word: u32)
 
 // Returns the 16 words of the 64 bytes from an offset of a page on, or `None` unless all 64 are
 // mapped.
-pub(crate) fn page_area(page: &Page, offset: usize) -> Option<[u32; 16]>
+pub(crate) fn area_in_page(page: &Page, offset: usize) -> Option<[u32; 16]>
     requires aligned { offset % 64 ≡ 0 }
     requires within { offset < 4096 }
     ensures fits { BlockBitsFitWord page.now.mapped offset }
@@ -97,12 +97,12 @@ pub(crate) fn page_area(page: &Page, offset: usize) -> Option<[u32; 16]>
     if page.mapped[offset / 64] != u64::MAX {
         return None;
     }
-    Some(page_area_words(&page.bytes, offset))
+    Some(page_words(&page.bytes, offset))
 }
 
 // Writes 16 words to the 64 bytes from an offset of a page on if all are mapped, and returns
 // whether they are.
-pub(crate) fn write_page_area(page: &mut Page, offset: usize, words: &[u32; 16]) -> bool
+pub(crate) fn write_area_in_page(page: &mut Page, offset: usize, words: &[u32; 16]) -> bool
     requires aligned { offset % 64 ≡ 0 }
     requires within { offset < 4096 }
     ensures fits { BlockBitsFitWord page.old.mapped offset }
@@ -115,14 +115,14 @@ pub(crate) fn write_page_area(page: &mut Page, offset: usize, words: &[u32; 16])
 {
     let mapped = page.mapped[offset / 64] == u64::MAX;
     if mapped {
-        write_page_area_words(&mut page.bytes, offset, words);
+        write_page_words(&mut page.bytes, offset, words);
     }
     mapped
 }
 
 // Returns the first word of the 64 bytes from an offset of a page on, or `None` unless all 64 are
 // mapped.
-pub(crate) fn page_area_first_word(page: &Page, offset: usize) -> Option<u32>
+pub(crate) fn area_first_word_in_page(page: &Page, offset: usize) -> Option<u32>
     requires aligned { offset % 64 ≡ 0 }
     requires within { offset < 4096 }
     ensures fits { BlockBitsFitWord page.now.mapped offset }
@@ -260,7 +260,7 @@ fn is_page_byte_mapped(page: &Page, offset: usize) -> bool
 }
 
 // Returns the 16 words of a page from an offset on, each with its lowest byte first.
-fn page_area_words(bytes: &[u8; 4096], offset: usize) -> [u32; 16]
+fn page_words(bytes: &[u8; 4096], offset: usize) -> [u32; 16]
     requires { offset + 64 ≤ 4096 }
     ensures size { length result ≡ 16 }
     ensures words { (k : ℕ) → k < 16 → slice_index result k
@@ -274,7 +274,7 @@ fn page_area_words(bytes: &[u8; 4096], offset: usize) -> [u32; 16]
 }
 
 // Writes 16 words to a page from an offset on, each with its lowest byte first, mapped or not.
-fn write_page_area_words(bytes: &mut [u8; 4096], offset: usize, words: &[u32; 16])
+fn write_page_words(bytes: &mut [u8; 4096], offset: usize, words: &[u32; 16])
     requires { offset + 64 ≤ 4096 }
     ensures { bytes.new ≡ page_bytes_with_words bytes.old offset words.now }
 {

@@ -10,8 +10,8 @@ ghost use Rattle.tc_mem.specs.PlanMemory.{IsMemoryOfZeros};
 ghost use Rattle.tc_mem.specs.Written.{IsMemoryWritten};
 
 use crate::page::{
-    Page, mapped_page_half, mapped_page_word, new_page, page_area, page_area_first_word,
-    page_byte_at, write_mapped_page_half, write_mapped_page_word, write_page_area, write_page_byte,
+    Page, mapped_page_half, mapped_page_word, new_page, area_in_page, area_first_word_in_page,
+    page_byte_at, write_mapped_page_half, write_mapped_page_word, write_area_in_page, write_page_byte,
     write_page_bytes,
 };
 use crate::page_numbers::{find_page, find_page_near, page_numbers};
@@ -158,7 +158,7 @@ pub(crate) fn read_area_first_word(pages: &[Page], addr: u32, near: &mut usize) 
         return None;
     };
     *near = i;
-    page_area_first_word(&pages[i], (addr % 4096) as usize)
+    area_first_word_in_page(&pages[i], (addr % 4096) as usize)
 }
 
 /// Returns the 16 words of an area, or `None` if one of its 64 bytes isn't mapped. `near` guesses
@@ -172,7 +172,7 @@ pub(crate) fn read_area(pages: &[Page], addr: u32, near: usize) -> Option<[u32; 
     let Some(i) = find_page(pages, addr / 4096, near) else {
         return None;
     };
-    page_area(&pages[i], (addr % 4096) as usize)
+    area_in_page(&pages[i], (addr % 4096) as usize)
 }
 
 /// Writes 16 words to an area, or returns false if one of its 64 bytes isn't mapped. `near` guesses
@@ -189,7 +189,7 @@ pub(crate) fn write_area(pages: &mut [Page], addr: u32, words: &[u32; 16], near:
         return false;
     };
     *near = i;
-    write_page_area(&mut pages[i], (addr % 4096) as usize, words)
+    write_area_in_page(&mut pages[i], (addr % 4096) as usize, words)
 }
 
 /// Returns the pages of a new memory in which these ranges are mapped, all zero, for `Mem::of`.

@@ -10,7 +10,7 @@ ghost use Rattle.tc_object.specs.Used.{is_used_name};
 
 use crate::fields::{is_kind_between, read_kind};
 use crate::section_reader::section_size_at;
-use crate::used_names::{no_used_names, read_new_name};
+use crate::used_names::{empty_used_names, read_new_name};
 use crate::{GLOBAL_SYMBOL, ObjErr, SectionRef, SymbolRef, UNDEFINED_SYMBOL};
 use std::alloc::Global;
 use std::collections::HashMap;
@@ -33,7 +33,7 @@ pub(crate) fn read_symbols<'a>(
     ensures err { IfErr result
         (IsFaultOf (many_fields_at (new_symbol_at sections.now) count [] c.old)) }
 {
-    let mut names = no_used_names(alloc, count)?;
+    let mut names = empty_used_names(alloc, count)?;
     let mut symbols = Vec::with_capacity(alloc, count as usize)?;
     for _i in 0..count {
         let symbol = read_symbol(c, sections, &mut names)?;

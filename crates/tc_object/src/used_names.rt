@@ -12,7 +12,7 @@ use std::collections::HashMap;
 use tcd_base::{BAD_VALUE, FileCursor, form_err_at};
 
 /// An empty map of symbol names, those that an object file has used so far, with room for `count`.
-pub(crate) fn no_used_names<'a>(
+pub(crate) fn empty_used_names<'a>(
     alloc: Global,
     count: u16,
 ) -> Result<HashMap<&'a str, ()>, AllocError>
@@ -38,7 +38,7 @@ pub(crate) fn read_new_name<'a>(
     let count = read_name_length(c)?;
     let start = c.place();
     let name = read_name_bytes(c, count)?;
-    let is_new = add_used_name(names, name)?;
+    let is_new = insert_used_name(names, name)?;
     if !is_new {
         return Err(ObjErr::Bad(form_err_at(BAD_VALUE, start)));
     }
@@ -47,7 +47,7 @@ pub(crate) fn read_new_name<'a>(
 
 /// Adds a name to the used names of an object file's symbols, and returns whether no earlier symbol
 /// has this name.
-fn add_used_name<'a>(
+fn insert_used_name<'a>(
     names: &mut HashMap<&'a str, ()>,
     name: &'a str,
 ) -> Result<bool, AllocFailed<(&'a str, ())>>

@@ -4,7 +4,7 @@ ghost use Rattle.tc_reloc.specs.FillingLaws.{FilledRowFitsLaw, FilledConstantLaw
 /// If the field of a relocation can hold a number, that number fits the constant of each
 /// instruction whose constant the relocation fills. Writing it into the field gives the spelling of
 /// the instruction with that constant.
-pub fn filling_laws()
+pub fn relocation_filling_laws()
     ensures fits { FilledRowFitsLaw }
     ensures written { FilledConstantLaw }
 {}

@@ -7,5 +7,5 @@ mod laws;
 mod refusals;
 
 pub use applying::apply;
-pub use laws::filling_laws;
+pub use laws::relocation_filling_laws;
 pub use refusals::RelocErr;

@@ -60,7 +60,7 @@ pub(crate) fn area_effect_of_event(
 {
     let in_row = used.in_row;
     if !in_row {
-        if m.keeps_areas(event, found) {
+        if m.preserves_areas(event, found) {
             return Effect::Stays;
         }
         return Effect::Unknown;

@@ -15,7 +15,7 @@ mod statements;
 
 pub use driving::{Peak, drive};
 pub use errors::ScriptErr;
-pub use laws::script_laws;
+pub use laws::script_has_one_run;
 pub use numbers::script_number;
 pub use ports::Ports;
 pub use script_runs::drive_by_script;

@@ -10,14 +10,14 @@ ghost use Rattle.tc_stmt.specs.SourceRules.{no_rule, wrong_operands};
 use crate::item::Item;
 use crate::shape_numbers::{HIGH, HUGE, LOW, NUMBER, SUM, WORD};
 use crate::source_rules::{MISPLACED_SYMBOL, NO_RULE, PAST_LIMITS, WIDE_NUMBER, WRONG_OPERANDS};
-use crate::{shape_index, symbol_rule};
+use crate::{shape_index, rule_broken_by_symbol};
 use std::alloc::AllocError;
 use tc_lex::Operand;
 
 /// The least rule that a value of `.byte`, `.half` or `.word` breaks, or no rule. `width` is its
 /// number of bytes.
 #[tactic(auto, unfolding(crate::specs::DataValues::value_rule))]
-pub(crate) fn value_rule(width: u8, o: &Operand<'_>) -> u8
+pub(crate) fn rule_broken_by_value(width: u8, o: &Operand<'_>) -> u8
     requires { IsDataWidth width }
     ensures value { result ≡ value_rule width (operand_of o.now) }
     ensures small { result ≡ no_rule → o.now.value.size < 2 ^ 32 }
@@ -34,14 +34,14 @@ pub(crate) fn value_rule(width: u8, o: &Operand<'_>) -> u8
     } else if shape == HUGE {
         WIDE_NUMBER
     } else if shape == WORD || shape == SUM {
-        let rule = symbol_rule(&o.value);
+        let rule = rule_broken_by_symbol(&o.value);
         if width == 4 {
             rule
         } else {
             rule.min(MISPLACED_SYMBOL)
         }
     } else if shape == HIGH || shape == LOW {
-        symbol_rule(&o.value).min(MISPLACED_SYMBOL)
+        rule_broken_by_symbol(&o.value).min(MISPLACED_SYMBOL)
     } else {
         WRONG_OPERANDS
     }
@@ -68,7 +68,7 @@ pub(crate) fn value_item<'a>(rule: u8, width: u8, o: &Operand<'a>) -> Item<'a>
 /// Returns the least rule that the operand of the data `.space N` breaks by itself, or no rule: N
 /// may be negative, too large or no number.
 #[tactic(auto, unfolding(crate::specs::DataValues::space_rule))]
-pub(crate) fn space_rule(o: &Operand<'_>) -> u8
+pub(crate) fn rule_broken_by_space(o: &Operand<'_>) -> u8
     ensures value { result ≡ space_rule (operand_of o.now) }
     ensures small { result ≡ no_rule → o.now.value.size ≤ 2 ^ 24 }
 {
@@ -86,7 +86,7 @@ pub(crate) fn space_rule(o: &Operand<'_>) -> u8
     } else if shape == HUGE {
         WIDE_NUMBER
     } else if shape == WORD || shape == SUM || shape == HIGH || shape == LOW {
-        symbol_rule(&o.value).min(MISPLACED_SYMBOL)
+        rule_broken_by_symbol(&o.value).min(MISPLACED_SYMBOL)
     } else {
         WRONG_OPERANDS
     }
@@ -97,7 +97,7 @@ pub(crate) fn space_rule(o: &Operand<'_>) -> u8
 pub(crate) fn space_item<'a>(o: &Operand<'a>) -> Item<'a>
     ensures { item_of result ≡ space_item (operand_of o.now) }
 {
-    if space_rule(o) == NO_RULE {
+    if rule_broken_by_space(o) == NO_RULE {
         Item::Zeros(o.value.size as u32)
     } else {
         Item::Zeros(0)
@@ -105,7 +105,7 @@ pub(crate) fn space_item<'a>(o: &Operand<'a>) -> Item<'a>
 }
 
 /// The rule that a `.byte`, `.half` or `.word` without values breaks, or no rule.
-pub(crate) fn empty_values_rule(os: &[Operand<'_>]) -> u8
+pub(crate) fn rule_broken_by_missing_values(os: &[Operand<'_>]) -> u8
     ensures { result ≡ (if length (map operand_of os.now) == 0 then wrong_operands else no_rule) }
 {
     if os.is_empty() {
@@ -128,9 +128,9 @@ pub(crate) fn add_values<'a>(
     ensures items { OnOk result (map item_of items.new.items
         ≡ map item_of items.old.items ++ map (value_item width) (map operand_of os.now)) }
 {
-    let mut rule = empty_values_rule(os);
+    let mut rule = rule_broken_by_missing_values(os);
     for o in os {
-        let broken = value_rule(width, o);
+        let broken = rule_broken_by_value(width, o);
         items.push(value_item(broken, width, o))?;
         rule = rule.min(broken);
     }

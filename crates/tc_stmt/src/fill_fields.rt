@@ -42,7 +42,7 @@ pub fn with_displacement<'a>(
 /// Fills a row's fields with an operand of the kind that the row wants there. Returns false if the
 /// operand has another form.
 #[tactic(auto, unfolding(crate::specs::Filling::fill, crate::specs::Filling::fill_plain))]
-pub(crate) fn fill<'a>(row: &Row, want: Want, o: &Operand<'a>, acc: &mut RowFields<'a>) -> bool
+pub(crate) fn fill_operand<'a>(row: &Row, want: Want, o: &Operand<'a>, acc: &mut RowFields<'a>) -> bool
     ensures { GivesFilledFields result acc.new
         (fill (row_of row.now) want (operand_of o.now) (row_fields_of acc.old)) }
 {
@@ -54,7 +54,7 @@ pub(crate) fn fill<'a>(row: &Row, want: Want, o: &Operand<'a>, acc: &mut RowFiel
     }
     match want {
         Want::Reg(bank, field) => fill_register(bank, field, &o.value, acc),
-        Want::A10 => fill_a10(&o.value, acc),
+        Want::A10 => check_a10(&o.value, acc),
         Want::Number(signed, field) => fill_constant(row, signed, field, &o.value, acc),
         Want::Target => fill_target(row, &o.value, acc),
         Want::Absolute => fill_absolute(row, &o.value, acc),
@@ -77,7 +77,7 @@ pub(crate) fn fill_operands<'a>(
         return false;
     }
     for i in 0..wants.len() {
-        if !fill(row, wants[i], &os[i], acc) {
+        if !fill_operand(row, wants[i], &os[i], acc) {
             return false;
         }
     }
@@ -91,7 +91,7 @@ fn fill_displacement(row: &Row, minus: bool, size: u128, acc: &mut RowFields<'_>
     ensures { row_fields_of acc.new
         ≡ with_displacement (row_of row.now) minus size (row_fields_of acc.old) }
 {
-    let rule = displacement_rule(row, minus, size);
+    let rule = rule_broken_by_displacement(row, minus, size);
     if rule == NO_RULE {
         fill_field(
             Field::K,
@@ -105,7 +105,7 @@ fn fill_displacement(row: &Row, minus: bool, size: u128, acc: &mut RowFields<'_>
 
 // The least rule that a displacement of `size` bytes, backwards if `minus`, breaks, or no rule.
 #[tactic(auto, unfolding(crate::specs::Displacements::displacement_rule))]
-fn displacement_rule(row: &Row, minus: bool, size: u128) -> u8
+fn rule_broken_by_displacement(row: &Row, minus: bool, size: u128) -> u8
     ensures value { result ≡ displacement_rule (row_of row.now) minus size }
     ensures near { result ≡ no_rule → size ≤ 2 * (field_bounds row.now.form).k }
 {
@@ -217,7 +217,7 @@ fn fill_register(bank: bool, field: Field, v: &Value<'_>, acc: &mut RowFields<'_
 /// Takes the operand a10, which no field holds; another name breaks rule 4. Returns false if the
 /// operand has another form.
 #[tactic(auto, unfolding(crate::specs::Filling::fill_a10))]
-fn fill_a10(v: &Value<'_>, acc: &mut RowFields<'_>) -> bool
+fn check_a10(v: &Value<'_>, acc: &mut RowFields<'_>) -> bool
     ensures { GivesFilledFields result acc.new (fill_a10 (value_of v.now) (row_fields_of acc.old)) }
 {
     if shape_index(v.shape) == WORD {
@@ -396,16 +396,16 @@ fn half_operand_relocation(row: &Row, shape: Shape) -> u8
     ensures { result ≡ half_operand_relocation (row_of row.now) shape }
 {
     if shape_index(shape) == HIGH {
-        if is_named_row(row, "movh")
-            || is_named_row(row, "movh.a")
-            || is_named_row(row, "addih")
-            || is_named_row(row, "addih.a")
+        if is_row_named(row, "movh")
+            || is_row_named(row, "movh.a")
+            || is_row_named(row, "addih")
+            || is_row_named(row, "addih.a")
         {
             HI16
         } else {
             NO_RELOC
         }
-    } else if is_named_row(row, "addi") {
+    } else if is_row_named(row, "addi") {
         LO16
     } else if form_index(row.form) == BOL {
         OFFSET16
@@ -435,7 +435,7 @@ fn is_within_field_bound(signed: bool, bound: u32, minus: bool, size: u128) -> b
 }
 
 /// Returns true if this row, whose fields an operand is to fill, has this name.
-fn is_named_row(row: &Row, name: &str) -> bool
+fn is_row_named(row: &Row, name: &str) -> bool
     ensures { result ≡ is_named_row (row_of row.now) name.now }
 {
     is_same_text(row.name.as_bytes(), name)

@@ -7,7 +7,7 @@ ghost use Rattle.tc_stmt.specs.StatedRows.{StatementFitsRowLaw};
 /// A statement that breaks no rule has a listed row, and its fields fit this row. If it has a
 /// symbol, the row has a field for it, whose value is 0 so far. The symbol's relocation fills that
 /// field; a jump of 16 bits has no relocation, and its constant is that field.
-pub fn statement_laws()
+pub fn number_and_statement_laws()
     ensures numbers { NumberLaw }
     ensures stated { StatementFitsRowLaw }
 {}

@@ -20,8 +20,8 @@ mod want;
 
 pub use fill_fields::with_displacement;
 pub use item::Item;
-pub use laws::statement_laws;
-pub use names::{is_source_name, symbol_rule};
+pub use laws::number_and_statement_laws;
+pub use names::{is_source_name, rule_broken_by_symbol};
 pub use row_fields::{NO_RELOC, Reference, RowFields, field_of, reference_to};
 pub use row_wants::wants;
 pub use shape_numbers::shape_index;
@@ -29,5 +29,5 @@ pub use source::{Line, Source, read_source};
 pub use source_rules::{
     BAD_NAME, LABEL_TWICE, MISPLACED_SYMBOL, NO_RULE, NO_SECTION, PAST_LIMITS, UNDEFINED_GLOBAL,
 };
-pub use statement_row::statement;
+pub use statement_row::row_of_statement;
 pub use want::{Field, Want};

@@ -11,16 +11,16 @@ ghost use Rattle.tc_stmt.specs.Lines.{line_data, named_line, is_unbracketed_name
 ghost use Rattle.tc_stmt.specs.SourceRules.{bad_token};
 ghost use Rattle.tc_stmt.specs.SourceViews.{AddsLine};
 
-use crate::data_values::{add_values, space_item, space_rule};
+use crate::data_values::{add_values, space_item, rule_broken_by_space};
 use crate::item::Item;
 use crate::row_index::row_of_name;
 use crate::shape_numbers::WORD;
 use crate::source::Line;
 use crate::source_rules::{BAD_TOKEN, NO_RULE, WRONG_OPERANDS};
-use crate::{RowFields, shape_index, statement};
+use crate::{RowFields, shape_index, row_of_statement};
 use std::alloc::AllocError;
 use tc_lex::{
-    Operand, Piece, Scratch, TokenKind, cut_pieces, is_same_text, is_token_kind, operands,
+    Operand, Piece, Scratch, TokenKind, tokenize_line, is_same_text, is_token_kind, operands_into,
     token_text,
 };
 
@@ -61,16 +61,16 @@ fn read_line_items<'a>(
 ) -> Result<u8, AllocError>
     ensures { AddsLine (line_in line.now) result items.old.items items.new.items }
 {
-    match cut_pieces(line, pieces) {
-        Ok(()) => tokens_line(pieces.as_slice(), operands, items),
-        Err(at) => uncut_line(&line[..at], pieces, items),
+    match tokenize_line(line, pieces) {
+        Ok(()) => read_line_of_tokens(pieces.as_slice(), operands, items),
+        Err(at) => read_uncut_line(&line[..at], pieces, items),
     }
 }
 
 /// Reads a line from its tokens: adds the items of its label and its statement, and returns the
 /// rule that the line breaks.
 #[tactic(auto, unfolding(crate::specs::Lines::tokens_line))]
-fn tokens_line<'a>(
+fn read_line_of_tokens<'a>(
     ps: &[Piece<'a>],
     operands: &mut Scratch<Operand<'a>, 65>,
     items: &mut Vec<Item<'a>>,
@@ -79,16 +79,16 @@ fn tokens_line<'a>(
     ensures { AddsLine (tokens_line (map piece_of ps.now)) result items.old.items items.new.items }
 {
     if has_label(ps) {
-        labelled_line(ps, operands, items)
+        read_labelled_line(ps, operands, items)
     } else {
-        line_from(ps, 0, operands, items)
+        read_line_from(ps, 0, operands, items)
     }
 }
 
 // Reads a line that can't be cut into tokens, and breaks rule 1. Adds the label in `front`, its
 // text before the first bad byte.
 #[tactic(auto, using(crate::proofs::PieceLines::label_pieces, crate::proofs::PieceLines::label_unread))]
-fn uncut_line<'a>(
+fn read_uncut_line<'a>(
     front: &'a [u8],
     pieces: &mut Scratch<Piece<'a>, 64>,
     items: &mut Vec<Item<'a>>,
@@ -96,7 +96,7 @@ fn uncut_line<'a>(
     ensures { AddsLine (line_data bad_token
         (label_before front.now (tokens_of front.now))) result items.old.items items.new.items }
 {
-    match cut_pieces(front, pieces) {
+    match tokenize_line(front, pieces) {
         Ok(()) => add_label_before_fault(pieces.as_slice(), items),
         Err(_) => rule_without_items(BAD_TOKEN, items),
     }
@@ -112,7 +112,7 @@ fn has_label(ps: &[Piece]) -> bool
 
 // Reads a line that begins with a label: adds the label, and reads the rest. Returns the rule that
 // the rest breaks.
-fn labelled_line<'a>(
+fn read_labelled_line<'a>(
     ps: &[Piece<'a>],
     operands: &mut Scratch<Operand<'a>, 65>,
     items: &mut Vec<Item<'a>>,
@@ -124,12 +124,12 @@ fn labelled_line<'a>(
         result items.old.items items.new.items }
 {
     add_label(token_text(ps, 0), items)?;
-    line_from(ps, 2, operands, items)
+    read_line_from(ps, 2, operands, items)
 }
 
 /// Reads a line from token `at` on: nothing, or a statement.
 #[tactic(auto, unfolding(crate::specs::Lines::line_from))]
-fn line_from<'a>(
+fn read_line_from<'a>(
     ps: &[Piece<'a>],
     at: usize,
     operands: &mut Scratch<Operand<'a>, 65>,
@@ -142,7 +142,7 @@ fn line_from<'a>(
     if ps.len() == at {
         rule_without_items(NO_RULE, items)
     } else if is_token_kind(ps, at, TokenKind::Word) {
-        statement_at(ps, at, operands, items)
+        read_statement_at(ps, at, operands, items)
     } else {
         rule_without_items(BAD_TOKEN, items)
     }
@@ -165,7 +165,7 @@ fn rule_without_items(rule: u8, items: &mut Vec<Item<'_>>) -> Result<u8, AllocEr
 }
 
 // Reads the statement whose name is token `at`.
-fn statement_at<'a>(
+fn read_statement_at<'a>(
     ps: &[Piece<'a>],
     at: usize,
     operands: &mut Scratch<Operand<'a>, 65>,
@@ -177,22 +177,22 @@ fn statement_at<'a>(
         (operands_in (drop (at + 1) (map piece_of ps.now))))
         result items.old.items items.new.items }
 {
-    operands_after_name(ps, at, operands);
-    statement_line(token_text(ps, at), operands.as_slice(), items)
+    read_operands_after_name(ps, at, operands);
+    read_statement_line(token_text(ps, at), operands.as_slice(), items)
 }
 
 /// Reads the operands of a line, which are after the statement's name at token `at`.
-fn operands_after_name<'a>(ps: &[Piece<'a>], at: usize, out: &mut Scratch<Operand<'a>, 65>)
+fn read_operands_after_name<'a>(ps: &[Piece<'a>], at: usize, out: &mut Scratch<Operand<'a>, 65>)
     requires few { length ps.now ≤ 64 }
     requires place { at < length ps.now }
     ensures { map operand_of out.new.items ≡ operands_in (drop (at + 1) (map piece_of ps.now)) }
 {
-    operands(tokens_after_name(ps, at), out)
+    operands_into(tokens_after_name(ps, at), out)
 }
 
 /// Reads the line of a statement: a directive or an instruction.
 #[tactic(auto, unfolding(crate::specs::Lines::statement_line))]
-fn statement_line<'a>(
+fn read_statement_line<'a>(
     name: &[u8],
     os: &[Operand<'a>],
     items: &mut Vec<Item<'a>>,
@@ -201,19 +201,19 @@ fn statement_line<'a>(
         (map operand_of os.now)) result items.old.items items.new.items }
 {
     if is_same_text(name, ".section") {
-        section_line(os, items)
+        read_section_line(os, items)
     } else if is_same_text(name, ".global") {
-        global_line(os, items)
+        read_global_line(os, items)
     } else if is_same_text(name, ".byte") {
-        values_line(1, os, items)
+        read_values_line(1, os, items)
     } else if is_same_text(name, ".half") {
-        values_line(2, os, items)
+        read_values_line(2, os, items)
     } else if is_same_text(name, ".word") {
-        values_line(4, os, items)
+        read_values_line(4, os, items)
     } else if is_same_text(name, ".space") {
-        space_line(os, items)
+        read_space_line(os, items)
     } else {
-        code_line(name, os, items)
+        read_code_line(name, os, items)
     }
 }
 
@@ -227,7 +227,7 @@ fn tokens_after_name<'p, 'a>(ps: &'p [Piece<'a>], at: usize) -> &'p [Piece<'a>]
 
 /// Reads the line `.section NAME`: adds its item, and returns its rule.
 #[tactic(auto, unfolding(crate::specs::Lines::named_line))]
-fn section_line<'a>(os: &[Operand<'a>], items: &mut Vec<Item<'a>>) -> Result<u8, AllocError>
+fn read_section_line<'a>(os: &[Operand<'a>], items: &mut Vec<Item<'a>>) -> Result<u8, AllocError>
     ensures { AddsLine (named_line section
         (map operand_of os.now)) result items.old.items items.new.items }
 {
@@ -239,7 +239,7 @@ fn section_line<'a>(os: &[Operand<'a>], items: &mut Vec<Item<'a>>) -> Result<u8,
 
 /// Reads the line `.global NAME`: adds its item, and returns its rule.
 #[tactic(auto, unfolding(crate::specs::Lines::named_line))]
-fn global_line<'a>(os: &[Operand<'a>], items: &mut Vec<Item<'a>>) -> Result<u8, AllocError>
+fn read_global_line<'a>(os: &[Operand<'a>], items: &mut Vec<Item<'a>>) -> Result<u8, AllocError>
     ensures { AddsLine (named_line global
         (map operand_of os.now)) result items.old.items items.new.items }
 {
@@ -252,7 +252,7 @@ fn global_line<'a>(os: &[Operand<'a>], items: &mut Vec<Item<'a>>) -> Result<u8, 
 /// Reads a line that is `.byte`, `.half` or `.word`: adds an item for each value of `width` bytes,
 /// and returns the rule that the line breaks.
 #[tactic(auto, unfolding(crate::specs::Lines::values_line))]
-fn values_line<'a>(
+fn read_values_line<'a>(
     width: u8,
     os: &[Operand<'a>],
     items: &mut Vec<Item<'a>>,
@@ -267,18 +267,18 @@ fn values_line<'a>(
 
 /// Reads a line that is `.space`, with any operands: adds the item of its zeros, and returns the
 /// rule that the line breaks.
-fn space_line<'a>(os: &[Operand<'a>], items: &mut Vec<Item<'a>>) -> Result<u8, AllocError>
+fn read_space_line<'a>(os: &[Operand<'a>], items: &mut Vec<Item<'a>>) -> Result<u8, AllocError>
     ensures { AddsLine (space_line (map operand_of os.now)) result items.old.items items.new.items }
 {
     if os.len() != 1 {
         return add_item(WRONG_OPERANDS, Item::Zeros(0), items);
     }
-    space_operand_line(&os[0], items)
+    read_space_operand(&os[0], items)
 }
 
 /// Reads the line of an instruction: adds its item, or zeros of its size if a rule is broken, and
 /// returns that rule.
-fn code_line<'a>(
+fn read_code_line<'a>(
     name: &[u8],
     os: &[Operand<'a>],
     items: &mut Vec<Item<'a>>,
@@ -286,7 +286,7 @@ fn code_line<'a>(
     ensures { AddsLine (code_line name.now
         (statement name.now (map operand_of os.now))) result items.old.items items.new.items }
 {
-    match statement(name, os) {
+    match row_of_statement(name, os) {
         Ok((row, found)) => add_item(NO_RULE, code_item(row, &found), items),
         Err(rule) => add_item(rule, Item::Zeros(instruction_size(name)), items),
     }
@@ -327,12 +327,12 @@ fn is_unbracketed_name(o: &Operand<'_>) -> bool
 
 /// Reads a line that is `.space N`, by its one operand: adds the item of its zeros, and returns the
 /// rule that the line breaks.
-fn space_operand_line<'a>(o: &Operand<'a>, items: &mut Vec<Item<'a>>) -> Result<u8, AllocError>
+fn read_space_operand<'a>(o: &Operand<'a>, items: &mut Vec<Item<'a>>) -> Result<u8, AllocError>
     ensures { AddsLine (line_data (space_rule (operand_of o.now))
         (space_item (operand_of o.now) ∷ []))
         result items.old.items items.new.items }
 {
-    add_item(space_rule(o), space_item(o), items)
+    add_item(rule_broken_by_space(o), space_item(o), items)
 }
 
 /// Returns the item that the line of an instruction adds to its source: its row, its fields, and

@@ -23,7 +23,7 @@ pub fn is_source_name(bytes: &[u8]) -> bool
 /// Returns the least rule that an operand's symbol breaks in every place, by its name or by a wide
 /// number added to it, or `NO_RULE`.
 #[tactic(auto, unfolding(crate::specs::Names::symbol_rule))]
-pub fn symbol_rule(v: &Value<'_>) -> u8
+pub fn rule_broken_by_symbol(v: &Value<'_>) -> u8
     ensures value { result ≡ symbol_rule (value_of v.now) }
     ensures small { result ≡ no_rule → v.now.size < 2 ^ 32 }
 {

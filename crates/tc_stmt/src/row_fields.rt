@@ -7,7 +7,7 @@ ghost use Rattle.tc_stmt.specs.Filling.{with_symbol, with_misplaced, note_equal_
 ghost use Rattle.tc_stmt.specs.Names.{symbol_rule};
 ghost use Rattle.tc_isa.specs.Rows.{row_of};
 
-use crate::names::symbol_rule;
+use crate::names::rule_broken_by_symbol;
 use crate::source_rules::{EQUAL_REGISTERS, MISPLACED_SYMBOL, NO_RULE};
 use crate::want::Field;
 use tc_isa::{Fields, Form, Row, are_registers_allowed};
@@ -121,7 +121,7 @@ pub(crate) fn note_symbol<'a>(kind: u8, v: &Value<'a>, acc: &mut RowFields<'a>)
     ensures { row_fields_of acc.new
         ≡ with_symbol kind (value_of v.now) (row_fields_of acc.old) }
 {
-    let rule = symbol_rule(v);
+    let rule = rule_broken_by_symbol(v);
     if rule != NO_RULE {
         note_broken_rule(rule, acc);
         return;
@@ -138,7 +138,7 @@ pub(crate) fn note_symbol<'a>(kind: u8, v: &Value<'a>, acc: &mut RowFields<'a>)
 pub(crate) fn note_misplaced_symbol(v: &Value<'_>, acc: &mut RowFields<'_>)
     ensures { row_fields_of acc.new ≡ with_misplaced (value_of v.now) (row_fields_of acc.old) }
 {
-    note_broken_rule(MISPLACED_SYMBOL.min(symbol_rule(v)), acc);
+    note_broken_rule(MISPLACED_SYMBOL.min(rule_broken_by_symbol(v)), acc);
 }
 
 /// Notes that rule 12 is broken, if the row's registers must differ and are equal.

@@ -174,7 +174,7 @@ static NEXT: [u8; ROW_COUNT] = [
 /// Returns the index in which a statement's name is looked up: for each key, the number of the
 /// first row whose name has it.
 #[tactic(auto, unfolding(crate::specs::RowIndex::name_key))]
-pub(crate) fn first_rows() -> &'static [u8]
+pub(crate) fn first_rows_by_key() -> &'static [u8]
     ensures { IsFirstRowIndex table_rows result.now }
 {
     &FIRST
@@ -183,7 +183,7 @@ pub(crate) fn first_rows() -> &'static [u8]
 /// Returns for each row the number of the next row whose name has the same key, so that the search
 /// for a statement's row skips those between.
 #[tactic(auto, unfolding(crate::specs::RowIndex::name_key))]
-pub(crate) fn next_rows() -> &'static [u8]
+pub(crate) fn next_rows_by_key() -> &'static [u8]
     ensures { IsNextRowIndex table_rows result.now }
 {
     &NEXT
@@ -191,7 +191,7 @@ pub(crate) fn next_rows() -> &'static [u8]
 
 /// The first row to try in the search for a statement's row: no earlier row has the key of this
 /// name.
-pub(crate) fn first_row(first: &[u8], name: &[u8]) -> usize
+pub(crate) fn first_row_to_try(first: &[u8], name: &[u8]) -> usize
     ensures { (rows : List RowData) → IsFirstRowIndex rows first.now
         → are_rows_without_key result (name_key name.now) rows ≡ true }
 {
@@ -205,7 +205,7 @@ pub(crate) fn first_row(first: &[u8], name: &[u8]) -> usize
 
 /// The row to try after row `i` in the search for a statement's row: no row between them has the
 /// key of this name.
-pub(crate) fn next_row(rows: &[Row], next: &[u8], i: usize, name: &[u8]) -> usize
+pub(crate) fn next_row_to_try(rows: &[Row], next: &[u8], i: usize, name: &[u8]) -> usize
     requires place { i < length rows.now }
     requires next { IsNextRowIndex (map row_of rows.now) next.now }
     ensures later { i < result }
@@ -220,7 +220,7 @@ pub(crate) fn next_row(rows: &[Row], next: &[u8], i: usize, name: &[u8]) -> usiz
 }
 
 /// The first of these rows that has this name.
-pub(crate) fn find_row<'a>(rows: &'a [Row], name: &[u8]) -> Option<&'a Row>
+pub(crate) fn find_row_by_name<'a>(rows: &'a [Row], name: &[u8]) -> Option<&'a Row>
     ensures { option_map (λ r. r.now) result ≡ find (λ r. bytes_eq r.name.now name.now) rows.now }
 {
     rows.iter().find(|r| r.name.as_bytes() == name)
@@ -230,7 +230,7 @@ pub(crate) fn find_row<'a>(rows: &'a [Row], name: &[u8]) -> Option<&'a Row>
 pub(crate) fn row_of_name(name: &[u8]) -> Option<&'static Row>
     ensures { option_map (λ r. row_of r.now) result ≡ row_of_name name.now }
 {
-    find_row(rows(), name)
+    find_row_by_name(rows(), name)
 }
 
 /// The key of a row's name, below 256: few names of rows share one.

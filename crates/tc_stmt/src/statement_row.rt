@@ -11,20 +11,20 @@ ghost use Rattle.tc_stmt.specs.RowIndex.{IsFirstRowIndex, IsNextRowIndex};
 
 use crate::fill_fields::fill_operands;
 use crate::row_fields::{RowFields, note_equal_registers, zero_fields};
-use crate::row_index::{first_row, first_rows, next_row, next_rows};
+use crate::row_index::{first_row_to_try, first_rows_by_key, next_row_to_try, next_rows_by_key};
 use crate::row_wants::wants;
 use crate::source_rules::NO_RULE;
-use crate::tally::{Tally, tally_rule};
+use crate::tally::{Tally, rule_broken_by_statement};
 use crate::want::Want;
 use tc_isa::{Row, rows};
 use tc_lex::{Operand, are_same_bytes};
 
 /// Returns the number of the first row that the statement fits, with its fields, or the least rule
 /// that the statement breaks.
-pub fn statement<'a>(name: &[u8], os: &[Operand<'a>]) -> Result<(u8, RowFields<'a>), u8>
+pub fn row_of_statement<'a>(name: &[u8], os: &[Operand<'a>]) -> Result<(u8, RowFields<'a>), u8>
     ensures { GivesStatementOutcome result (statement name.now (map operand_of os.now)) }
 {
-    search_statement_row(rows(), wants(), first_rows(), next_rows(), name, os)
+    search_statement_row(rows(), wants(), first_rows_by_key(), next_rows_by_key(), name, os)
 }
 
 /// Searches the instruction table for a statement's row: returns the row with its fields, or the
@@ -50,15 +50,15 @@ fn search_statement_row<'a>(
         least: NO_RULE,
     };
     let mut found = zero_fields();
-    let mut i = first_row(first, name);
+    let mut i = first_row_to_try(first, name);
     'rows: while i < rows.len() {
         match try_statement_row(&rows[i], wants[i], name, os, so_far, &mut found) {
             Ok(()) => return Ok((i as u8, found)),
             Err(after) => so_far = after,
         }
-        i = next_row(rows, next, i, name);
+        i = next_row_to_try(rows, next, i, name);
     }
-    Err(tally_rule(so_far))
+    Err(rule_broken_by_statement(so_far))
 }
 
 /// Tries a row for a statement: fills the row's fields if the statement fits, else returns the

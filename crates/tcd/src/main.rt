@@ -11,8 +11,8 @@ use tcd_real::{RealFiles, Stdout};
 mod tests;
 
 fn main(rt: HostRuntime) -> ExitCode {
-    match words(&rt) {
-        Ok(words) => ExitCode::from(number_of(&rt, &words)),
+    match program_args(&rt) {
+        Ok(words) => ExitCode::from(tool_exit_status(&rt, &words)),
         Err(e) => match e.kind() {
             io::ErrorKind::OutOfMemory => ExitCode::from(u8::from(Status::NoMemory)),
             _ => ExitCode::from(u8::from(Status::Fault)),
@@ -21,7 +21,7 @@ fn main(rt: HostRuntime) -> ExitCode {
 }
 
 // The arguments after the program's name.
-fn words<R: env::Env + AllocGlobal>(rt: &R) -> io::Result<Vec<String>> {
+fn program_args<R: env::Env + AllocGlobal>(rt: &R) -> io::Result<Vec<String>> {
     let mut words = Vec::new(rt.alloc());
     for (i, word) in env::args(rt)?.enumerate() {
         if i > 0 {
@@ -32,7 +32,7 @@ fn words<R: env::Env + AllocGlobal>(rt: &R) -> io::Result<Vec<String>> {
 }
 
 // The exit status for these arguments, over the system's files and standard output.
-fn number_of<R: rt::Files + Print + AllocGlobal>(rt: &R, words: &[String]) -> u8 {
+fn tool_exit_status<R: rt::Files + Print + AllocGlobal>(rt: &R, words: &[String]) -> u8 {
     let mut files = RealFiles { rt, failed: 0 };
     let mut out = Stdout { rt, failed: 0 };
     u8::from(tool(rt.alloc(), words, &mut files, &mut out))

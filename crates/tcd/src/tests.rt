@@ -1,5 +1,5 @@
 // The exit statuses, over real files.
-use crate::number_of;
+use crate::tool_exit_status;
 use std::fs;
 use std::test::Fail;
 use tcd_base::Files;
@@ -23,7 +23,7 @@ fn number<R: std::rt::Files + Print + AllocGlobal>(rt: &R, line: &str) -> Result
     for word in line.split(' ') {
         words.push(String::from_str(rt.alloc(), word)?)?;
     }
-    Ok(number_of(rt, &words))
+    Ok(tool_exit_status(rt, &words))
 }
 
 #[test]

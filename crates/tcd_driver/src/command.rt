@@ -12,7 +12,7 @@ use crate::commands::bootgen::generate_boot_source;
 use crate::commands::cellcert::certify_cells;
 use crate::commands::cells::check_cells;
 use crate::commands::cert::certify_executable;
-use crate::commands::cfg::draw_files;
+use crate::commands::cfg::draw_cfg;
 use crate::commands::check::check_files;
 use crate::commands::dis::disassemble_file;
 use crate::commands::generating::certify_generated_image;
@@ -216,17 +216,17 @@ fn fixed_arity_command(words: &[String]) -> Option<Command<'_>>
     ensures limits { IfSome result CommandKeepsLimits }
 {
     match words {
-        [verb, first] => command_of_one(verb.as_str(), first.as_str()),
-        [verb, first, second] => command_of_two(verb.as_str(), first.as_str(), second.as_str()),
+        [verb, first] => one_arg_command(verb.as_str(), first.as_str()),
+        [verb, first, second] => two_arg_command(verb.as_str(), first.as_str(), second.as_str()),
         [verb, first, second, third] => {
-            command_of_three(
+            three_arg_command(
                 verb.as_str(),
                 first.as_str(),
                 second.as_str(),
                 third.as_str(),
             )
         }
-        [verb, first, second, third, fourth] => command_of_four(
+        [verb, first, second, third, fourth] => four_arg_command(
             verb.as_str(),
             first.as_str(),
             second.as_str(),
@@ -273,7 +273,7 @@ fn is_taskcert(alloc: Global, verb: &str, certs: &[String]) -> bool
 
 // Returns the command that has one argument after its verb, `dis` or `gen`. `None` for other verbs
 // and bad numbers of functions.
-fn command_of_one<'a>(verb: &str, word: &'a str) -> Option<Command<'a>>
+fn one_arg_command<'a>(verb: &str, word: &'a str) -> Option<Command<'a>>
     ensures is { option_map command_of_value result ≡ command_of_one verb.now word.now }
     ensures limits { IfSome result CommandKeepsLimits }
 {
@@ -288,7 +288,7 @@ fn command_of_one<'a>(verb: &str, word: &'a str) -> Option<Command<'a>>
 
 // Returns the command that has two arguments after its verb, `asm` or `cfg`, or `None` for other
 // verbs.
-fn command_of_two<'a>(verb: &str, first: &'a str, second: &'a str) -> Option<Command<'a>>
+fn two_arg_command<'a>(verb: &str, first: &'a str, second: &'a str) -> Option<Command<'a>>
     ensures is { option_map command_of_value result
         ≡ command_of_two verb.now first.now second.now }
     ensures limits { IfSome result CommandKeepsLimits }
@@ -310,7 +310,7 @@ fn command_of_two<'a>(verb: &str, first: &'a str, second: &'a str) -> Option<Com
 
 // Returns the command that has three arguments after its verb, `check`, `cert`, `report` or `run`,
 // or `None` for other verbs.
-fn command_of_three<'a>(
+fn three_arg_command<'a>(
     verb: &str,
     elf: &'a str,
     plan: &'a str,
@@ -351,7 +351,7 @@ fn command_of_three<'a>(
 
 // Returns the command that has four arguments after its verb, `cells`, `cellcert`, `boot` or
 // `bootgen`. `None` for other verbs and bad addresses.
-fn command_of_four<'a>(
+fn four_arg_command<'a>(
     verb: &str,
     first: &'a str,
     second: &'a str,
@@ -456,7 +456,7 @@ impl<'a> Command<'a> {
         match self {
             Command::Check { elf, plan, cert } => check_files(alloc, elf, plan, cert, files),
             Command::Cert { elf, plan, cert } => certify_executable(alloc, elf, plan, cert, files),
-            Command::Cfg { elf, plan } => draw_files(alloc, elf, plan, files),
+            Command::Cfg { elf, plan } => draw_cfg(alloc, elf, plan, files),
             Command::Report { elf, plan, cert } => report_on_cert(alloc, elf, plan, cert, files),
             Command::Run { elf, plan, script } => run_script_file(alloc, elf, plan, script, files),
             Command::Dis { elf } => disassemble_file(alloc, elf, files),

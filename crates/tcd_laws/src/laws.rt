@@ -20,7 +20,7 @@ pub fn sequence_law()
 /// The object of a source that breaks no rule is an object, whose sections hold bytes; the file of
 /// such an object holds bytes; what a text gives without a fault is a layout; and what such objects
 /// are linked to by it is an image.
-pub fn image_laws()
+pub fn kept_limit_laws()
     ensures objects { SourcesGiveObjects }
     ensures files { ObjectsSpellBytes }
     ensures layouts { TextsGiveLayouts }
@@ -29,7 +29,7 @@ pub fn image_laws()
 
 /// `asm` writes what `link` reads as exactly its object, and `link` writes what is read as exactly
 /// its image.
-pub fn hand_over_laws()
+pub fn read_back_laws()
     ensures assembled { AsmHandsOver }
     ensures linked { LinkHandsOver }
 {}

@@ -27,4 +27,4 @@
 
 mod laws;
 
-pub use laws::{build_laws, edge_law, hand_over_laws, image_laws, sequence_law};
+pub use laws::{build_laws, edge_law, read_back_laws, kept_limit_laws, sequence_law};

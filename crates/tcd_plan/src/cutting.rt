@@ -7,21 +7,21 @@ use tcd_base::Range;
 
 /// Returns the parts of ranges below and above the `n` bytes from `x` on, at most two of each
 /// range.
-pub fn cut_plan_ranges(ranges: &[Range], x: u32, n: u32) -> ArrayVec<Range, 32>
+pub fn ranges_outside(ranges: &[Range], x: u32, n: u32) -> ArrayVec<Range, 32>
     requires few { length ranges.now ≤ 16 }
     requires fit { All (λ r. r.at + r.len ≤ 2 ^ 32) ranges.now }
     ensures { result.items ≡ cut_plan_ranges x n ranges.now }
 {
     let mut parts = ArrayVec::new();
     for r in ranges {
-        push_cut_range(&mut parts, r, x, n);
+        push_range_outside(&mut parts, r, x, n);
     }
     parts
 }
 
 /// Cuts the `n` bytes from `x` on out of a plan's range: appends the parts of the range below and
 /// above them.
-fn push_cut_range(ranges: &mut ArrayVec<Range, 32>, r: &Range, x: u32, n: u32)
+fn push_range_outside(ranges: &mut ArrayVec<Range, 32>, r: &Range, x: u32, n: u32)
     requires room { length ranges.old.items ≤ 30 }
     requires fits { r.now.at + r.now.len ≤ 2 ^ 32 }
     ensures ranges { ranges.new.items ≡ ranges.old.items ++ cut_range_parts x n r.now }

@@ -17,7 +17,7 @@ pub fn json_elements_at<'a>(value: &'a Value, name: &str) -> Option<&'a [Value]>
 }
 
 /// Returns true if the value is this text.
-pub fn is_json_text(value: &Value, text: &str) -> bool
+pub fn is_json_string(value: &Value, text: &str) -> bool
     ensures { result ≡ is_json_text text.now (view value.now) }
 {
     match value {
@@ -27,7 +27,7 @@ pub fn is_json_text(value: &Value, text: &str) -> bool
 }
 
 /// Returns the number at a key of a JSON object, or 0 if there is none.
-pub fn json_word_at(value: &Value, name: &str) -> u32
+pub fn json_number_or_zero(value: &Value, name: &str) -> u32
     ensures { result ≡ json_word_at name.now (view value.now) }
 {
     json_number_at(value, name).unwrap_or(0)
@@ -38,7 +38,7 @@ pub fn json_nested_number(value: &Value, outer: &str, name: &str) -> u32
     ensures { result ≡ json_nested_number outer.now name.now (view value.now) }
 {
     match value.get(outer) {
-        Some(inner) => json_word_at(inner, name),
+        Some(inner) => json_number_or_zero(inner, name),
         None => 0,
     }
 }
@@ -57,7 +57,7 @@ pub fn json_number_of(value: &Value) -> Option<u32>
 {
     match value {
         Value::Number(n) => n.as_u64().and_then(|n| u32::try_from(n).ok()),
-        Value::String(text) => json_text_number(text.as_bytes()),
+        Value::String(text) => hex_string_value(text.as_bytes()),
         _ => None,
     }
 }
@@ -70,10 +70,10 @@ pub fn json_elements_or_empty<'a>(value: &'a Value, name: &str) -> &'a [Value]
 }
 
 /// Returns true if one of the elements of a JSON array is this text.
-pub fn has_json_text(places: &[Value], text: &str) -> bool
+pub fn has_json_string(places: &[Value], text: &str) -> bool
     ensures { result ≡ list_any (is_json_text text.now) (map view places.now) }
 {
-    places.iter().any(|place| is_json_text(place, text))
+    places.iter().any(|place| is_json_string(place, text))
 }
 
 /// Returns the number, below 256, at the key `name` of the object at the key `outer`; 0 if none.
@@ -85,7 +85,7 @@ pub fn json_nested_byte(value: &Value, outer: &str, name: &str) -> u8
 }
 
 /// Returns the number that a JSON text spells, or None: `0x` with 1 to 8 hex digits.
-fn json_text_number(text: &[u8]) -> Option<u32>
+fn hex_string_value(text: &[u8]) -> Option<u32>
     ensures { result ≡ json_text_number text.now }
 {
     match text {

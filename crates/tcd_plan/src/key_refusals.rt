@@ -27,7 +27,7 @@ pub fn first_missing_key(value: &Value) -> Option<PlanKey>
 }
 
 /// Returns the first key of the table whose value in an object doesn't have its form, or None.
-pub fn first_bad_key(value: &Value) -> Option<PlanKey>
+pub fn first_key_with_bad_value(value: &Value) -> Option<PlanKey>
     ensures { result ≡ first_bad_key (view value.now) }
 {
     key_of_refused_row(

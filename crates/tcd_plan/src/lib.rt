@@ -12,6 +12,6 @@ mod plans;
 mod printed_keys;
 mod reader;
 
-pub use cutting::cut_plan_ranges;
+pub use cutting::ranges_outside;
 pub use plans::{Device, Plan, PlanErr, PlanKey};
 pub use printed_keys::key_text;

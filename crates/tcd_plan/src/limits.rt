@@ -4,7 +4,7 @@ ghost use Rattle.serde_json.specs.View.{view};
 ghost use Rattle.tcd_plan.specs.PlanData.{areas_range, are_ranges_disjoint, are_valid_areas, are_ranges_within_limits, has_valid_areas, has_even_vectors, first_oversized_array, first_overlap_from, plan_range_overlap};
 ghost use Rattle.tcd_plan.specs.PlanReader.{HasShortPlanArrays, plan_range_of, unchecked_plan_of};
 
-use crate::json_values::{json_elements_or_empty, json_nested_number, json_word_at};
+use crate::json_values::{json_elements_or_empty, json_nested_number, json_number_or_zero};
 use crate::key_table::{DEVICES, IRQS, KeyParent, RAM, ROM};
 use crate::object_forms::plan_objects_of;
 use crate::plan_parts::{areas_range, push_ranges};
@@ -48,10 +48,10 @@ pub fn has_valid_areas(value: &Value) -> bool
 
 /// Returns true if BIV and BTV are even.
 #[tactic(auto, unfolding(crate::specs::PlanReader::unchecked_plan_of, crate::specs::PlanData::has_even_vectors))]
-pub fn has_even_vectors(value: &Value) -> bool
+pub fn has_even_vector_bases(value: &Value) -> bool
     ensures { result ≡ has_even_vectors (unchecked_plan_of (view value.now)) }
 {
-    json_word_at(value, "biv") % 2 == 0 && json_word_at(value, "btv") % 2 == 0
+    json_number_or_zero(value, "biv") % 2 == 0 && json_number_or_zero(value, "btv") % 2 == 0
 }
 
 /// Returns the refusal for the first pair of ranges that share a byte, numbered over rom, ram,
@@ -73,17 +73,17 @@ pub fn plan_range_overlap(value: &Value) -> Option<PlanErr>
 fn are_ranges_within_limits(objects: &[Value]) -> bool
     ensures { result ≡ are_ranges_within_limits (map plan_range_of (map view objects.now)) }
 {
-    objects.len() <= 16 && total_len(objects) <= 1 << 22
+    objects.len() <= 16 && total_len_of_ranges(objects) <= 1 << 22
 }
 
 /// Returns the number of bytes in all ranges that these objects of a plan's document give.
-fn total_len(objects: &[Value]) -> u64
+fn total_len_of_ranges(objects: &[Value]) -> u64
     requires { length objects.now ≤ 16 }
     ensures { result ≡ sum_by (λ r. r.len) (map plan_range_of (map view objects.now)) }
 {
     let mut total = 0u64;
     for object in objects {
-        total += u64::from(json_word_at(object, "len"));
+        total += u64::from(json_number_or_zero(object, "len"));
     }
     total
 }

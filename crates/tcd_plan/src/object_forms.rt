@@ -7,7 +7,7 @@ ghost use Rattle.tcd_plan.specs.ValueForms.{are_traps, are_irqs_above, has_value
 ghost use Rattle.tcd_plan.specs.JsonValues.{is_object, is_json_text, json_number_of};
 
 use crate::json_values::{
-    is_json_text, json_elements_at, json_number_at, json_number_of, json_word_at,
+    is_json_string, json_elements_at, json_number_at, json_number_of, json_number_or_zero,
 };
 use crate::key_table::{KeyParent, ValueForm};
 use serde_json::Value;
@@ -40,17 +40,17 @@ pub fn has_value_form(form: ValueForm, name: &str, object: &Value) -> bool
         ValueForm::Object => object.get(name).is_some_and(|inner| inner.is_object()),
         ValueForm::At => json_number_at(object, name).is_some_and(|at| at % 4 == 0),
         ValueForm::Len => json_number_at(object, name).is_some_and(|len| is_range_len(
-            json_word_at(object, "at"),
+            json_number_or_zero(object, "at"),
             len,
         )),
-        ValueForm::Hi => json_number_at(object, name).is_some_and(|hi| json_word_at(object, "lo")
+        ValueForm::Hi => json_number_at(object, name).is_some_and(|hi| json_number_or_zero(object, "lo")
             <= hi),
         ValueForm::Word => json_number_at(object, name).is_some(),
         ValueForm::Byte => json_number_at(object, name).is_some_and(|byte| byte < 256),
         ValueForm::Truth => json_number_at(object, name).is_some_and(|truth| truth < 2),
         ValueForm::Irqs => json_elements_at(object, name).is_some_and(are_irqs),
         ValueForm::Traps => json_elements_at(object, name).is_some_and(are_traps),
-        ValueForm::CoreText => is_core_text(object.get(name)),
+        ValueForm::CoreText => is_core_version_or_absent(object.get(name)),
     }
 }
 
@@ -111,41 +111,41 @@ fn are_irqs(places: &[Value]) -> bool
 fn are_traps(places: &[Value]) -> bool
     ensures { result ≡ are_traps (map view places.now) }
 {
-    are_trap_texts(places)
-        && count_json_texts(places, "sys") <= 1
-        && count_json_texts(places, "aln") <= 1
+    are_trap_names(places)
+        && count_json_strings(places, "sys") <= 1
+        && count_json_strings(places, "aln") <= 1
 }
 
 /// Returns true if the value of `core` is `1.3` or `1.6`, or absent.
-fn is_core_text(value: Option<&Value>) -> bool
+fn is_core_version_or_absent(value: Option<&Value>) -> bool
     ensures { result ≡ is_core_text (option_map (λ v. view v.now) value.entry) }
 {
     match value {
-        Some(value) => is_json_text(value, "1.3") || is_json_text(value, "1.6"),
+        Some(value) => is_json_string(value, "1.3") || is_json_string(value, "1.6"),
         None => true,
     }
 }
 
 /// Returns true if each element of `traps` is `sys` or `aln`.
-fn are_trap_texts(places: &[Value]) -> bool
+fn are_trap_names(places: &[Value]) -> bool
     ensures { result ≡ list_all is_trap_text (map view places.now) }
 {
-    places.iter().all(is_trap_text)
+    places.iter().all(is_trap_name)
 }
 
 /// Returns how many elements of the value of `traps` are this text.
-fn count_json_texts(places: &[Value], text: &str) -> usize
+fn count_json_strings(places: &[Value], text: &str) -> usize
     ensures { result ≡ count_by (is_json_text text.now) (map view places.now) }
 {
     places
         .iter()
-        .filter(|place| is_json_text(place, text))
+        .filter(|place| is_json_string(place, text))
         .count()
 }
 
 /// Returns true if an element of the value of `traps` has its form: `sys` or `aln`.
-fn is_trap_text(place: &Value) -> bool
+fn is_trap_name(place: &Value) -> bool
     ensures { result ≡ is_trap_text (view place.now) }
 {
-    is_json_text(place, "sys") || is_json_text(place, "aln")
+    is_json_string(place, "sys") || is_json_string(place, "aln")
 }

@@ -6,7 +6,7 @@ ghost use Rattle.tcd_plan.specs.JsonValues.{is_json_text, json_nested_number};
 ghost use Rattle.tcd_plan.specs.PlanData.{areas_range};
 
 use crate::Device;
-use crate::json_values::{is_json_text, json_nested_number, json_number_of, json_word_at};
+use crate::json_values::{is_json_string, json_nested_number, json_number_of, json_number_or_zero};
 use arrayvec::ArrayVec;
 use serde_json::Value;
 use tcd_base::{Core, Range};
@@ -16,8 +16,8 @@ pub fn plan_range_of(object: &Value) -> Range
     ensures { result ≡ plan_range_of (view object.now) }
 {
     Range {
-        at: json_word_at(object, "at"),
-        len: json_word_at(object, "len"),
+        at: json_number_or_zero(object, "at"),
+        len: json_number_or_zero(object, "len"),
     }
 }
 
@@ -32,7 +32,7 @@ pub fn push_ranges<const N: usize>(ranges: &mut ArrayVec<Range, N>, objects: &[V
 }
 
 /// Reads the ranges of a plan's rom or ram from the objects of its document.
-pub fn ranges_of(objects: &[Value]) -> ArrayVec<Range, 16>
+pub fn plan_ranges_of(objects: &[Value]) -> ArrayVec<Range, 16>
     requires { length objects.now ≤ 16 }
     ensures { result.items ≡ map plan_range_of (map view objects.now) }
 {
@@ -42,7 +42,7 @@ pub fn ranges_of(objects: &[Value]) -> ArrayVec<Range, 16>
 }
 
 /// Reads the peripherals of a plan from the objects of its document.
-pub fn devices_of(objects: &[Value]) -> ArrayVec<Device, 16>
+pub fn plan_devices_of(objects: &[Value]) -> ArrayVec<Device, 16>
     requires { length objects.now ≤ 16 }
     ensures { result.items ≡ map plan_device_of (map view objects.now) }
 {
@@ -54,7 +54,7 @@ pub fn devices_of(objects: &[Value]) -> ArrayVec<Device, 16>
 }
 
 /// Reads the priorities of a plan's interrupts from the elements of the document's `irqs`.
-pub fn irqs_of(places: &[Value]) -> ArrayVec<u8, 32>
+pub fn plan_irqs_of(places: &[Value]) -> ArrayVec<u8, 32>
     requires few { length places.now ≤ 32 }
     requires bytes { All (λ q. irq_of q < 2 ^ 8) (map view places.now) }
     ensures { result.items ≡ map irq_of (map view places.now) }
@@ -67,11 +67,11 @@ pub fn irqs_of(places: &[Value]) -> ArrayVec<u8, 32>
 }
 
 /// Reads the version of the core from a plan's document. It is `V13` if the key is absent.
-pub fn core_of(value: &Value) -> Core
+pub fn plan_core_of(value: &Value) -> Core
     ensures { result ≡ core_of (view value.now) }
 {
     match value.get("core") {
-        Some(core) if is_json_text(core, "1.6") => Core::V16,
+        Some(core) if is_json_string(core, "1.6") => Core::V16,
         _ => Core::V13,
     }
 }
@@ -107,7 +107,7 @@ fn plan_device_of(object: &Value) -> Device
 {
     Device {
         range: plan_range_of(object),
-        lo: json_word_at(object, "lo"),
-        hi: json_word_at(object, "hi"),
+        lo: json_number_or_zero(object, "lo"),
+        hi: json_number_or_zero(object, "hi"),
     }
 }

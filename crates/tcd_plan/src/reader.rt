@@ -5,13 +5,13 @@ ghost use Rattle.serde_json.specs.View.{view};
 ghost use Rattle.tcd_plan.specs.PlanReader.{IsPlanResult, HasPrintedKey, plan_of, plan_refusal, unchecked_plan_of};
 
 use crate::json_values::{
-    has_json_text, json_elements_or_empty, json_nested_byte, json_nested_number, json_word_at,
+    has_json_string, json_elements_or_empty, json_nested_byte, json_nested_number, json_number_or_zero,
 };
-use crate::key_refusals::{first_bad_key, first_missing_key, first_object_with_unknown_key};
+use crate::key_refusals::{first_key_with_bad_value, first_missing_key, first_object_with_unknown_key};
 use crate::key_table::KeyParent;
-use crate::limits::{first_oversized_array, has_even_vectors, has_valid_areas, plan_range_overlap};
+use crate::limits::{first_oversized_array, has_even_vector_bases, has_valid_areas, plan_range_overlap};
 use crate::object_forms::plan_objects_of;
-use crate::plan_parts::{core_of, devices_of, irqs_of, plan_globals_of, ranges_of};
+use crate::plan_parts::{plan_core_of, plan_devices_of, plan_irqs_of, plan_globals_of, plan_ranges_of};
 use crate::{Plan, PlanErr};
 use serde_json::{Error, Value};
 use std::alloc::Global;
@@ -67,7 +67,7 @@ fn plan_refusal(value: &Value) -> Option<PlanErr>
     if let Some(key) = first_object_with_unknown_key(value) {
         return Some(PlanErr::Unknown(key));
     }
-    if let Some(key) = first_bad_key(value) {
+    if let Some(key) = first_key_with_bad_value(value) {
         return Some(PlanErr::BadValue(key));
     }
     if let Some(key) = first_oversized_array(value) {
@@ -76,7 +76,7 @@ fn plan_refusal(value: &Value) -> Option<PlanErr>
     if !has_valid_areas(value) {
         return Some(PlanErr::BadCsa);
     }
-    if !has_even_vectors(value) {
+    if !has_even_vector_bases(value) {
         return Some(PlanErr::BadVector);
     }
     plan_range_overlap(value)
@@ -89,23 +89,23 @@ fn unchecked_plan_of(value: &Value) -> Plan
     ensures { result ≡ unchecked_plan_of (view value.now) }
 {
     Plan {
-        rom: ranges_of(plan_objects_of(KeyParent::Rom, value)),
-        ram: ranges_of(plan_objects_of(KeyParent::Ram, value)),
-        devices: devices_of(plan_objects_of(KeyParent::Devices, value)),
+        rom: plan_ranges_of(plan_objects_of(KeyParent::Rom, value)),
+        ram: plan_ranges_of(plan_objects_of(KeyParent::Ram, value)),
+        devices: plan_devices_of(plan_objects_of(KeyParent::Devices, value)),
         csa_at: json_nested_number(value, "csa", "at"),
         areas: json_nested_number(value, "csa", "areas"),
         reserve: json_nested_number(value, "csa", "reserve"),
-        sp: json_word_at(value, "sp"),
-        isp: json_word_at(value, "isp"),
-        biv: json_word_at(value, "biv"),
-        btv: json_word_at(value, "btv"),
-        irqs: irqs_of(json_elements_or_empty(value, "irqs")),
-        sys: has_json_text(json_elements_or_empty(value, "traps"), "sys"),
-        aln: has_json_text(json_elements_or_empty(value, "traps"), "aln"),
+        sp: json_number_or_zero(value, "sp"),
+        isp: json_number_or_zero(value, "isp"),
+        biv: json_number_or_zero(value, "biv"),
+        btv: json_number_or_zero(value, "btv"),
+        irqs: plan_irqs_of(json_elements_or_empty(value, "irqs")),
+        sys: has_json_string(json_elements_or_empty(value, "traps"), "sys"),
+        aln: has_json_string(json_elements_or_empty(value, "traps"), "aln"),
         start_ie: json_nested_number(value, "start", "ie") == 1,
         start_ccpn: json_nested_byte(value, "start", "ccpn"),
         start_is: json_nested_number(value, "start", "is") == 1,
         globals: plan_globals_of(value),
-        core: core_of(value),
+        core: plan_core_of(value),
     }
 }

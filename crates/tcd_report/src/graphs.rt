@@ -3,7 +3,7 @@ ghost use Rattle.std.specs.Prelude.{IfOk, string_bytes};
 ghost use Rattle.cfg_recover.specs.RulesHoldOrFail.{Accepts};
 ghost use Rattle.tcd_report.specs.Graphs.{IsGraph};
 
-use crate::graphs::graph_text::{append_node_lines, empty_graph_text};
+use crate::graphs::graph_text::{append_node_lines, empty_drawing};
 use crate::judged::Judged;
 use cfg_recover::KnownCodes;
 use elf_image::Image;
@@ -36,7 +36,7 @@ pub fn graph(alloc: Global, image: &Image, plan: &Plan, cert: &Cert) -> Result<S
         plan,
         cert,
     };
-    let mut graph = empty_graph_text(alloc);
+    let mut graph = empty_drawing(alloc);
     let mut codes = KnownCodes::new();
     let mut walk = PointWalk::empty();
     for i in 0..cert.len() {

@@ -10,7 +10,7 @@ mod reports;
 mod texts;
 
 pub use generating::generated_files::{
-    Generated, generate, generated_plan_text, image_of_functions,
+    Generated, generate, generated_plan_text, generated_image,
 };
 pub use graphs::graph;
 pub use laws::graph_law;

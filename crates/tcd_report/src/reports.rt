@@ -4,7 +4,7 @@ ghost use Rattle.cfg_recover.specs.RulesHoldOrFail.{Accepts};
 ghost use Rattle.tcd_report.specs.Reports.{IsReport};
 
 use crate::judged::Judged;
-use crate::reports::heights::heights;
+use crate::reports::heights::node_heights;
 use crate::reports::longest_by_priority::{longest_calls_below, longest_calls_by_priority};
 use crate::reports::report_text::{certified_need, longest_calls_value, nodes_value, report_value};
 use elf_image::Image;
@@ -33,7 +33,7 @@ pub fn report(alloc: Global, image: &Image, plan: &Plan, cert: &Cert) -> Result<
         plan,
         cert,
     };
-    let heights = heights(alloc, &judged)?;
+    let heights = node_heights(alloc, &judged)?;
     let known = longest_calls_by_priority(alloc, cert, &heights)?;
     let rows = longest_calls_below(alloc, &known, 256)?;
     let need = certified_need(image, plan, cert);

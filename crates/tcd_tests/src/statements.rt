@@ -2,9 +2,9 @@
 use crate::asserts::{is_so, same};
 use tc_isa::rows;
 use tc_lex::{
-    Piece, Scratch, Shape, Token, TokenKind, Value, is_token_kind, operands, token_text, tokens,
+    Piece, Scratch, Shape, Token, TokenKind, Value, is_token_kind, operands_into, token_text, tokens,
 };
-use tc_stmt::{is_source_name, shape_index, statement, symbol_rule, wants};
+use tc_stmt::{is_source_name, shape_index, row_of_statement, rule_broken_by_symbol, wants};
 
 static TOKENS: [Token; 13] = [
     Token {
@@ -113,10 +113,10 @@ fn comma() -> Piece<'static> {
 fn a_move_between_registers(rt: HostRuntime) {
     let pieces = [word("d1"), comma(), word("d2")];
     let mut scratch = Scratch::new();
-    operands(&pieces, &mut scratch);
+    operands_into(&pieces, &mut scratch);
     let found = scratch.as_slice();
     same(&rt, &found.len(), &2);
-    match statement(b"mov", found) {
+    match row_of_statement(b"mov", found) {
         Ok((row, filled)) => {
             same(&rt, &row, &17);
             same(&rt, &filled.fields.c, &1);
@@ -124,7 +124,7 @@ fn a_move_between_registers(rt: HostRuntime) {
         }
         Err(rule) => same(&rt, &rule, &15),
     }
-    match statement(b"mow", found) {
+    match row_of_statement(b"mow", found) {
         Ok((row, _)) => same(&rt, &row, &255),
         Err(rule) => same(&rt, &rule, &2),
     }
@@ -145,6 +145,6 @@ fn pieces_and_names(rt: HostRuntime) {
         size: 0,
         wide: false,
     };
-    same(&rt, &symbol_rule(&lone), &9);
+    same(&rt, &rule_broken_by_symbol(&lone), &9);
     same(&rt, &shape_index(lone.shape), &2);
 }

@@ -3,7 +3,7 @@ ghost use Rattle.std.specs.Prelude.{◌≡◌, ◌≤◌, ◌<◌, length, IfSom
 ghost use Rattle.std.specs.List.{position_or_len};
 ghost use Rattle.tcd_text.specs.Lines.{is_line_feed, text_lines};
 
-use crate::text_parts::{cut_text_after, cut_text_before};
+use crate::text_parts::{text_after, text_before};
 
 /// Returns the index at which the first line of a text ends: that of its first line feed, or the
 /// length of the text.
@@ -26,7 +26,7 @@ pub fn cut_line(text: &[u8]) -> (&[u8], &[u8])
     ensures shorter { length result.1.now < length text.now }
 {
     let end = line_end(text);
-    (cut_text_before(text, end), cut_text_after(text, end))
+    (text_before(text, end), text_after(text, end))
 }
 
 /// Returns the index of the first line feed of a text, or `None` if there is none.

@@ -12,7 +12,7 @@ pub fn append_str(text: &mut String, more: &str) -> Result<(), NoMemory>
 }
 
 /// Returns the bytes of a text before the index of a separator, such as the line feed of a line.
-pub(crate) fn cut_text_before(text: &[u8], place: usize) -> &[u8]
+pub(crate) fn text_before(text: &[u8], place: usize) -> &[u8]
     requires { place ≤ length text.now }
     ensures { result.now ≡ take place text.now }
 {
@@ -21,7 +21,7 @@ pub(crate) fn cut_text_before(text: &[u8], place: usize) -> &[u8]
 
 /// Returns the bytes of a text after the separator at this index, such as the line feed of a line.
 /// At the text's end there are none.
-pub(crate) fn cut_text_after(text: &[u8], place: usize) -> &[u8]
+pub(crate) fn text_after(text: &[u8], place: usize) -> &[u8]
     requires { place ≤ length text.now }
     ensures { result.now ≡ drop (place + 1) text.now }
 {

@@ -2,7 +2,7 @@
 ghost use Rattle.std.specs.Prelude.{◌≡◌, ◌<◌, length, position, IfSome, ◌∷◌, MatchOption, []};
 ghost use Rattle.tcd_text.specs.Lines.{is_word_separator, line_words, AreLineWords};
 
-use crate::text_parts::{cut_text_after, cut_text_before};
+use crate::text_parts::{text_after, text_before};
 
 /// The words of a line, up to four.
 #[derive(Clone, Copy)]
@@ -49,6 +49,6 @@ pub fn cut_word(text: &[u8]) -> Option<(&[u8], &[u8])>
 {
     match find_blank(text) {
         None => None,
-        Some(place) => Some((cut_text_before(text, place), cut_text_after(text, place))),
+        Some(place) => Some((text_before(text, place), text_after(text, place))),
     }
 }

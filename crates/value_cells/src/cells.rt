@@ -4,7 +4,7 @@ use crate::lines::parse_cell_line;
 use crate::plans::{is_cell_in_ram, ram_without_cells};
 use arrayvec::ArrayVec;
 use std::marker::Model;
-use tcd_plan::{Plan, cut_plan_ranges};
+use tcd_plan::{Plan, ranges_outside};
 use tcd_text::cut_line;
 
 /// The most ranges of ram and the most peripherals of a plan.
@@ -118,7 +118,7 @@ impl Cells {
     {
         let _areas = plan.areas;
         let ram = ram_without_cells(plan, self.list());
-        cut_plan_ranges(ram.as_slice(), cell.at, 4).len() <= MOST
+        ranges_outside(ram.as_slice(), cell.at, 4).len() <= MOST
             && plan.devices.len() + self.list.len() < MOST
     }
 }

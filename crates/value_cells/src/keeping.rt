@@ -11,7 +11,7 @@ use value_domain::{Val, extent_of, member};
 /// Returns whether a store keeps each cell that it touches: it stores the cell's whole word, and a
 /// number inside the cell's bounds. The store has 1, 2 or 4 bytes (`size`); its address can be any
 /// word of `at`, and what it stores any word of `stored`.
-pub(crate) fn keeps_cells(at: &Val, size: u8, stored: &Val, cells: &[Cell]) -> bool
+pub(crate) fn keeps_all_cell_bounds(at: &Val, size: u8, stored: &Val, cells: &[Cell]) -> bool
     requires at { IsWellFormed at.now }
     requires stored { IsWellFormed stored.now }
     requires size { IsAccessSize size }
@@ -20,7 +20,7 @@ pub(crate) fn keeps_cells(at: &Val, size: u8, stored: &Val, cells: &[Cell]) -> b
         ((x : ℕ) → IsMember x at.now → KeepsEachCell stored.now size x cells.now) }
 {
     for cell in cells {
-        if !keeps_cell(at, size, stored, cell) {
+        if !keeps_cell_bounds(at, size, stored, cell) {
             return false;
         }
     }
@@ -29,7 +29,7 @@ pub(crate) fn keeps_cells(at: &Val, size: u8, stored: &Val, cells: &[Cell]) -> b
 
 /// Returns whether a store keeps one cell. Only stores from at most three bytes below the cell up
 /// to its last byte touch it.
-fn keeps_cell(at: &Val, size: u8, stored: &Val, cell: &Cell) -> bool
+fn keeps_cell_bounds(at: &Val, size: u8, stored: &Val, cell: &Cell) -> bool
     requires at { IsWellFormed at.now }
     requires stored { IsWellFormed stored.now }
     requires size { IsAccessSize size }
@@ -39,12 +39,12 @@ fn keeps_cell(at: &Val, size: u8, stored: &Val, cell: &Cell) -> bool
     let fits = fits_cell(size, stored, cell);
     let mut x = cell.at.saturating_sub(u32::from(size) - 1);
     while x < cell.at + 3 {
-        if !is_cell_kept_at(x, at, fits, cell.at) {
+        if !is_store_allowed_at(x, at, fits, cell.at) {
             return false;
         }
         x += 1;
     }
-    is_cell_kept_at(x, at, fits, cell.at)
+    is_store_allowed_at(x, at, fits, cell.at)
 }
 
 /// Returns whether a store at exactly the cell's address keeps the bounds: its `size` is 4, and all
@@ -58,7 +58,7 @@ fn fits_cell(size: u8, stored: &Val, cell: &Cell) -> bool
 
 /// Returns whether a store at `x` keeps the cell at the address `cell`: `x` is no member of `at`;
 /// or `fits`, and `x` is `cell`.
-fn is_cell_kept_at(x: u32, at: &Val, fits: bool, cell: u32) -> bool
+fn is_store_allowed_at(x: u32, at: &Val, fits: bool, cell: u32) -> bool
     requires { IsWellFormed at.now }
     ensures { IsTrue result ↔ IsCellKeptAt at.now fits cell x }
 {

@@ -15,7 +15,7 @@ pub fn cells_keep_their_bounds()
 
 /// What the definitions of cells mean: the ram without cells, and safe runs with cells. A text has
 /// one list of cells, or one error.
-pub fn cell_guard_laws()
+pub fn cell_definition_laws()
     ensures ram { RamIsWithoutCells }
     ensures stays { EachCellStaysInBounds }
     ensures one { CellTextHasOneResult }

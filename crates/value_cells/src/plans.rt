@@ -7,7 +7,7 @@ ghost use Rattle.value_cells.specs.Cells.{AreCells, cell_device, ram_without_cel
 use crate::cells::{Cell, Cells};
 use arrayvec::ArrayVec;
 use tcd_base::{Range, is_in_one_range};
-use tcd_plan::{Device, Plan, cut_plan_ranges};
+use tcd_plan::{Device, Plan, ranges_outside};
 
 /// Returns whether the word of a cell, at this address, is inside one of the plan's ranges of ram.
 pub(crate) fn is_cell_in_ram(plan: &Plan, at: u32) -> bool
@@ -63,7 +63,7 @@ fn ranges_without_cell(ranges: &[Range], at: u32) -> ArrayVec<Range, 16>
     requires room { length (cut_plan_ranges at 4 ranges.now) ≤ 16 }
     ensures { result.items ≡ cut_plan_ranges at 4 ranges.now }
 {
-    let left = cut_plan_ranges(ranges, at, 4);
+    let left = ranges_outside(ranges, at, 4);
     ArrayVec::try_from(left.as_slice()).unwrap()
 }
 

@@ -5,7 +5,7 @@ ghost use Rattle.value_cells.specs.Cells.{CellsDoNotWrap};
 ghost use Rattle.value_cells.specs.Keeping.{PointKeepsCells};
 
 use crate::cells::Cell;
-use crate::keeping::keeps_cells;
+use crate::keeping::keeps_all_cell_bounds;
 use cfg_recover::KnownCodes;
 use elf_image::Image;
 use tc_isa::Shape;
@@ -36,14 +36,14 @@ pub(crate) fn keeps_rule_16(rule: &CellsRule, codes: &mut KnownCodes, addr: u32,
         ↔ PointKeepsCells r.bounds.now r.image.now r.plan.now r.cells.now
         (record { addr = addr; state = s.now }) }
 {
-    let Some(found) = codes.locate(rule.image, rule.plan, addr) else {
+    let Some(found) = codes.decode_cached(rule.image, rule.plan, addr) else {
         return true;
     };
     let shape = found.shape;
     match shape {
         Shape::Store { src, size, .. } => {
             let at = address_by_shape(rule.bounds, rule.plan, shape, s);
-            keeps_cells(&at, size, &reg(rule.plan, s, src), rule.cells)
+            keeps_all_cell_bounds(&at, size, &reg(rule.plan, s, src), rule.cells)
         }
         _ => true,
     }

@@ -7,9 +7,9 @@ ghost use Rattle.value_domain.specs.Limits.{AreLimits};
 ghost use Rattle.value_domain.specs.Values.{IsWellFormed, IsInLattice, IsBelow, cover, members, multiples_in_range, span_between_thresholds, span_len, words_of};
 ghost use Rattle.value_domain.specs.declared.values.Val.TheVariants.{Set, Span};
 
-use crate::merged_lists::merge;
+use crate::merged_lists::set_union;
 use crate::values::{
-    alignment_log2, has_set_word, is_set, is_span_of_all_words, member, set_span, set_word,
+    alignment_log2, is_word_of_set, is_set, is_span_of_all_words, member, set_span, set_word,
     set_words, span_len,
 };
 use crate::{Bounds, Val, Words};
@@ -190,7 +190,7 @@ pub fn is_value(b: &Bounds, v: &Val) -> bool
 {
     match v {
         Val::Set(words) => words.as_slice().len() <= b.most_words(),
-        Val::Span { lo, last, step } => is_span_value(b, *lo, *last, *step),
+        Val::Span { lo, last, step } => is_span_in_lattice(b, *lo, *last, *step),
     }
 }
 
@@ -354,14 +354,14 @@ fn join_set_with_set(b: &Bounds, v: &mut Val, words: &Words)
     ensures { v.new ≡ cover b.now (members v.old ++ words.now) }
 {
     match v {
-        Val::Set(own) => write_ascending(b, merge(own.as_slice(), words.as_slice()).as_slice(), v),
+        Val::Set(own) => write_value_of_words(b, set_union(own.as_slice(), words.as_slice()).as_slice(), v),
         Val::Span { .. } => unreachable!(),
     }
 }
 
 /// Overwrites `out` with the least value that holds these ascending words: their Set if a Set can
 /// have so many, else a Span.
-fn write_ascending(b: &Bounds, words: &[u32], out: &mut Val)
+fn write_value_of_words(b: &Bounds, words: &[u32], out: &mut Val)
     requires some { 1 ≤ length words.now }
     requires rising { IsAscending words.now }
     ensures { out.new ≡ values.value_of_words b.now words.now }
@@ -415,7 +415,7 @@ fn is_span_below_set(lo: u32, last: u32, step: u8, words: &[u32]) -> bool
     let start = (u64::from(lo) + (unit - 1)) / unit;
     let end = u64::from(last) / unit + 1;
     for k in start..end {
-        if !has_set_word(words, (k * unit) as u32) {
+        if !is_word_of_set(words, (k * unit) as u32) {
             return false;
         }
     }
@@ -424,7 +424,7 @@ fn is_span_below_set(lo: u32, last: u32, step: u8, words: &[u32]) -> bool
 
 /// Returns true if this Span is in the lattice of these limits: between thresholds, and of more
 /// members than a Set can have.
-fn is_span_value(b: &Bounds, lo: u32, last: u32, step: u8) -> bool
+fn is_span_in_lattice(b: &Bounds, lo: u32, last: u32, step: u8) -> bool
     ensures { IsTrue result ↔ IsInLattice b.now (Span lo last step) }
 {
     let most_words = b.most_words();
@@ -469,5 +469,5 @@ fn write_cover_as_set(b: &Bounds, first: u32, last: u32, step: u8, out: &mut Val
     for k in start..end {
         words.push((k * unit) as u32);
     }
-    write_ascending(b, words.as_slice(), out);
+    write_value_of_words(b, words.as_slice(), out);
 }

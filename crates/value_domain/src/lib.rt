@@ -15,7 +15,7 @@ pub use lattice::{
 };
 pub use laws::{state_laws, value_laws};
 pub use limits::Bounds;
-pub use meets::{write_meet_with_set, write_span_meet};
+pub use meets::{write_meet_with_set, write_meet_with_span};
 pub use states::{
     A10_SLOT, State, copy_locals, covers, covers_context, flags_imply, join_locals, join_states,
 };

@@ -140,7 +140,7 @@ fn count_words_below(words: &[u32], x: u32) -> usize
 }
 
 /// Returns true if `x` is one of the ascending words.
-pub(crate) fn has_set_word(words: &[u32], x: u32) -> bool
+pub(crate) fn is_word_of_set(words: &[u32], x: u32) -> bool
     requires { IsAscending words.now }
     ensures { IsTrue result ↔ Among x words.now }
 {
@@ -242,7 +242,7 @@ pub fn set_words(out: &mut Val, words: &[u32])
 {
     match out {
         Val::Set(own) => own.set(words),
-        Val::Span { .. } => replace_span_by_words(out, words),
+        Val::Span { .. } => replace_by_set(out, words),
     }
 }
 
@@ -253,16 +253,16 @@ pub fn set_word(out: &mut Val, x: u32)
 {
     match out {
         Val::Set(own) => own.set_one(x),
-        Val::Span { .. } => replace_span_by_word(out, x),
+        Val::Span { .. } => replace_by_singleton(out, x),
     }
 }
 
-// `replace_span_by_word`, `replace_span_by_words` and `replace_set_by_span` write all bytes of a
+// `replace_by_singleton`, `replace_by_set` and `replace_by_span` write all bytes of a
 // value. Each is a function of its own, so that its callers need no stack for a value.
 
 /// Overwrites a Span with the Set of one word.
 #[inline(never)]
-fn replace_span_by_word(out: &mut Val, x: u32)
+fn replace_by_singleton(out: &mut Val, x: u32)
     ensures { out.new ≡ Set (x ∷ []) }
 {
     *out = Val::one(x);
@@ -270,11 +270,11 @@ fn replace_span_by_word(out: &mut Val, x: u32)
 
 /// Overwrites a Span with the Set of these words.
 #[inline(never)]
-fn replace_span_by_words(out: &mut Val, words: &[u32])
+fn replace_by_set(out: &mut Val, words: &[u32])
     requires { AreSetWords words.now }
     ensures { out.new ≡ Set words.now }
 {
-    replace_span_by_word(out, words[0]);
+    replace_by_singleton(out, words[0]);
     match out {
         Val::Set(own) => own.set(words),
         Val::Span { .. } => unreachable!(),
@@ -286,7 +286,7 @@ pub fn set_span(out: &mut Val, lo: u32, last: u32, step: u8)
     ensures { out.new ≡ Span lo last step }
 {
     match out {
-        Val::Set(_) => replace_set_by_span(out, lo, last, step),
+        Val::Set(_) => replace_by_span(out, lo, last, step),
         Val::Span {
             lo: own_lo,
             last: own_last,
@@ -320,7 +320,7 @@ pub fn member(x: u32, v: &Val) -> bool
     ensures { IsTrue result ↔ IsMember x v.now }
 {
     match v {
-        Val::Set(words) => has_set_word(words.as_slice(), x),
+        Val::Set(words) => is_word_of_set(words.as_slice(), x),
         Val::Span { lo, last, step } => *lo <= x && x <= *last && *step <= alignment_log2(x),
     }
 }
@@ -403,7 +403,7 @@ pub fn is_equal_span(v: &Val, lo: u32, last: u32, step: u8) -> bool
 
 /// Overwrites a Set with a Span.
 #[inline(never)]
-fn replace_set_by_span(out: &mut Val, lo: u32, last: u32, step: u8)
+fn replace_by_span(out: &mut Val, lo: u32, last: u32, step: u8)
     ensures { out.new ≡ Span lo last step }
 {
     *out = Val::Span { lo, last, step };

@@ -31,7 +31,7 @@ pub(crate) struct Comparison {
 
 /// Returns the relation that a branch's operands are in on this side (true: the branch is taken).
 #[tactic(auto, unfolding(crate::specs::Relations::relation_on_side))]
-pub(crate) fn relation_on_side(cond: Cond, side: bool) -> Relation
+pub(crate) fn operand_relation(cond: Cond, side: bool) -> Relation
     ensures { result ≡ relation_on_side cond side }
 {
     match cond {

@@ -86,7 +86,7 @@ pub(crate) fn write_scaled_address_change(
 
 /// Writes into `c` the change of a state by post-increment of a load or store: the offset is added
 /// to its base. Without post-increment nothing changes.
-pub(crate) fn write_base_change(b: &Bounds, plan: &Plan, s: &State, at: Addressing, c: &mut Change)
+pub(crate) fn write_post_increment_change(b: &Bounds, plan: &Plan, s: &State, at: Addressing, c: &mut Change)
     requires base { IsArg at.base }
     requires values { AreInLattice b.now s.now.regs }
     ensures base { state_after s.now c.new
@@ -126,7 +126,7 @@ pub(crate) fn write_load_change(
         plan.now s.now at.base at.offset at.after) dst c.old.third.value }
     ensures values { AreInLattice b.now (state_after s.now c.new).regs }
 {
-    write_base_change(b, plan, s, at, c);
+    write_post_increment_change(b, plan, s, at, c);
     set_third_write_slot(b, s, c, dst);
 }
 
@@ -228,7 +228,7 @@ pub fn write_instruction_change(b: &Bounds, plan: &Plan, shape: Shape, s: &State
             offset,
             after,
             ..
-        } => write_base_change(b, plan, s, Addressing::new(base, offset, after), c),
+        } => write_post_increment_change(b, plan, s, Addressing::new(base, offset, after), c),
         Shape::Svlcx => write_lower_save_change(s, c),
         Shape::Rslcx => write_lower_restore_change(b, s, c),
         Shape::Bisr { c: number } => write_bisr_change(s, number, c),

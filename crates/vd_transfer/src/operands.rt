@@ -22,7 +22,7 @@ pub(crate) struct Operation {
 
 /// Returns the slot of an operand's register among a state's 27, or `None` for a constant and for
 /// A0, A1, A8, A9 and A11.
-pub(crate) fn operand_slot(a: Arg) -> Option<usize>
+pub(crate) fn arg_slot(a: Arg) -> Option<usize>
     ensures { result ≡ arg_slot a }
 {
     match a {

@@ -145,7 +145,7 @@ fn write_results_of_many_pairs(b: &Bounds, op: Op, xs: &[u32], ys: &[u32], out: 
         i += 1;
     }
     if i < xs.len() {
-        widen_by_results(b, out, op, &xs[i..], ys, &mut room[..ys.len()]);
+        join_results_into_span(b, out, op, &xs[i..], ys, &mut room[..ys.len()]);
     }
 }
 
@@ -226,7 +226,7 @@ fn join_result_row(
 
 /// Joins the results of an operation on all pairs of words into a Span, by the extent of all
 /// results. `row` is scratch space.
-fn widen_by_results(b: &Bounds, v: &mut Val, op: Op, xs: &[u32], ys: &[u32], row: &mut [u32])
+fn join_results_into_span(b: &Bounds, v: &mut Val, op: Op, xs: &[u32], ys: &[u32], row: &mut [u32])
     requires span { IsNone (words_of v.old) }
     requires value { IsInLattice b.now v.old }
     requires room { length row.old ≡ length ys.now }
@@ -320,7 +320,7 @@ fn evaluate_on_state_values(b: &Bounds, plan: &Plan, s: &State, of: Operation, o
             Some(w) => write_operation_value(b, of.op, v, w, out),
             None => evaluate_built_right(b, plan, s, of, v, out),
         },
-        None => evaluate_built_left(b, plan, s, of, out),
+        None => evaluate_built_both(b, plan, s, of, out),
     }
 }
 
@@ -340,7 +340,7 @@ fn evaluate_built_right(b: &Bounds, plan: &Plan, s: &State, of: Operation, v: &V
 /// Evaluates an operation as `evaluate_operation` does, if the state doesn't have the value of the
 /// left operand.
 #[inline(never)]
-fn evaluate_built_left(b: &Bounds, plan: &Plan, s: &State, of: Operation, out: &mut Val)
+fn evaluate_built_both(b: &Bounds, plan: &Plan, s: &State, of: Operation, out: &mut Val)
     requires operands { IsArg of.x × IsArg of.y }
     requires values { AreInLattice b.now s.now.regs }
     ensures of { out.new ≡ operation_in_state b.now plan.now s.now of.op of.x of.y }

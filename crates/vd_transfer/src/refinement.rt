@@ -11,12 +11,12 @@ ghost use Rattle.vd_transfer.specs.Signs.{is_signed_condition};
 ghost use Rattle.vd_transfer.specs.Branches.{narrowed_left_value, narrowed_right_value, state_if_possible, state_narrowed_by_values};
 ghost use Rattle.vd_transfer.specs.Changes.{state_after};
 
-use crate::branch_sides::{Comparison, narrow_left_register, relation_on_side};
+use crate::branch_sides::{Comparison, narrow_left_register, operand_relation};
 use crate::change::Change;
-use crate::operands::operand_slot;
+use crate::operands::arg_slot;
 use crate::signed_refinement::{is_signed_condition, refine_by_signed_relation};
 use value_domain::{
-    Bounds, State, Val, extent_of, join_into, write_meet_with_set, write_span_meet,
+    Bounds, State, Val, extent_of, join_into, write_meet_with_set, write_meet_with_span,
 };
 
 /// A relation between two words.
@@ -93,7 +93,7 @@ pub(crate) fn join_members_in_interval(
         join_meet_with_interval(b, v, i, out);
         true
     } else {
-        write_span_meet(b, v, i.lo, i.last, 0, out)
+        write_meet_with_span(b, v, i.lo, i.last, 0, out)
     }
 }
 
@@ -112,7 +112,7 @@ pub(crate) fn refine_left_operand(
         ≡ narrowed_left_value b.now test.cond test.side v.now w.now }
     ensures value { IfSome (value_if_found result out.new) (IsInLattice b.now) }
 {
-    let rel = relation_on_side(test.cond, test.side);
+    let rel = operand_relation(test.cond, test.side);
     if is_signed_condition(test.cond) {
         refine_by_signed_relation(b, rel, v, w, out)
     } else {
@@ -144,7 +144,7 @@ pub(crate) fn refine_both_operands(
     if !refine_right_operand(b, test, v, w, &mut c.second.value) {
         return false;
     }
-    c.second.at = operand_slot(test.y);
+    c.second.at = arg_slot(test.y);
     true
 }
 
@@ -197,7 +197,7 @@ fn refine_to_common_members(b: &Bounds, v: &Val, w: &Val, out: &mut Val) -> bool
 {
     match w {
         Val::Set(words) => write_meet_with_set(b, words.as_slice(), v, out),
-        Val::Span { lo, last, step } => write_span_meet(b, v, *lo, *last, *step, out),
+        Val::Span { lo, last, step } => write_meet_with_span(b, v, *lo, *last, *step, out),
     }
 }
 
@@ -213,7 +213,7 @@ fn refine_by_intervals(b: &Bounds, rel: Relation, v: &Val, w: &Val, out: &mut Va
 {
     let e = extent_of(w);
     let (first, second) = related_intervals(rel, e.least, e.greatest);
-    let found = write_span_meet(b, v, first.lo, first.last, 0, out);
+    let found = write_meet_with_span(b, v, first.lo, first.last, 0, out);
     join_members_in_interval(b, v, second, found, out)
 }
 
@@ -228,7 +228,7 @@ fn join_meet_with_interval(b: &Bounds, v: &Val, i: Interval, out: &mut Val)
     ensures value { IsInLattice b.now out.new }
 {
     let mut others = Val::any();
-    if !write_span_meet(b, v, i.lo, i.last, 0, &mut others) {
+    if !write_meet_with_span(b, v, i.lo, i.last, 0, &mut others) {
         return;
     }
     join_into(b, out, &others);
@@ -243,7 +243,7 @@ fn refine_right_operand(b: &Bounds, test: Comparison, v: &Val, w: &Val, out: &mu
         ≡ narrowed_right_value b.now test.cond test.side v.now w.now }
     ensures value { IfSome (value_if_found result out.new) (IsInLattice b.now) }
 {
-    let rel = converse(relation_on_side(test.cond, test.side));
+    let rel = converse(operand_relation(test.cond, test.side));
     if is_signed_condition(test.cond) {
         refine_by_signed_relation(b, rel, w, v, out)
     } else {

@@ -10,7 +10,7 @@ ghost use Rattle.vd_transfer.specs.declared.refinement.Relation.TheVariants.{Sam
 
 use crate::refinement::{Interval, NONE, Relation, join_members_in_interval, related_intervals};
 use tc_isa::Cond;
-use value_domain::{Bounds, Val, extent_of, write_span_meet};
+use value_domain::{Bounds, Val, extent_of, write_meet_with_span};
 
 const HALF: u32 = 1 << 31;
 
@@ -28,7 +28,7 @@ pub fn refine_by_signed_relation(b: &Bounds, rel: Relation, v: &Val, w: &Val, ou
     let (i, j) = related_intervals(rel, signed_rank(low), signed_rank(high));
     let (first, second) = words_in_signed_interval(i);
     let (third, fourth) = words_in_signed_interval(j);
-    let one = write_span_meet(b, v, first.lo, first.last, 0, out);
+    let one = write_meet_with_span(b, v, first.lo, first.last, 0, out);
     let two = join_members_in_interval(b, v, second, one, out);
     let three = join_members_in_interval(b, v, third, two, out);
     join_members_in_interval(b, v, fourth, three, out)

@@ -8,7 +8,7 @@ use std::alloc::{AllocError, Global};
 
 /// Returns a topological rank for each node of the graph of entries: less than those of nodes
 /// entered, or 0 if a cycle is reached.
-pub fn node_ranks(
+pub fn topological_ranks(
     alloc: Global,
     nodes: usize,
     edges: &[FrameEdge],

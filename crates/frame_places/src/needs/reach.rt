@@ -124,7 +124,7 @@ fn reaching_marks_by_predecessors(
     marks[node] = true;
     let mut work = Vec::new(alloc);
     work.push(node)?;
-    finish_marking(&mut marks, &mut work, sources)?;
+    mark_reaching_nodes(&mut marks, &mut work, sources)?;
     Ok(marks)
 }
 
@@ -148,7 +148,7 @@ fn add_predecessor(
 
 /// Marks all nodes of the graph of entries from which a node of the queue `work` is reached, and
 /// empties the queue.
-fn finish_marking(
+fn mark_reaching_nodes(
     marks: &mut [bool],
     work: &mut Vec<usize>,
     sources: &IndexMap<usize, Vec<usize>>,

@@ -17,7 +17,7 @@ use tcd_report::graph;
 /// The command `cfg`: reads an executable and a plan, and reports the control flow graph of their
 /// best certificate.
 #[inline(never)]
-pub(crate) fn draw_files<F: Files>(alloc: Global, elf: &str, plan: &str, files: &mut F) -> Outcome
+pub(crate) fn draw_cfg<F: Files>(alloc: Global, elf: &str, plan: &str, files: &mut F) -> Outcome
     ensures { IsCommandOutcome (cfg_reading (record { elf = elf.now; plan = plan.now }))
         (F.seen files.old) (F.seen files.new) result }
 {

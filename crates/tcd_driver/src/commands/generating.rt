@@ -11,7 +11,7 @@ use std::alloc::Global;
 use tcd_forms::gen_line;
 use tcd_plan::{Plan, PlanErr};
 use tcd_reading::{Outcome, Report, Status, Stop};
-use tcd_report::{generated_plan_text, image_of_functions};
+use tcd_report::{generated_plan_text, generated_image};
 
 /// The command `gen`: generates the image with this number of functions and its plan, and reports
 /// their certificate's size and need.
@@ -21,7 +21,7 @@ pub(crate) fn certify_generated_image(alloc: Global, functions: u32) -> Outcome
     ensures { IsReportOrNoMemory (IsGenReport functions (generated_image functions) generated_plan)
         result }
 {
-    let image = image_of_functions(alloc, functions)?;
+    let image = generated_image(alloc, functions)?;
     match Plan::read(alloc, generated_plan_text().as_bytes()) {
         Ok(plan) => report_generated_image(alloc, functions, &image, &plan),
         Err(e) => {

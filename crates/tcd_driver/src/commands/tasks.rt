@@ -12,7 +12,7 @@ use depth_check::{Verdict, check};
 use elf_image::Image;
 use packed_cert::Cert;
 use std::alloc::Global;
-use task_chains::{TASKS_RULE, Tasks, TasksErr, routine_fault, task_fault, view_image, view_plan};
+use task_chains::{TASKS_RULE, Tasks, TasksErr, routine_fault, task_fault, task_view_image, task_view_plan};
 use tcd_base::{Files, NoMemory};
 use tcd_forms::{
     CertFile, ElfFile, PlanFile, certified_tasks_line, refused_sum_line, refused_switch_line,
@@ -57,7 +57,7 @@ pub(crate) fn check_tasks<F: Files>(
     let image = read_input(&ElfFile, alloc, elf, files)?;
     let board = read_input(&PlanFile, alloc, plan, files)?;
     let list = read_input(&TasksFile { plan: &board }, alloc, tasks, files)?;
-    read_task_certs(alloc, &image, &board, &list, certs, files)
+    check_task_cert_files(alloc, &image, &board, &list, certs, files)
 }
 
 /// Returns the need of task `u` that counts in the sum of `tasks` and `taskcert`. That is `need`
@@ -78,7 +78,7 @@ pub(crate) fn report_wrong_cert_count(alloc: Global) -> Outcome
 
 // Reports bad input if there are more or fewer names than tasks. Else reads each task's certificate
 // and reports the verdict of `tasks`.
-fn read_task_certs<F: Files>(
+fn check_task_cert_files<F: Files>(
     alloc: Global,
     image: &Image,
     plan: &Plan,
@@ -214,8 +214,8 @@ fn check_task_cert(
     let _areas = plan.areas;
     let _switch = tasks.switch;
     let _version = cert.version();
-    let view = view_image(alloc, image, tasks, u)?;
-    let board = view_plan(plan, tasks, u);
+    let view = task_view_image(alloc, image, tasks, u)?;
+    let board = task_view_plan(plan, tasks, u);
     match check(&view, &board, cert) {
         Verdict::Yes(need) => match task_fault(&view, &board, tasks, cert) {
             Some((key, addr)) => Ok(Verdict::No {

@@ -38,7 +38,7 @@ pub fn generate(alloc: Global, n: u32) -> Result<Generated, NoMemory>
     // Reading the text gives the plan.
     ensures plan { IfOk result (λ g. GivesPlan g.plan.items (Ok generated_plan)) }
 {
-    let image = image_of_functions(alloc, n)?;
+    let image = generated_image(alloc, n)?;
     let Ok(elf) = image.write(alloc) else {
         return Err(NoMemory);
     };
@@ -49,7 +49,7 @@ pub fn generate(alloc: Global, n: u32) -> Result<Generated, NoMemory>
 /// Returns the image of n functions that is generated with its plan: five segments, from the main
 /// program to the functions.
 #[tactic(auto, using(crate::proofs::ImageLemmas::Instructions::system_bytes))]
-pub fn image_of_functions(alloc: Global, n: u32) -> Result<Image, NoMemory>
+pub fn generated_image(alloc: Global, n: u32) -> Result<Image, NoMemory>
     requires some { 1 ≤ n }
     requires few { n ≤ 500 }
     ensures { IfOk result (λ i. i ≡ generated_image n) }

@@ -11,9 +11,9 @@ ghost use Rattle.tcd_report.specs.Texts.{GrowsByLines};
 ghost use Rattle.depth_cert.specs.Points.{point_of};
 
 use crate::graphs::edges::{Edges, find_edges};
-use crate::graphs::handlers::{no_handlers, set_handler_line_front};
+use crate::graphs::handlers::{no_handlers, set_handler_line_prefix};
 use crate::graphs::lines::{
-    append_edges, append_ret_line, set_node_line_front, set_point_line_front,
+    append_edges, append_ret_line, set_node_line_prefix, set_point_line_prefix,
 };
 use crate::judged::Judged;
 use cfg_recover::KnownCodes;
@@ -35,7 +35,7 @@ pub(crate) struct Drawing {
 }
 
 /// Returns a graph without lines, to which the lines of nodes are then appended.
-pub(crate) fn empty_graph_text(alloc: Global) -> Drawing
+pub(crate) fn empty_drawing(alloc: Global) -> Drawing
     ensures text { string_bytes result.text ≡ [] }
     ensures handlers { (plan : PlanData) → KnowsHandlers plan result.ways.irq }
 {
@@ -72,7 +72,7 @@ pub(crate) fn append_node_lines<'a>(
         (string_bytes graph.old.text) (string_bytes graph.new.text)) }
     ensures handlers { OnOk result (KnowsHandlers judged.now.plan.now graph.new.ways.irq) }
 {
-    set_node_line_front(&mut graph.key_front, &node.key)?;
+    set_node_line_prefix(&mut graph.key_front, &node.key)?;
     node.start_walk(walk);
     while let Some(addr) = walk.advance() {
         append_point_lines(graph, judged, codes, &node.key, addr, walk.state())?;
@@ -103,12 +103,12 @@ fn append_point_lines(
     ensures front { OnOk result (string_bytes graph.new.key_front ≡ key_front key.now) }
     ensures handlers { OnOk result (KnowsHandlers judged.now.plan.now graph.new.ways.irq) }
 {
-    let Some(found) = codes.locate(judged.image, judged.plan, addr) else {
+    let Some(found) = codes.decode_cached(judged.image, judged.plan, addr) else {
         unreachable!()
     };
     find_edges(&mut graph.ways, judged, key, addr, s, &found)?;
-    set_point_line_front(&mut graph.front, graph.key_front.as_str(), addr)?;
-    set_handler_line_front(&mut graph.ways.irq, graph.front.as_str())?;
+    set_point_line_prefix(&mut graph.front, graph.key_front.as_str(), addr)?;
+    set_handler_line_prefix(&mut graph.ways.irq, graph.front.as_str())?;
     append_edges(&mut graph.text, graph.front.as_str(), &graph.ways)?;
     append_ret_line(&mut graph.text, graph.front.as_str(), found.shape)
 }

@@ -84,7 +84,7 @@ fn set_handler_entries(all: &mut Vec<u32>, plan: &Plan, irqs: &[u8]) -> Result<(
 
 /// Sets the front of the graph's `irq` lines of known handlers. A front as long as the one before
 /// is written over that one.
-pub(crate) fn set_handler_line_front(known: &mut Handlers, front: &str) -> Result<(), NoMemory>
+pub(crate) fn set_handler_line_prefix(known: &mut Handlers, front: &str) -> Result<(), NoMemory>
     requires { AreHandlerLines known.old.front known.old.entries.items known.old.lines.items }
     ensures lines { OnOk result
         (known.new.lines.items ≡ irq_lines front.now known.new.entries.items) }
@@ -93,7 +93,7 @@ pub(crate) fn set_handler_line_front(known: &mut Handlers, front: &str) -> Resul
     ensures entries { OnOk result (known.new.entries.items ≡ known.old.entries.items) }
 {
     if known.front == front.len() {
-        write_handler_fronts(&mut known.lines, front.as_bytes(), &known.entries);
+        write_handler_prefixes(&mut known.lines, front.as_bytes(), &known.entries);
         return Ok(());
     }
     known.front = front.len();
@@ -113,19 +113,19 @@ fn make_handler_lines(lines: &mut Vec<u8>, front: &str, entries: &[u32]) -> Resu
 }
 
 // Writes a front over the old one, of the same length, in each of the graph's `irq` lines.
-fn write_handler_fronts(lines: &mut [u8], front: &[u8], entries: &[u32])
+fn write_handler_prefixes(lines: &mut [u8], front: &[u8], entries: &[u32])
     requires { AreHandlerLines (length front.now) entries.now lines.old }
     ensures { lines.new ≡ irq_lines front.now entries.now }
 {
     let mut at = 0;
     for _ in 0..entries.len() {
-        write_handler_front(lines, at, front);
+        write_handler_prefix(lines, at, front);
         at += front.len() + IRQ_END;
     }
 }
 
 /// Writes a front into the graph's `irq` lines at index `at`, where a line begins.
-fn write_handler_front(lines: &mut [u8], at: usize, front: &[u8])
+fn write_handler_prefix(lines: &mut [u8], at: usize, front: &[u8])
     requires { at + length front.now ≤ length lines.old }
     ensures { lines.new ≡ with_handler_front lines.old at front.now }
 {

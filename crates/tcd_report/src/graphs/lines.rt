@@ -13,7 +13,7 @@ use tcd_base::NoMemory;
 use tcd_text::{append_ascii, append_hex_word, append_str, hex_word};
 
 /// Sets the front of all lines of a node in the graph: its key, a colon and a blank.
-pub(crate) fn set_node_line_front(front: &mut String, key: &Key) -> Result<(), NoMemory>
+pub(crate) fn set_node_line_prefix(front: &mut String, key: &Key) -> Result<(), NoMemory>
     ensures front { OnOk result (string_bytes front.new ≡ key_front key.now) }
     ensures ascii { OnOk result (IsAscii (key_front key.now)) }
 {
@@ -26,7 +26,7 @@ pub(crate) fn set_node_line_front(front: &mut String, key: &Key) -> Result<(), N
 }
 
 /// Sets the front of all lines of a point in the graph: that of its node, and the address.
-pub(crate) fn set_point_line_front(
+pub(crate) fn set_point_line_prefix(
     front: &mut String,
     key_front: &str,
     addr: u32,

@@ -98,7 +98,7 @@ fn push_branch_successor(
     ensures { let j = judged.now in OnOk result (all.new.items ≡ all.old.items
         ++ jump_targets_of (jump_on to (refine_of j.bounds.now j.plan.now shape s.now taken))) }
 {
-    if is_branch_side_possible(judged, shape, s, taken) {
+    if is_branch_edge_feasible(judged, shape, s, taken) {
         all.push(to)?;
     }
     Ok(())
@@ -106,7 +106,7 @@ fn push_branch_successor(
 
 // Returns true if a branch may go this way. Not inlined, so that a change takes stack only here.
 #[inline(never)]
-fn is_branch_side_possible(judged: &Judged, shape: Shape, s: &State, taken: bool) -> bool
+fn is_branch_edge_feasible(judged: &Judged, shape: Shape, s: &State, taken: bool) -> bool
     requires shape { IsShape shape }
     requires values { AreInLattice judged.now.bounds.now s.now.regs }
     ensures { let j = judged.now in

@@ -20,7 +20,7 @@ use value_domain::State;
 
 /// Returns the height of each node: the length of the longest call chain that begins there. Nodes
 /// come by ascending need, so callees before callers.
-pub(crate) fn heights(alloc: Global, judged: &Judged) -> Result<HashMap<Key, u32>, NoMemory>
+pub(crate) fn node_heights(alloc: Global, judged: &Judged) -> Result<HashMap<Key, u32>, NoMemory>
     requires { IsAcceptedWithLimits judged.now }
     ensures tells { let j = judged.now in
         IfOk result (λ m. AreNodeHeights j.image.now j.plan.now j.cert.now m) }
@@ -29,7 +29,7 @@ pub(crate) fn heights(alloc: Global, judged: &Judged) -> Result<HashMap<Key, u32
     let cert = judged.cert;
     // Reading a field gives the facts that hold for every certificate.
     let _version = cert.version();
-    let mut order = height_ranks(alloc, cert)?;
+    let mut order = needs_with_keys(alloc, cert)?;
     order.sort()?;
     let mut heights = HashMap::new(alloc);
     let mut codes = KnownCodes::new();
@@ -85,7 +85,7 @@ fn height_at_point(
         IsGreatestHeight (IsHeightThroughCall j.image.now j.plan.now j.cert.now heights.now key.now
         (point_of addr s.now)) result }
 {
-    let Some(found) = codes.locate(judged.image, judged.plan, addr) else {
+    let Some(found) = codes.decode_cached(judged.image, judged.plan, addr) else {
         unreachable!()
     };
     match found.shape {
@@ -95,7 +95,7 @@ fn height_at_point(
 }
 
 // Returns the need and the key of each node, by which nodes are sorted to find their heights.
-fn height_ranks(alloc: Global, cert: &Cert) -> Result<Vec<(u16, Key)>, NoMemory>
+fn needs_with_keys(alloc: Global, cert: &Cert) -> Result<Vec<(u16, Key)>, NoMemory>
     ensures { IfOk result (λ v. v.items ≡ map height_rank_of cert.now.nodes) }
 {
     let mut ranks = Vec::new(alloc);

@@ -2,20 +2,20 @@ use Rattle.std.proofs.Common.{refl, inl, inr}
 use Rattle.cfg_recover.proofs.LocalLaws.{StoresInRange-at, MayAccess-at, ruled_out}
 use Rattle.cfg_recover.proofs.local_rules.access_fault_at_value.Goals as goal
 
-pub returns-then-not-may_store_at_value : goal.returns-then-not-may_store_at_value
-returns-then-not-may_store_at_value c =
-    inl (refl, ruled_out c.may_store_at_value.result (StoresInRange-at c.args.b.now c.args.plan.now c.args.s.now c.args.shape c.write_address_by_shape.new.out c.may_store_at_value.result c.write_address_by_shape.ensures.address c.may_store_at_value.ensures) c.if-not-may_store_at_value.true)
+pub returns-then-not-stores_in_range_at_value : goal.returns-then-not-stores_in_range_at_value
+returns-then-not-stores_in_range_at_value c =
+    inl (refl, ruled_out c.stores_in_range_at_value.result (StoresInRange-at c.args.b.now c.args.plan.now c.args.s.now c.args.shape c.write_address_by_shape.new.out c.stores_in_range_at_value.result c.write_address_by_shape.ensures.address c.stores_in_range_at_value.ensures) c.if-not-stores_in_range_at_value.true)
 
-pub returns-then-not-may_access_at_value : goal.returns-then-not-may_access_at_value
-returns-then-not-may_access_at_value c =
+pub returns-then-not-is_access_allowed_at_value : goal.returns-then-not-is_access_allowed_at_value
+returns-then-not-is_access_allowed_at_value c =
     inr (
       refl,
-      (StoresInRange-at c.args.b.now c.args.plan.now c.args.s.now c.args.shape c.write_address_by_shape.new.out c.may_store_at_value.result c.write_address_by_shape.ensures.address c.may_store_at_value.ensures).0 c.if-not-may_store_at_value.false,
-      ruled_out c.may_access_at_value.result (MayAccess-at c.args.b.now c.args.plan.now c.args.s.now c.args.shape c.write_address_by_shape.new.out c.may_access_at_value.result c.write_address_by_shape.ensures.address c.may_access_at_value.ensures) c.if-not-may_access_at_value.true,
+      (StoresInRange-at c.args.b.now c.args.plan.now c.args.s.now c.args.shape c.write_address_by_shape.new.out c.stores_in_range_at_value.result c.write_address_by_shape.ensures.address c.stores_in_range_at_value.ensures).0 c.if-not-stores_in_range_at_value.false,
+      ruled_out c.is_access_allowed_at_value.result (MayAccess-at c.args.b.now c.args.plan.now c.args.s.now c.args.shape c.write_address_by_shape.new.out c.is_access_allowed_at_value.result c.write_address_by_shape.ensures.address c.is_access_allowed_at_value.ensures) c.if-not-is_access_allowed_at_value.true,
     )
 
 pub returns : goal.returns
 returns c = (
-  (StoresInRange-at c.args.b.now c.args.plan.now c.args.s.now c.args.shape c.write_address_by_shape.new.out c.may_store_at_value.result c.write_address_by_shape.ensures.address c.may_store_at_value.ensures).0 c.if-not-may_store_at_value.false,
-  (MayAccess-at c.args.b.now c.args.plan.now c.args.s.now c.args.shape c.write_address_by_shape.new.out c.may_access_at_value.result c.write_address_by_shape.ensures.address c.may_access_at_value.ensures).0 c.if-not-may_access_at_value.false,
+  (StoresInRange-at c.args.b.now c.args.plan.now c.args.s.now c.args.shape c.write_address_by_shape.new.out c.stores_in_range_at_value.result c.write_address_by_shape.ensures.address c.stores_in_range_at_value.ensures).0 c.if-not-stores_in_range_at_value.false,
+  (MayAccess-at c.args.b.now c.args.plan.now c.args.s.now c.args.shape c.write_address_by_shape.new.out c.is_access_allowed_at_value.result c.write_address_by_shape.ensures.address c.is_access_allowed_at_value.ensures).0 c.if-not-is_access_allowed_at_value.false,
 )

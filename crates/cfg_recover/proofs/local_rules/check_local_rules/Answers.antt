@@ -4,10 +4,10 @@ use Rattle.cfg_recover.specs.Code.{IsCode}
 use Rattle.cfg_recover.proofs.LocalLaws.{IsLocalFault-broken, LocalHolds-found}
 use Rattle.cfg_recover.proofs.local_rules.check_local_rules.Goals as goal
 
-pub returns-in-Some-first_local_fault-clause-fault : goal.returns-in-Some-first_local_fault-clause-fault
-returns-in-Some-first_local_fault-clause-fault c =
+pub returns-in-Some-local_fault_of_shape-clause-fault : goal.returns-in-Some-local_fault_of_shape-clause-fault
+returns-in-Some-local_fault_of_shape-clause-fault c =
     IsLocalFault-broken c.args.b.now c.args.image.now c.args.plan.now c.args.key.now c.args.addr c.args.s.now _ _ _
-    (subst (λ (x : Shape). IsCode c.args.image.now c.args.plan.now c.args.addr x c.in-Some.found.1) (sym c.shape-shape.ensures.shape) c.in-Some.ensures) (c.in-Some-first_local_fault.ensures c.args.addr)
+    (subst (λ (x : Shape). IsCode c.args.image.now c.args.plan.now c.args.addr x c.in-Some.found.1) (sym c.shape-shape.ensures.shape) c.in-Some.ensures) (c.in-Some-local_fault_of_shape.ensures c.args.addr)
 
 pub returns-in-None-clause-found : goal.returns-in-None-clause-found
 returns-in-None-clause-found c =

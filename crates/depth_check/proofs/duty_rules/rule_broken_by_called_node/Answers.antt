@@ -13,7 +13,7 @@ pub returns-then-have_same_entry_and_exit-clause-found : goal.returns-then-have_
 returns-then-have_same_entry_and_exit-clause-found c =
     let t = c.args.at.now in
     rw c.broken_rule_unless.ensures
-    (alike_found t c.args.entry.now c.in-Some.last c.args.key.now c.args.back c.in-Some-node.entered c.has_need_for_entry-has_need.result c.requires.kind (rw c.in-Some.is at c.requires.held)
+    (alike_found t c.args.entry.now c.in-Some.last c.args.key.now c.args.back c.in-Some-node.entered c.is_need_sufficient_for_entry-has_need.result c.requires.kind (rw c.in-Some.is at c.requires.held)
     (rw (← c.at.view_is) (c.have_same_entry_and_exit.ensures c.if-have_same_entry_and_exit.true))
     (rw (← c.at.view_is) (sym c.in-Some-node.ensures))
-    (rw (← c.at.view_is) c.has_need_for_entry-has_need.ensures))
+    (rw (← c.at.view_is) c.is_need_sufficient_for_entry-has_need.ensures))

@@ -15,5 +15,5 @@ pub returns : goal.returns
 returns c =
     let t = point_check_data c.at.inside in
     rw (c.lesser_broken_rule-2.ensures, c.lesser_broken_rule.ensures, c.broken_rule_unless-into.ensures, c.broken_rule_unless-need.ensures, c.broken_rule_unless-on.ensures, ← c.at.view_is)
-    (entry_found t.cert t.node t.point.state c.args.rule c.args.key.now (state_after t.point.state c.args.entry.now) c.args.back c.in-Some.entered c.has_changed_point.result c.has_need_for_entry.result c.is_return_met.result
-    (sym c.in-Some.ensures) c.requires.rule c.has_changed_point.ensures c.has_need_for_entry.ensures c.is_return_met.ensures)
+    (entry_found t.cert t.node t.point.state c.args.rule c.args.key.now (state_after t.point.state c.args.entry.now) c.args.back c.in-Some.entered c.has_point_covering_change.result c.is_need_sufficient_for_entry.result c.is_return_met.result
+    (sym c.in-Some.ensures) c.requires.rule c.has_point_covering_change.ensures c.is_need_sufficient_for_entry.ensures c.is_return_met.ensures)

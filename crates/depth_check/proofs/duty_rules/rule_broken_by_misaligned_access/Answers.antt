@@ -17,4 +17,4 @@ pub returns : goal.returns
 returns c =
     let t = c.args.at.now in
     let may : may_be_misaligned t.bounds t.plan t.point.state c.args.found.now.shape ≡ true = rw (← c.at.view_is) (sym c.may_be_misaligned.ensures ∙ c.if-not-may_be_misaligned.false) in
-    rw may c.rule_broken_by_aln_entry.ensures
+    rw may c.rule_broken_by_misaligned_entry.ensures

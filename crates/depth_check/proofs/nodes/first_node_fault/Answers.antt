@@ -20,16 +20,16 @@ use Rattle.packed_cert.proofs.WalkedPoints.{split_more}
 use Rattle.depth_check.proofs.WalkLaws.{stands_behind}
 use Rattle.depth_check.proofs.nodes.first_node_fault.Goals as goal
 
-pub is_point_in_lattice-requires : goal.is_point_in_lattice-requires
-is_point_in_lattice-requires c =
+pub has_values_in_lattice-requires : goal.has_values_in_lattice-requires
+has_values_in_lattice-requires c =
     rw (c.point_of_walk-here.ensures.state, c.requires.limits)
     (λ known.
     let k = c.point_of_walk-here.ensures.known known in
     known_values (limits_of_cert c.args.plan.now c.args.cert.now) (c.loop-addr.scratch.walk).current c.advance.new.self c.in-Some.ensures.1 (c.loop-addr.invariant.known (ltb-true 0 c.loop-addr.next k.0))
     (subst (λ (l : Limits). AreInLattice l c.advance.new.self.anew) c.requires.limits k.1))
 
-pub returns-then-not-is_point_in_lattice-clause-fault : goal.returns-then-not-is_point_in_lattice-clause-fault
-returns-then-not-is_point_in_lattice-clause-fault c =
+pub returns-then-not-has_values_in_lattice-clause-fault : goal.returns-then-not-has_values_in_lattice-clause-fault
+returns-then-not-has_values_in_lattice-clause-fault c =
     let inv = c.loop-addr.invariant in
     let points = c.args.node.now.points in
     let p : Point = record { addr = c.in-Some.addr; state = c.advance.new.self.current } in
@@ -37,7 +37,7 @@ returns-then-not-is_point_in_lattice-clause-fault c =
     let b = stands_behind points inv.done c.advance.new.self.left p split in
     broken_at c.args.image.now c.args.plan.now c.args.cert.now c.args.node.now c.requires.member points refl c.start_walk.ensures.rising (length inv.done) p c.entry_rule_holds-good.result 2 c.earlier_node_fault.result b.within b.here
     (subst (λ (l : List Point). All (λ (q : Point). (r : ℕ) → RuleHolds c.args.image.now c.args.plan.now c.args.cert.now c.args.node.now q r) l) (sym b.before) inv.all)
-    (values_broken c.args.image.now c.args.plan.now c.args.cert.now c.args.node.now p c.args.b.now c.requires.limits (refuted c.is_point_in_lattice.result _ c.if-not-is_point_in_lattice.true (rw c.point_of_walk-here.ensures.state at c.is_point_in_lattice.ensures)))
+    (values_broken c.args.image.now c.args.plan.now c.args.cert.now c.args.node.now p c.args.b.now c.requires.limits (refuted c.has_values_in_lattice.result _ c.if-not-has_values_in_lattice.true (rw c.point_of_walk-here.ensures.state at c.has_values_in_lattice.ensures)))
     c.point_address_fits_word.ensures
     (subst (λ (n : NodeData). (n.key).entry < 2 ^ 32) c.node.view_is (omega arith))
     (subst (λ (l : Limits). IsTrue c.entry_rule_holds-good.result ↔ EntryRuleHolds l c.args.node.now) c.requires.limits c.entry_rule_holds-good.ensures)
@@ -73,7 +73,7 @@ invariant_of-at c =
     rw c.with_hint-hinted.ensures
     (record {
       limits = c.requires.limits;
-      values = c.is_point_in_lattice.ensures.0 c.if-not-is_point_in_lattice.false;
+      values = c.has_values_in_lattice.ensures.0 c.if-not-has_values_in_lattice.false;
       facts =
           walk_facts c.args.plan.now c.args.cert.now c.args.node.now inv.done c.loop-addr.scratch.walk.left c.advance.new.self p c.point_of_walk-here.result c.start_walk.ensures.rising (c.in-Some.ensures.2 ∙ inv.points) inv.split c.in-Some.ensures.0
           c.point_of_walk-here.ensures.state (λ again. c.point_of_walk-here.ensures.again again c.args.plan.now c.args.cert.now inv.interrupts) c.point_of_walk-here.ensures.next c.point_of_walk-here.ensures.walk;

@@ -19,6 +19,6 @@ returns-clause-found c =
     (duties_found t.image t.plan t.cert node t.point on.shape on.size
     (rw (← c.at.view_is) (subst (λ (l : Limits). AreInLattice l (c.at.inside.point.state.now).regs) c.at.invariant.limits c.at.invariant.values))
     (idle_faultless b t.image t.plan node.key p s c.in-Some.next on) on.code
-    (lesser_broken_rule c.rule_broken_by_kept_state-jump.result c.rule_broken_by_interrupts-irqs.result) c.has_need_for_point.result
+    (lesser_broken_rule c.rule_broken_by_kept_state-jump.result c.rule_broken_by_interrupts-irqs.result) c.is_need_sufficient.result
     (idle_found b t.image t.plan t.cert node p s c.in-Some.next on c.rule_broken_by_kept_state-jump.result c.rule_broken_by_interrupts-irqs.result c.rule_broken_by_kept_state-jump.ensures c.rule_broken_by_interrupts-irqs.ensures)
-    c.has_need_for_point.ensures)
+    c.is_need_sufficient.ensures)

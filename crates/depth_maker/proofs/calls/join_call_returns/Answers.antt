@@ -11,13 +11,13 @@ use Rattle.depth_maker.proofs.calls.join_call_returns.Goals as goal
 pub loop-t-init : goal.loop-t-init
 loop-t-init c = duties_none _ _ _ c.args.v.now.key c.args.v.now.addr c.args.v.now.state.now c.args.table.now c.requires.visited.fine
 
-pub register_and_join_return-requires-clause-visited : goal.register_and_join_return-requires-clause-visited
-register_and_join_return-requires-clause-visited c =
+pub read_exit_and_join_return-requires-clause-visited : goal.read_exit_and_join_return-requires-clause-visited
+read_exit_and_join_return-requires-clause-visited c =
     let v = c.args.v.now in
     visited_after _ _ _ v.key v.addr v.state.now c.args.table.now _ _ c.requires.visited c.loop-t.invariant
 
-pub register_and_join_return-requires-clause-owes : goal.register_and_join_return-requires-clause-owes
-register_and_join_return-requires-clause-owes c =
+pub read_exit_and_join_return-requires-clause-owes : goal.read_exit_and_join_return-requires-clause-owes
+read_exit_and_join_return-requires-clause-owes c =
     let v = c.args.v.now in
     subst (λ (k : Key). OwesDuty v (resume k c.args.back)) (sym c.entered_key-key.ensures)
     (owes_at_map _ _ _ v.key v.addr v.state.now (λ (n : ℕ). owed 4 (resume (call_key v.key n) c.args.back)) c.args.targets.now c.loop-t.t-index c.loop-t-test.true c.requires.owes)
@@ -25,9 +25,9 @@ register_and_join_return-requires-clause-owes c =
 pub loop-t-preserved : goal.loop-t-preserved
 loop-t-preserved c =
     let v = c.args.v.now in
-    duties_more_map _ _ _ v.key v.addr v.state.now (lawful _ _ _ v.ground.now.sound) c.args.table.now c.loop-t.table c.register_and_join_return.new.table (λ (n : ℕ). owed 4 (resume (call_key v.key n) c.args.back))
+    duties_more_map _ _ _ v.key v.addr v.state.now (lawful _ _ _ v.ground.now.sound) c.args.table.now c.loop-t.table c.read_exit_and_join_return.new.table (λ (n : ℕ). owed 4 (resume (call_key v.key n) c.args.back))
     c.args.targets.now c.loop-t.t-index c.loop-t-test.true c.requires.visited c.requires.owes c.loop-t.invariant
-    (subst (λ (k : Key). JoinedBy v c.loop-t.table c.register_and_join_return.new.table (owed 4 (resume k c.args.back) ∷ [])) c.entered_key-key.ensures c.in_ok-register_and_join_return.ensures.ok)
+    (subst (λ (k : Key). JoinedBy v c.loop-t.table c.read_exit_and_join_return.new.table (owed 4 (resume k c.args.back) ∷ [])) c.entered_key-key.ensures c.in_ok-read_exit_and_join_return.ensures.ok)
 
 pub returns-clause-ok : goal.returns-clause-ok
 returns-clause-ok c =

@@ -13,8 +13,8 @@ returns-then-not-v-clause-ok c =
     subst (λ (l : List Owed). JoinedBy v c.args.table.now c.args.table.now l) (interrupts_off v.ground.now.plan.now v.key v.state.now c.if-not-v.true)
     (duties_none _ _ _ v.key v.addr v.state.now c.args.table.now c.requires.visited.fine)
 
-pub returns-then-are_interrupts_covered-clause-ok : goal.returns-then-are_interrupts_covered-clause-ok
-returns-then-are_interrupts_covered-clause-ok c = c.are_interrupts_covered.ensures c.if-are_interrupts_covered.true
+pub returns-then-has_covering_context-clause-ok : goal.returns-then-has_covering_context-clause-ok
+returns-then-has_covering_context-clause-ok c = c.has_covering_context.ensures c.if-has_covering_context.true
 
 pub returns-then-is_empty-clause-ok : goal.returns-then-is_empty-clause-ok
 returns-then-is_empty-clause-ok c =
@@ -25,11 +25,11 @@ returns-then-is_empty-clause-ok c =
 pub join_interrupt_entries-requires-clause-irqs : goal.join_interrupt_entries-requires-clause-irqs
 join_interrupt_entries-requires-clause-irqs c = c.as_slice.ensures.value ∙ c.possible_irqs-irqs.ensures
 
-pub note_covered_interrupts-requires-clause-on : goal.note_covered_interrupts-requires-clause-on
-note_covered_interrupts-requires-clause-on c = taken_on c.args.v.now.state.now.ie _ c.possible_irqs-irqs.result.items c.possible_irqs-irqs.ensures (sym c.is_empty.ensures ∙ c.if-is_empty.false)
+pub cache_interrupt_context-requires-clause-on : goal.cache_interrupt_context-requires-clause-on
+cache_interrupt_context-requires-clause-on c = taken_on c.args.v.now.state.now.ie _ c.possible_irqs-irqs.result.items c.possible_irqs-irqs.ensures (sym c.is_empty.ensures ∙ c.if-is_empty.false)
 
-pub note_covered_interrupts-requires-clause-fine : goal.note_covered_interrupts-requires-clause-fine
-note_covered_interrupts-requires-clause-fine c = c.in_ok-join_interrupt_entries.ensures.ok.fine
+pub cache_interrupt_context-requires-clause-fine : goal.cache_interrupt_context-requires-clause-fine
+cache_interrupt_context-requires-clause-fine c = c.in_ok-join_interrupt_entries.ensures.ok.fine
 
 pub returns-clause-ok : goal.returns-clause-ok
-returns-clause-ok c = c.note_covered_interrupts.ensures c.args.table.now c.in_ok-join_interrupt_entries.ensures.ok
+returns-clause-ok c = c.cache_interrupt_context.ensures c.args.table.now c.in_ok-join_interrupt_entries.ensures.ok

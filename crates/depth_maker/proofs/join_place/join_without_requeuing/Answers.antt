@@ -14,9 +14,9 @@ use Rattle.depth_maker.specs.TableView.{view_of_table}
 use Rattle.depth_maker.proofs.PartLemmas.{asks_again, near_left, raises_again}
 use Rattle.depth_maker.proofs.join_place.join_without_requeuing.Goals as goal
 
-pub compact_copy-requires : goal.compact_copy-requires
+pub copy_incoming-requires : goal.copy_incoming-requires
 unfolding view_of_table
-compact_copy-requires c =
+copy_incoming-requires c =
     let t = c.args.table.now in
     let x = Point c.args.v.now.key c.args.v.now.addr in
     let had = had_at t.places t.near x _ c.in-Some-get_index.own.now (sym c.in-Some-get_index.ensures.entry) c.in-Some-get_index.ensures.value c.requires.near in

@@ -30,4 +30,4 @@ returns-else-not-outline c t u at =
     let is : own.value ≡ state u = same_Some own.value (state u) (sym (ap (option_map (λ (m : Marked Known). m.value)) had) ∙ at) in
     let outline = rw (c.in-Some-outline.is, is) at c.outline.ensures in
     let byte = c.ccpn_fits_byte.ensures in
-    (quiet_noted _ _ _ v.key v.addr u s c.requires.fine (subst (λ (n : ℕ). AreInterruptsCoveredForCcpn s v.key.is n) (sym outline.1) (c.are_interrupts_covered_for_ccpn.ensures t)), omega (arith, outline.1, byte))
+    (quiet_noted _ _ _ v.key v.addr u s c.requires.fine (subst (λ (n : ℕ). AreInterruptsCoveredForCcpn s v.key.is n) (sym outline.1) (c.has_covering_context_for_ccpn.ensures t)), omega (arith, outline.1, byte))

@@ -15,16 +15,16 @@ returns-in_default-place c =
     draft_same s c.args.entry c.in-Some.place.now c.args.draft.now c.args.draft.now (index_there s.table.now.places c.args.entry c.in-Some.place.now c.in-Some.known.now c.in-Some.ensures.entry) c.requires.draft refl refl
     (λ k p e. absurd (c.in_default-place.not-Point k p e))
 
-pub returns-then-has_equal_row : goal.returns-then-has_equal_row
-returns-then-has_equal_row c =
+pub returns-then-has_listed_outline : goal.returns-then-has_listed_outline
+returns-then-has_listed_outline c =
     let s = c.args.source.now in
     let k = c.in-Point.key in
     let p = c.in-Point.addr in
     let known = c.in-Some.known.now in
-    let node = c.frame_number_near-node.result in
-    let b = subst (λ (l : List (Option Outline)). HasEqualRow l node known) c.as_slice.ensures.value (c.has_equal_row.ensures c.if-has_equal_row.true) in
+    let node = c.frame_number_with_hint-node.result in
+    let b = subst (λ (l : List (Option Outline)). HasEqualRow l node known) c.as_slice.ensures.value (c.has_listed_outline.ensures c.if-has_listed_outline.true) in
     let at : get spot_eq s.table.now.places (Point k p) ≡ Some known = ap (get spot_eq s.table.now.places) (sym c.in-Point.is) ∙ c.in-Some.ensures.value in
-    let number = number_there s c.requires.source k p known node at c.frame_number_near-node.ensures in
+    let number = number_there s c.requires.source k p known node at c.frame_number_with_hint-node.ensures in
     let r = (c.requires.draft).outlines node b.outline b.there in
     let row = plain_point s c.requires.source k p known b.outline r.0 at b.plain b.is (subst (λ (n : ℕ). IsRowOfOutline s n b.outline r.0) number r.2) in
     draft_same s c.args.entry c.in-Some.place.now c.args.draft.now _ (index_there s.table.now.places c.args.entry c.in-Some.place.now known c.in-Some.ensures.entry) c.requires.draft refl refl
@@ -37,11 +37,11 @@ add_point_row-requires-clause-at c =
     let p = c.in-Point.addr in
     let known = c.in-Some.known.now in
     let at : get spot_eq s.table.now.places (Point k p) ≡ Some known = ap (get spot_eq s.table.now.places) (sym c.in-Point.is) ∙ c.in-Some.ensures.value in
-    record { known = at; node = number_there s c.requires.source k p known c.frame_number_near-node.result at c.frame_number_near-node.ensures }
+    record { known = at; node = number_there s c.requires.source k p known c.frame_number_with_hint-node.result at c.frame_number_with_hint-node.ensures }
 
 pub returns : goal.returns
 returns c =
     let s = c.args.source.now in
-    let at : KnownPoint = record { key = c.in-Point.key; addr = c.in-Point.addr; node = c.frame_number_near-node.result; known = c.in-Some.known } in
+    let at : KnownPoint = record { key = c.in-Point.key; addr = c.in-Point.addr; node = c.frame_number_with_hint-node.result; known = c.in-Some.known } in
     draft_more s c.args.entry c.in-Some.place.now c.args.draft.now _ c.add_point_row.new.draft at (index_there s.table.now.places c.args.entry c.in-Some.place.now c.in-Some.known.now c.in-Some.ensures.entry) c.requires.draft refl refl
     c.in-Point.is c.in_ok-add_point_row.ensures

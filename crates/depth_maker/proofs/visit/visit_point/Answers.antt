@@ -23,8 +23,8 @@ write_state-requires c =
     cells_well_formed _ _ _ (lawful _ _ _ c.args.site.now.ground.now.sound) s c.requires.fine x c.in-Some.place.now.value
     (ap (option_map (λ (m : Marked Known). m.value)) (had_at s.places s.near x _ c.in-Some.place.now (sym c.in-Some.ensures.entry) c.in-Some.ensures.value c.requires.near))
 
-pub check_decoded-requires-clause-values : goal.check_decoded-requires-clause-values
-check_decoded-requires-clause-values c =
+pub check_decoded_instruction-requires-clause-values : goal.check_decoded_instruction-requires-clause-values
+check_decoded_instruction-requires-clause-values c =
     let r = state_read _ _ _ (lawful _ _ _ c.args.site.now.ground.now.sound) c.args.table.now c.args.site.now.key c.args.site.now.addr _ c.in-Some.place.now _ c.state.result.now c.requires.fine (sym c.in-Some.ensures.entry) c.in-Some.ensures.value
     c.requires.near c.write_state.ensures c.state.ensures in
     (r.0).well_formed.values

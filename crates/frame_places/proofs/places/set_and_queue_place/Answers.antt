@@ -10,19 +10,19 @@ use Rattle.frame_places.proofs.MarkLemmas.{AllListed-again, AllListed-adds, puts
 use Rattle.frame_places.proofs.NearbyLemmas.{value_had, written_numbers, written_there}
 use Rattle.frame_places.proofs.places.set_and_queue_place.Goals as goal
 
-pub returns-in_ok-push_entry-clause-puts : goal.returns-in_ok-push_entry-clause-puts
-returns-in_ok-push_entry-clause-puts g c y stands =
+pub returns-in_ok-push_to_round-clause-puts : goal.returns-in_ok-push_to_round-clause-puts
+returns-in_ok-push_to_round-clause-puts g c y stands =
     let m = c.args.places.now in
     let w : Marked g.row.V.Denot = record c.in-Some.place.now { value = c.args.value } in
     puts_as m (with_value_at m c.args.number w) y w (written_there m c.args.number y w c.in-Some.ensures.unique stands) c.in-Queued.is (written_numbers m c.args.number w)
 
-pub returns-in_ok-push_entry-clause-work : goal.returns-in_ok-push_entry-clause-work
-returns-in_ok-push_entry-clause-work g c y stands =
+pub returns-in_ok-push_to_round-clause-work : goal.returns-in_ok-push_to_round-clause-work
+returns-in_ok-push_to_round-clause-work g c y stands =
     let m = c.args.places.now in
     let w : Marked g.row.V.Denot = record c.in-Some.place.now { value = c.args.value } in
     let p = puts_as m (with_value_at m c.args.number w) y w (written_there m c.args.number y w c.in-Some.ensures.unique stands) c.in-Queued.is (written_numbers m c.args.number w) in
-    AllListed-adds m (with_value_at m c.args.number w) (all_work c.args.work.now) c.args.number y p.marks p.numbers (all_work c.push_entry.new.self)
-    (adds_entry c.args.work.now c.push_entry.new.self c.args.number c.in_ok-push_entry.ensures) (p.numbers c.args.number y stands) c.requires.listed
+    AllListed-adds m (with_value_at m c.args.number w) (all_work c.args.work.now) c.args.number y p.marks p.numbers (all_work c.push_to_round.new.self)
+    (adds_entry c.args.work.now c.push_to_round.new.self c.args.number c.in_ok-push_to_round.ensures) (p.numbers c.args.number y stands) c.requires.listed
 
 pub returns-else-is_unvisited_entry-clause-puts : goal.returns-else-is_unvisited_entry-clause-puts
 returns-else-is_unvisited_entry-clause-puts g c y stands =

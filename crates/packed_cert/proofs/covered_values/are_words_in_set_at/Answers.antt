@@ -16,7 +16,7 @@ returns-then-k-n c = (
       (λ h e.
       elim c.then-k-n.branch [
         | then-k-n-via-then-k-n w ↦ omega (arith, w.if-k-n.true)
-        | then-k-n-via-else-k-n+then-word_at_place-x w ↦ w.if-word_at_place-x.true (w.word_at_place.ensures ∙ e)
+        | then-k-n-via-else-k-n+then-word_at_offset-x w ↦ w.if-word_at_offset-x.true (w.word_at_offset.ensures ∙ e)
       ])
       (within (get_or c.args.own.now c.loop-x.x-index 0) (among_get c.args.own.now c.loop-x.x-index c.loop-x-test.true)))),
 )
@@ -24,7 +24,7 @@ returns-then-k-n c = (
 pub loop-x-preserved : goal.loop-x-preserved
 loop-x-preserved c =
     let x = get_or c.args.own.now c.loop-x.x-index 0 in
-    let here = among_here c.args.bytes.now c.args.place c.args.n c.first_word_at_least-k.result x (omega (arith, c.first_word_at_least-k.ensures.end, c.if-k-n.false)) (sym c.word_at_place.ensures ∙ c.if-word_at_place-x.false) in
+    let here = among_here c.args.bytes.now c.args.place c.args.n c.first_word_at_least-k.result x (omega (arith, c.first_word_at_least-k.ensures.end, c.if-k-n.false)) (sym c.word_at_offset.ensures ∙ c.if-word_at_offset-x.false) in
     record {
       end = omega (arith, c.first_word_at_least-k.ensures.end, c.if-k-n.false);
       among = λ i h. elim (cases_lt i c.loop-x.x-index) [
@@ -39,7 +39,7 @@ loop-x-preserved c =
                 omega arith
             | inr ge ↦
                 let same : c.first_word_at_least-k.result ≡ j = omega arith in
-                let is : word_in_bytes c.args.bytes.now (c.args.place + 4 * j) ≡ x = ap (λ (k : ℕ). word_in_bytes c.args.bytes.now (c.args.place + 4 * k)) (sym same) ∙ sym c.word_at_place.ensures ∙ c.if-word_at_place-x.false in
+                let is : word_in_bytes c.args.bytes.now (c.args.place + 4 * j) ≡ x = ap (λ (k : ℕ). word_in_bytes c.args.bytes.now (c.args.place + 4 * k)) (sym same) ∙ sym c.word_at_offset.ensures ∙ c.if-word_at_offset-x.false in
                 omega arith
           ];
     }

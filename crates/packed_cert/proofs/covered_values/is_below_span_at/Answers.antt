@@ -9,13 +9,13 @@ bounds-bytes-place c = (stands_at c.args.version c.args.bytes.now c.args.place (
 pub overflow_sub-step : goal.overflow_sub-step
 overflow_sub-step c = ((stands_at c.args.version c.args.bytes.now c.args.place (λ k. (c.type_inv.bytes k).fits) c.requires.stands).shape.span c.requires.span).0
 
-pub word_at_place-lo-requires : goal.word_at_place-lo-requires
-word_at_place-lo-requires c =
+pub word_at_offset-lo-requires : goal.word_at_offset-lo-requires
+word_at_offset-lo-requires c =
     let s = stands_at c.args.version c.args.bytes.now c.args.place (λ k. (c.type_inv.bytes k).fits) c.requires.stands in
     omega (arith, s.within, long_span (get_or c.args.bytes.now c.args.place 0) c.requires.span)
 
-pub word_at_place-last-requires : goal.word_at_place-last-requires
-word_at_place-last-requires c =
+pub word_at_offset-last-requires : goal.word_at_offset-last-requires
+word_at_offset-last-requires c =
     let s = stands_at c.args.version c.args.bytes.now c.args.place (λ k. (c.type_inv.bytes k).fits) c.requires.stands in
     omega (arith, s.within, long_span (get_or c.args.bytes.now c.args.place 0) c.requires.span)
 
@@ -24,11 +24,11 @@ returns-then-e-lo c =
     let s = stands_at c.args.version c.args.bytes.now c.args.place (λ k. (c.type_inv.bytes k).fits) c.requires.stands in
     let both = span_exact c.args.version c.args.v.now _ _ _ _ (s.shape.span c.requires.span).1 c.requires.well s.well c.extent_of-e.ensures in (
       (λ t. absurd (let g : false ≡ true = t in cc)),
-      (λ below. let inside = both.1 below in elim c.then-e-lo.either [ inl low ↦ absurd (omega (arith, c.word_at_place-lo.ensures, inside.0)) | inr high ↦ absurd (omega (arith, c.word_at_place-last.ensures, inside.1)) ]),
+      (λ below. let inside = both.1 below in elim c.then-e-lo.either [ inl low ↦ absurd (omega (arith, c.word_at_offset-lo.ensures, inside.0)) | inr high ↦ absurd (omega (arith, c.word_at_offset-last.ensures, inside.1)) ]),
     )
 
 pub returns : goal.returns
 returns c =
     let s = stands_at c.args.version c.args.bytes.now c.args.place (λ k. (c.type_inv.bytes k).fits) c.requires.stands in
     let both = span_exact c.args.version c.args.v.now _ _ _ _ (s.shape.span c.requires.span).1 c.requires.well s.well c.extent_of-e.ensures in
-    ((λ t. both.0 (omega (arith, c.word_at_place-lo.ensures)) (omega (arith, c.word_at_place-last.ensures)) (leb-true _ _ t)), (λ below. le-leb _ _ (both.1 below).2))
+    ((λ t. both.0 (omega (arith, c.word_at_offset-lo.ensures)) (omega (arith, c.word_at_offset-last.ensures)) (leb-true _ _ t)), (λ below. le-leb _ _ (both.1 below).2))

@@ -23,8 +23,8 @@ is_restored_below-requires-clause-low c = (lower_step c.args.lower.version c.arg
 pub is_restored_below-requires-clause-high : goal.is_restored_below-requires-clause-high
 is_restored_below-requires-clause-high c = (left_first c.args.high.version c.args.high.bytes.now c.loop-i.at 27 c.loop-i.i (values_in_bytes c.args.high.version c.args.high.bytes.now c.args.high.place 27) (omega arith) (length-values_in c.args.high.version c.args.high.bytes.now c.args.high.place 27) c.loop-i.invariant.have c.loop-i.invariant.left).0
 
-pub next_exit_value_place-from-requires : goal.next_exit_value_place-from-requires
-next_exit_value_place-from-requires c = (lower_step c.args.lower.version c.args.lower.bytes.now c.args.lower.place c.loop-i.i c.loop-i.from c.args.regs.now (omega arith) (omega arith) c.loop-i.invariant.lower).has
+pub next_exit_value_offset-from-requires : goal.next_exit_value_offset-from-requires
+next_exit_value_offset-from-requires c = (lower_step c.args.lower.version c.args.lower.bytes.now c.args.lower.place c.loop-i.i c.loop-i.from c.args.regs.now (omega arith) (omega arith) c.loop-i.invariant.lower).has
 
 pub bounds-high-at : goal.bounds-high-at
 bounds-high-at c =
@@ -60,7 +60,7 @@ loop-i-preserved c =
     subst (λ (v : Val). IsBelow v (value_in_bytes c.args.high.version c.args.high.bytes.now c.loop-i.at)) (sym step.is) (c.is_restored_below.ensures.0 c.if-not-is_restored_below.false)
     in
     record {
-      lower = subst (λ (n : ℕ). LeftBehind c.args.lower.version c.args.lower.bytes.now c.args.lower.place (lower_before (c.loop-i.i + 1)) n) (sym c.next_exit_value_place-from.ensures) step.next;
+      lower = subst (λ (n : ℕ). LeftBehind c.args.lower.version c.args.lower.bytes.now c.args.lower.place (lower_before (c.loop-i.i + 1)) n) (sym c.next_exit_value_offset-from.ensures) step.next;
       have = rw next l.1;
       left = rw next l.3;
       below = below_more low vs c.loop-i.i c.loop-i.invariant.below (subst (λ (w : Val). IsBelow (get_or low c.loop-i.i any_val) w) (sym l.2) here);

@@ -17,11 +17,11 @@ returns-then-high-eq0 c =
     any_above c.args.i c.args.regs.now c.args.low.version c.args.low.bytes.now c.args.low.place (value_in_bytes c.args.high.version c.args.high.bytes.now c.args.high.place) c.cert_bytes_below_256.ensures (omega arith) (omega arith) c.requires.well c.requires.low
     (high.shape.any (omega arith))
 
-pub is_below_at_places-requires-clause-low : goal.is_below_at_places-requires-clause-low
-is_below_at_places-requires-clause-low c = c.requires.low (sym c.is_lower_slot.ensures ∙ c.if-is_lower_slot.true)
+pub is_encoded_value_below-requires-clause-low : goal.is_encoded_value_below-requires-clause-low
+is_encoded_value_below-requires-clause-low c = c.requires.low (sym c.is_lower_slot.ensures ∙ c.if-is_lower_slot.true)
 
 pub returns-then-is_lower_slot : goal.returns-then-is_lower_slot
-returns-then-is_lower_slot c = rw (sym c.is_lower_slot.ensures ∙ c.if-is_lower_slot.true) c.is_below_at_places.ensures
+returns-then-is_lower_slot c = rw (sym c.is_lower_slot.ensures ∙ c.if-is_lower_slot.true) c.is_encoded_value_below.ensures
 
 pub is_below_value_at-requires-clause-well : goal.is_below_value_at-requires-clause-well
 is_below_value_at-requires-clause-well c =

@@ -107,12 +107,12 @@ loop-i-preserved c =
             first = rw w2.stop-is w2.count_repeated_before.ensures.first;
             second = rw (w2.stop-is, w2.place-is) (omega (arith, w2.count_repeated_before.ensures.second));
             same = rw (w2.stop-is, w2.place-is) (subst (λ (m : ℕ). AreBytesRepeated bytes (x + n) w2.place-place-else-next-stop.result m) ahead w2.count_repeated_before.ensures.same);
-            row = rw (w2.out-is, w2.row-is) (row_and_more c.args.out.now c.loop-i.out c.loop-i.i w2.read_value.new.out c.loop-i.row _ (omega arith) inv.row w2.row_with_read_value-row.ensures.read);
-            few = rw w2.row-is (omega (arith, w2.row_with_read_value-row.ensures.read.behind));
+            row = rw (w2.out-is, w2.row-is) (row_and_more c.args.out.now c.loop-i.out c.loop-i.i w2.read_value.new.out c.loop-i.row _ (omega arith) inv.row w2.row_extended_to-row.ensures.read);
+            few = rw w2.row-is (omega (arith, w2.row_extended_to-row.ensures.read.behind));
             placed =
                 let read = ap (value_at version) (sym moved) ∙ w2.in_ok-read_value.ensures.ok in
                 let stood = value_stands version bytes y _ _ (λ k. (c.type_inv.bytes k).fits) (omega (arith, inv.second)) read in
                 rw w2.place-is (place_after-more bytes c.args.c.now.place c.loop-i.i ∙ ap (place_after_value bytes) inv.placed ∙ sym (ap (λ (p : Place). p.place) stood.end) ∙ sym w2.place-place-else-next-stop.ensures.place);
-            from = rw w2.row-is (w2.row_with_read_value-row.ensures.from bytes c.args.c.now.place inv.from (sym inv.placed));
+            from = rw w2.row-is (w2.row_extended_to-row.ensures.from bytes c.args.c.now.place inv.from (sym inv.placed));
           }
     ]

@@ -15,8 +15,8 @@ loop-i-init c = record {
   done = λ k lt outside. sym (c.requires.row.kept k (omega arith) outside);
 }
 
-pub read_value_at_place-requires : goal.read_value_at_place-requires
-read_value_at_place-requires c =
+pub read_value_at_offset-requires : goal.read_value_at_offset-requires
+read_value_at_offset-requires c =
     let vs = (state_in_bytes c.args.version c.args.bytes.now c.args.point.place).regs in
     let len : length vs ≡ 27 = omega (arith, c.requires.row.count) in
     (left_first c.args.version c.args.bytes.now c.loop-i.at 27 c.loop-i.i vs (omega (arith, c.requires.few)) len (c.loop-i.invariant.have (omega arith)) (c.loop-i.invariant.left (omega arith))).0
@@ -47,20 +47,20 @@ loop-i-preserved c =
     let l = left_first c.args.version c.args.bytes.now c.loop-i.at 27 i vs (omega (arith, c.requires.few)) len (inv.have (omega arith)) (inv.left (omega arith)) in
     let next : c.loop-i.at + c.value_length_by_tag-at.result ≡ place_after_value c.args.bytes.now c.loop-i.at = ap (λ (k : ℕ). c.loop-i.at + k) c.value_length_by_tag-at.ensures in
     record {
-      count = length-set out i c.read_value_at_place.new.out ∙ inv.count;
+      count = length-set out i c.read_value_at_offset.new.out ∙ inv.count;
       have = λ some. rw next l.1;
       left = λ some. rw next l.3;
       done = λ k lt told.
           elim (cases_lt k i) [
-            | inl low ↦ get_or-set_other out i k c.read_value_at_place.new.out any_val (λ e. let same : k ≡ i = e in omega arith) ∙ inv.done k lt (inl low)
+            | inl low ↦ get_or-set_other out i k c.read_value_at_offset.new.out any_val (λ e. let same : k ≡ i = e in omega arith) ∙ inv.done k lt (inl low)
             | inr from ↦
                 elim (cases_lt i k) [
                   | inl high ↦
                       let past : c.args.point.row.behind ≤ k = elim told [ inl low2 ↦ absurd (omega arith) | inr p ↦ p ] in
-                      get_or-set_other out i k c.read_value_at_place.new.out any_val (λ e. let same : k ≡ i = e in omega arith) ∙ inv.done k lt (inr past)
+                      get_or-set_other out i k c.read_value_at_offset.new.out any_val (λ e. let same : k ≡ i = e in omega arith) ∙ inv.done k lt (inr past)
                   | inr there ↦
                       let same : k ≡ i = omega arith in
-                      ap (λ (n : ℕ). get_or (set out i c.read_value_at_place.new.out) n any_val) same ∙ get_or-set_same out i c.read_value_at_place.new.out any_val (omega (arith, inv.count, c.requires.few)) ∙ c.read_value_at_place.ensures ∙ sym l.2 ∙ ap (λ (n : ℕ). get_or vs n any_val) (sym same)
+                      ap (λ (n : ℕ). get_or (set out i c.read_value_at_offset.new.out) n any_val) same ∙ get_or-set_same out i c.read_value_at_offset.new.out any_val (omega (arith, inv.count, c.requires.few)) ∙ c.read_value_at_offset.ensures ∙ sym l.2 ∙ ap (λ (n : ℕ). get_or vs n any_val) (sym same)
                 ]
           ];
     }

@@ -12,10 +12,10 @@ further (Err x) at most left e h = h
 pub returns : goal.returns
 returns c =
     let e = take_rest c.args.bytes.now c.args.at in
-    let within : IfOk c.append_line.result (λ n. n ≤ length (drop c.args.at c.args.bytes.now)) = subst (λ (bs : List ℕ). IfOk c.append_line.result (λ n. n ≤ length bs)) e c.append_line.ensures.within in
+    let within : IfOk c.append_first_line.result (λ n. n ≤ length (drop c.args.at c.args.bytes.now)) = subst (λ (bs : List ℕ). IfOk c.append_first_line.result (λ n. n ≤ length bs)) e c.append_first_line.ensures.within in
     record {
-      text = subst (λ (bs : List ℕ). OnOk c.append_line.result (string_bytes c.append_line.new.text ≡ string_bytes c.args.text.now ++ listing_line_at (c.args.address + c.args.at) bs)) e c.append_line.ensures.text;
-      size = subst (λ (bs : List ℕ). IfOk c.append_line.result (λ n. n ≡ instruction_or_data_size bs)) e c.append_line.ensures.size;
-      some = c.append_line.ensures.some;
-      within = further c.append_line.result c.args.at (length c.args.bytes.now) (length (drop c.args.at c.args.bytes.now)) (omega (arith, length-drop c.args.at c.args.bytes.now, c.requires.within)) within;
+      text = subst (λ (bs : List ℕ). OnOk c.append_first_line.result (string_bytes c.append_first_line.new.text ≡ string_bytes c.args.text.now ++ listing_line_at (c.args.address + c.args.at) bs)) e c.append_first_line.ensures.text;
+      size = subst (λ (bs : List ℕ). IfOk c.append_first_line.result (λ n. n ≡ instruction_or_data_size bs)) e c.append_first_line.ensures.size;
+      some = c.append_first_line.ensures.some;
+      within = further c.append_first_line.result c.args.at (length c.args.bytes.now) (length (drop c.args.at c.args.bytes.now)) (omega (arith, length-drop c.args.at c.args.bytes.now, c.requires.within)) within;
     }

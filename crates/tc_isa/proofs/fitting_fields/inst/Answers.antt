@@ -7,7 +7,7 @@ pub returns-then-place-rows-clause-listed : goal.returns-then-place-rows-clause-
 returns-then-place-rows-clause-listed c = (λ e. cc, λ is. let within = inst_within c.rows-rows.result.now _ c.rows-rows.ensures.rows is in absurd (omega arith))
 
 pub fields_fit_row-requires : goal.fields_fit_row-requires
-fields_fit_row-requires c = uses_listed c.rows-rows.result.now c.uses_by_row.result.now c.from-place.result _ _ c.rows-rows.ensures.rows c.uses_by_row.ensures (omega arith)
+fields_fit_row-requires c = uses_listed c.rows-rows.result.now c.used_fields_by_row.result.now c.from-place.result _ _ c.rows-rows.ensures.rows c.used_fields_by_row.ensures (omega arith)
 
 pub returns-then-not-fields_fit_row-clause-listed : goal.returns-then-not-fields_fit_row-clause-listed
 returns-then-not-fields_fit_row-clause-listed c = (λ e. cc, λ is. absurd (both_ways _ c.if-not-fields_fit_row.true (c.fields_fit_row.ensures.1 (made_fits c.rows-rows.result.now c.from-place.result _ _ c.rows-rows.ensures.rows c.from-place.ensures (omega arith) is))))

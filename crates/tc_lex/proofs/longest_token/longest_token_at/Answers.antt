@@ -11,7 +11,7 @@ pub returns-clause-value : goal.returns-clause-value
 returns-clause-value c =
     let line = c.args.line.now in
     let here : get_or line c.args.at 0 ≡ get_or (drop c.args.at line) 0 0 = sym (get_or-drop c.args.at line 0 0 ∙ ap (λ i. get_or line i 0) (omega arith)) in
-    c.token_front_by_byte.ensures.value
+    c.first_token_by_byte.ensures.value
     ∙ ap (token_front_by_byte (get_or line c.args.at 0)) (take_rest line c.args.at)
     ∙ ap (λ b. token_front_by_byte b (drop c.args.at line)) here
     ∙ first_of (drop c.args.at line) 0 (omega (arith, length-drop c.args.at line))

@@ -26,18 +26,18 @@ loop-section-preserved c =
     record {
       bases = λ before t. c.in_ok-push.ensures.items ∙ bases_step c.args.places.now before all i s c.section_base.result c.loop-section.bases.items next (inv.bases before t) (c.section_base.ensures (before ++ take i all) (inv.taken before t));
       taken = λ before t. taken_step c.args.places.now before all i s c.add_section_size.new.sizes next (c.add_section_size.ensures.taken (before ++ take i all) (inv.taken before t));
-      room = λ before t. room_step c.args.places.now before all i s c.are_places_overfull.result next (inv.room before t) (c.are_places_overfull.ensures.over ((before ++ take i all) ++ s ∷ []) (c.add_section_size.ensures.taken (before ++ take i all) (inv.taken before t))) c.if-are_places_overfull.false;
-      small = c.are_places_overfull.ensures.small c.if-are_places_overfull.false;
+      room = λ before t. room_step c.args.places.now before all i s c.has_region_overflow.result next (inv.room before t) (c.has_region_overflow.ensures.over ((before ++ take i all) ++ s ∷ []) (c.add_section_size.ensures.taken (before ++ take i all) (inv.taken before t))) c.if-has_region_overflow.false;
+      small = c.has_region_overflow.ensures.small c.if-has_region_overflow.false;
     }
 
-pub returns-then-are_places_overfull-clause-err : goal.returns-then-are_places_overfull-clause-err
-returns-then-are_places_overfull-clause-err c = λ before t.
+pub returns-then-has_region_overflow-clause-err : goal.returns-then-has_region_overflow-clause-err
+returns-then-has_region_overflow-clause-err c = λ before t.
     let i : ℕ = c.loop-section.section-index in
     let s : SectionData = c.section-item.result in
     let all : List SectionData = c.args.sections.now in
     let next : take (i + 1) all ≡ take i all ++ s ∷ [] = take_next all i s c.loop-section-test.true c.section-item.is in
     let inv = c.loop-section.invariant in
-    room_fault c.args.places.now before all i s c.are_places_overfull.result next (inv.room before t) (c.are_places_overfull.ensures.over ((before ++ take i all) ++ s ∷ []) (c.add_section_size.ensures.taken (before ++ take i all) (inv.taken before t))) c.if-are_places_overfull.true
+    room_fault c.args.places.now before all i s c.has_region_overflow.result next (inv.room before t) (c.has_region_overflow.ensures.over ((before ++ take i all) ++ s ∷ []) (c.add_section_size.ensures.taken (before ++ take i all) (inv.taken before t))) c.if-has_region_overflow.true
     ∙ ap (λ (n : List ℕ). Some (no_room n)) (sym (c.in_ok-from_str.ensures.ok ∙ ap (λ (x : SectionData). x.name) c.section.view_is))
 
 pub returns-clause-taken : goal.returns-clause-taken

@@ -21,7 +21,7 @@ loop-number-preserved c =
     let i : ℕ = c.loop-number.number in
     let x : PlacedData = c.index-placed-number.result in
     record {
-      contents = c.in_ok-append_written_sections.ensures.ok ∙ contents_next g c.args.placed.now i x c.loop-number.contents.items c.in_ok-sections.sections.items c.loop-number-test.true c.index-placed-number.is c.loop-number.invariant.contents (c.in_ok-sections.ensures.sections g c.requires.globals);
+      contents = c.in_ok-append_relocated_sections.ensures.ok ∙ contents_next g c.args.placed.now i x c.loop-number.contents.items c.in_ok-sections.sections.items c.loop-number-test.true c.index-placed-number.is c.loop-number.invariant.contents (c.in_ok-sections.ensures.sections g c.requires.globals);
       none = more_item (λ object (p : PlacedData). first_refusal_from (refusal_at g object p) 0 p.object.relocs) c.args.placed.now i x c.loop-number-test.true c.index-placed-number.is c.loop-number.invariant.none (c.in_ok-sections.ensures.none g c.requires.globals);
     }
 

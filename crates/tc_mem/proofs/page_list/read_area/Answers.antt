@@ -8,7 +8,7 @@ returns-in_default-clause-words c = read_area_none c.args.pages.now c.args.addr 
 pub returns-clause-words : goal.returns-clause-words
 returns-clause-words c =
     let at = is_at c.args.pages.now c.in-Some.i _ c.requires.pages.pages c.in-Some.ensures.within c.in-Some.ensures.found in
-    read_area_found c.args.pages.now c.in-Some.i c.args.addr c.page_area.result (record { at = at; aligned = c.requires.aligned; fits = c.page_area.ensures.fits }) c.page_area.ensures.mapped c.page_area.ensures.size c.page_area.ensures.words
+    read_area_found c.args.pages.now c.in-Some.i c.args.addr c.area_in_page.result (record { at = at; aligned = c.requires.aligned; fits = c.area_in_page.ensures.fits }) c.area_in_page.ensures.mapped c.area_in_page.ensures.size c.area_in_page.ensures.words
 
 pub returns-in_default-clause-bytes : goal.returns-in_default-clause-bytes
 returns-in_default-clause-bytes c = HasBytes-mem c.args.pages.now c.requires.pages

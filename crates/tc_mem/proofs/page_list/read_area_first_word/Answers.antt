@@ -12,7 +12,7 @@ returns-in_default-clause-bytes c = HasBytes-mem c.args.pages.now c.requires.pag
 pub returns-clause-word : goal.returns-clause-word
 returns-clause-word c =
     let at = is_at c.args.pages.now c.in-Some.i _ c.requires.pages.pages c.in-Some.ensures.within c.in-Some.ensures.found in
-    first_found c.args.pages.now c.in-Some.i c.args.addr c.page_area_first_word.result (record { at = at; aligned = c.requires.aligned; fits = c.page_area_first_word.ensures.fits }) c.page_area_first_word.ensures.mapped c.page_area_first_word.ensures.word
+    first_found c.args.pages.now c.in-Some.i c.args.addr c.area_first_word_in_page.result (record { at = at; aligned = c.requires.aligned; fits = c.area_first_word_in_page.ensures.fits }) c.area_first_word_in_page.ensures.mapped c.area_first_word_in_page.ensures.word
 
 pub returns-clause-bytes : goal.returns-clause-bytes
 returns-clause-bytes c = HasBytes-mem c.args.pages.now c.requires.pages

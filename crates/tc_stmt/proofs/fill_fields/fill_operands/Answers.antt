@@ -10,10 +10,10 @@ pub returns-then-wants-os : goal.returns-then-wants-os
 returns-then-wants-os c = sym (fill_all-uneven (row_of c.args.row.now) c.args.wants.now (map operand_of c.args.os.now) (row_fields_of c.args.acc.now) (λ e. c.if-wants-os.true (e ∙ length-map c.args.os.now operand_of)))
 
 pub loop-i-preserved : goal.loop-i-preserved
-loop-i-preserved c = fill_more (row_of c.args.row.now) c.args.wants.now c.args.os.now c.loop-i.i _ _ c.loop-i.invariant _ _ _ _ c.fill.ensures c.if-not-fill.false (omega arith) (omega arith)
+loop-i-preserved c = fill_more (row_of c.args.row.now) c.args.wants.now c.args.os.now c.loop-i.i _ _ c.loop-i.invariant _ _ _ _ c.fill_operand.ensures c.if-not-fill_operand.false (omega arith) (omega arith)
 
-pub returns-then-not-fill : goal.returns-then-not-fill
-returns-then-not-fill c = fill_none (row_of c.args.row.now) c.args.wants.now c.args.os.now c.loop-i.i _ _ c.loop-i.invariant _ _ _ _ c.fill.ensures c.if-not-fill.true (omega arith) (omega arith)
+pub returns-then-not-fill_operand : goal.returns-then-not-fill_operand
+returns-then-not-fill_operand c = fill_none (row_of c.args.row.now) c.args.wants.now c.args.os.now c.loop-i.i _ _ c.loop-i.invariant _ _ _ _ c.fill_operand.ensures c.if-not-fill_operand.true (omega arith) (omega arith)
 
 pub returns : goal.returns
 returns c = fill_last (row_of c.args.row.now) c.args.wants.now c.args.os.now c.loop-i.i _ _ c.loop-i.invariant (omega arith) (omega arith)

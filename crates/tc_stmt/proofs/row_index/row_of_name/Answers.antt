@@ -13,7 +13,7 @@ both (Some r) = refl
 
 pub returns : goal.returns
 returns c =
-    both c.find_row.result
-    ∙ ap (option_map row_of) c.find_row.ensures
+    both c.find_row_by_name.result
+    ∙ ap (option_map row_of) c.find_row_by_name.ensures
     ∙ find-map (λ (r : RowData). bytes_eq r.name c.args.name.now) row_of c.rows.result.now
     ∙ ap (find (λ (r : RowData). bytes_eq r.name c.args.name.now)) c.rows.ensures.rows

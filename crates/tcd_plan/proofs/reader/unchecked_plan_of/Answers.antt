@@ -15,21 +15,21 @@ few_in d e = few_arrays d (accepted d e).too_many (accepted d e).areas
 is_plan_in : (d : Data) (p : PlanData) → p ≡ unchecked_plan_of d → plan_refusal d ≡ None → IsPlan p
 is_plan_in d p same e = subst (λ (q : PlanData). IsPlan q) (sym same) (tells_plan d e)
 
-pub ranges_of-requires : goal.ranges_of-requires
-ranges_of-requires c = length-seen _ _ 16 c.plan_objects_of.ensures (few_in (view c.args.value.now) c.requires).rom
+pub plan_ranges_of-requires : goal.plan_ranges_of-requires
+plan_ranges_of-requires c = length-seen _ _ 16 c.plan_objects_of.ensures (few_in (view c.args.value.now) c.requires).rom
 
-pub ranges_of-requires-2 : goal.ranges_of-requires-2
-ranges_of-requires-2 c = length-seen _ _ 16 c.plan_objects_of-2.ensures (few_in (view c.args.value.now) c.requires).ram
+pub plan_ranges_of-requires-2 : goal.plan_ranges_of-requires-2
+plan_ranges_of-requires-2 c = length-seen _ _ 16 c.plan_objects_of-2.ensures (few_in (view c.args.value.now) c.requires).ram
 
-pub devices_of-requires : goal.devices_of-requires
-devices_of-requires c = length-seen _ _ 16 c.plan_objects_of-3.ensures (few_in (view c.args.value.now) c.requires).devices
+pub plan_devices_of-requires : goal.plan_devices_of-requires
+plan_devices_of-requires c = length-seen _ _ 16 c.plan_objects_of-3.ensures (few_in (view c.args.value.now) c.requires).devices
 
-pub irqs_of-requires-clause-few : goal.irqs_of-requires-clause-few
-irqs_of-requires-clause-few c =
+pub plan_irqs_of-requires-clause-few : goal.plan_irqs_of-requires-clause-few
+plan_irqs_of-requires-clause-few c =
     length-seen _ _ 32 c.json_elements_or_empty.ensures (few_in (view c.args.value.now) c.requires).irqs
 
-pub irqs_of-requires-clause-bytes : goal.irqs_of-requires-clause-bytes
-irqs_of-requires-clause-bytes c =
+pub plan_irqs_of-requires-clause-bytes : goal.plan_irqs_of-requires-clause-bytes
+plan_irqs_of-requires-clause-bytes c =
     let d = view c.args.value.now in
     let small = irqs_small 0 _ (ascending d (accepted d c.requires).bad_value) in
     subst (λ (ds : List Data). All (λ q. irq_of q < 2 ^ 8) ds) (sym c.json_elements_or_empty.ensures) small

@@ -13,8 +13,8 @@ append_node_lines-requires-clause-stands c = (got (c.args.cert.now).nodes c.loop
 
 pub loop-i-init : goal.loop-i-init
 loop-i-init c = record {
-  grown = record { lines = []; are = record { parts = []; each = tt; are = refl }; grown = c.empty_graph_text-graph.ensures.text };
-  handlers = c.empty_graph_text-graph.ensures.handlers c.args.plan.now;
+  grown = record { lines = []; are = record { parts = []; each = tt; are = refl }; grown = c.empty_drawing-graph.ensures.text };
+  handlers = c.empty_drawing-graph.ensures.handlers c.args.plan.now;
 }
 
 pub loop-i-preserved : goal.loop-i-preserved

@@ -35,5 +35,5 @@ returns-else-i-xs-clause-cover c =
 
 pub returns-then-i-xs-clause-cover : goal.returns-then-i-xs-clause-cover
 returns-then-i-xs-clause-cover c =
-    c.widen_by_results.ensures.cover ∙ pairs_rest c.args.b.now c.loop-i.out c.args.op _ c.loop-i.i c.args.xs.now c.args.ys.now c.loop-i.invariant.cover
+    c.join_results_into_span.ensures.cover ∙ pairs_rest c.args.b.now c.loop-i.out c.args.op _ c.loop-i.i c.args.xs.now c.args.ys.now c.loop-i.invariant.cover
     ∙ pairs_first c.args.b.now c.args.op c.args.xs.now c.args.ys.now c.requires.left c.requires.right

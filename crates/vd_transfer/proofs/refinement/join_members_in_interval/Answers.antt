@@ -12,7 +12,7 @@ returns-then-found-clause-more c = λ xs e. c.join_meet_with_interval.ensures.mo
 
 pub returns-else-found-clause-more : goal.returns-else-found-clause-more
 returns-else-found-clause-more c = λ xs e.
-    none_before c.args.b.now xs (filter (is_in_span c.args.i.lo c.args.i.last 0) (members c.args.v.now)) _ (rw c.if-found.false at e) c.write_span_meet.ensures.meet
+    none_before c.args.b.now xs (filter (is_in_span c.args.i.lo c.args.i.last 0) (members c.args.v.now)) _ (rw c.if-found.false at e) c.write_meet_with_span.ensures.meet
 
 pub join_meet_with_interval-requires-clause-before : goal.join_meet_with_interval-requires-clause-before
 join_meet_with_interval-requires-clause-before c = rw c.if-found.true at c.requires.before

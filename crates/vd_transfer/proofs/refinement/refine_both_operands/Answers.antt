@@ -20,13 +20,13 @@ returns-then-not-refine_right_operand-clause-values c =
 
 pub returns-clause-two : goal.returns-clause-two
 returns-clause-two c =
-    rw c.operand_slot-c.ensures
+    rw c.arg_slot-c.ensures
     (ap (λ (t : State). Some t) (second-is c.args.s.now c.narrow_left_register.new.c c.args.test.y c.refine_right_operand.new.out c.narrow_left_register.ensures.free.0 c.narrow_left_register.ensures.free.1)
     ∙ two_both c.args.s.now (state_after c.args.s.now c.narrow_left_register.new.c) c.args.test.x c.args.test.y _ _ c.refine_right_operand.new.out (rw c.if-not-narrow_left_register.false at c.narrow_left_register.ensures.one)
     (rw c.if-not-refine_right_operand.false at c.refine_right_operand.ensures.kept))
 
 pub returns-clause-values : goal.returns-clause-values
 returns-clause-values c =
-    rw c.operand_slot-c.ensures
+    rw c.arg_slot-c.ensures
     (second_values c.args.b.now c.args.s.now c.narrow_left_register.new.c c.args.test.y c.refine_right_operand.new.out c.narrow_left_register.ensures.free.0 c.narrow_left_register.ensures.free.1 c.narrow_left_register.ensures.values
     (rw c.if-not-refine_right_operand.false at c.refine_right_operand.ensures.value))

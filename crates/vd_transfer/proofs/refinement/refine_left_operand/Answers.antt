@@ -5,14 +5,14 @@ use Rattle.vd_transfer.proofs.RelationLaws.{signed_order, left_plain, left_signe
 use Rattle.vd_transfer.proofs.refinement.refine_left_operand.Goals as goal
 
 pub refine_by_signed_relation-requires-clause-order : goal.refine_by_signed_relation-requires-clause-order
-refine_by_signed_relation-requires-clause-order c = rw c.relation_on_side-rel.ensures (signed_order c.args.test.cond c.args.test.side (sym c.is_signed_condition.ensures ∙ c.if-is_signed_condition.true))
+refine_by_signed_relation-requires-clause-order c = rw c.operand_relation-rel.ensures (signed_order c.args.test.cond c.args.test.side (sym c.is_signed_condition.ensures ∙ c.if-is_signed_condition.true))
 
 pub returns-then-is_signed_condition-clause-kept : goal.returns-then-is_signed_condition-clause-kept
 returns-then-is_signed_condition-clause-kept c =
-    rw c.relation_on_side-rel.ensures at c.refine_by_signed_relation.ensures.kept
+    rw c.operand_relation-rel.ensures at c.refine_by_signed_relation.ensures.kept
     ∙ ap (cover_if_any c.args.b.now) (left_signed c.args.test.cond c.args.test.side (members c.args.v.now) (members c.args.w.now) (sym c.is_signed_condition.ensures ∙ c.if-is_signed_condition.true))
 
 pub returns-else-is_signed_condition-clause-kept : goal.returns-else-is_signed_condition-clause-kept
 returns-else-is_signed_condition-clause-kept c =
-    rw c.relation_on_side-rel.ensures at c.refine_by_relation.ensures.kept
+    rw c.operand_relation-rel.ensures at c.refine_by_relation.ensures.kept
     ∙ ap (cover_if_any c.args.b.now) (left_plain c.args.test.cond c.args.test.side (members c.args.v.now) (members c.args.w.now) (sym c.is_signed_condition.ensures ∙ c.if-is_signed_condition.false))

@@ -13,4 +13,4 @@ returns-in-Set-clause-kept c =
 pub returns-in-Span-clause-kept : goal.returns-in-Span-clause-kept
 returns-in-Span-clause-kept c =
     let well = rw c.in-Span.is at c.requires.right.well in
-    c.write_span_meet.ensures.meet ∙ rw c.in-Span.is (kept_range c.args.b.now (members c.args.v.now) c.in-Span.lo c.in-Span.last c.in-Span.step well.0)
+    c.write_meet_with_span.ensures.meet ∙ rw c.in-Span.is (kept_range c.args.b.now (members c.args.v.now) c.in-Span.lo c.in-Span.last c.in-Span.step well.0)

@@ -9,7 +9,7 @@ pub returns : goal.returns
 returns c =
     let t = point_check_data c.at.inside in
     let kept = rw (← c.at.view_is) at c.requires.interrupts in
-    let value = subst (λ (l : Limits). IsInLattice l c.stack_to_keep-sp.result) c.at.invariant.limits (rw (← c.at.view_is) at c.stack_to_keep-sp.ensures.value) in
+    let value = subst (λ (l : Limits). IsInLattice l c.sp_to_keep-sp.result) c.at.invariant.limits (rw (← c.at.view_is) at c.sp_to_keep-sp.ensures.value) in
     rw (← c.at.view_is)
     (record {
       last = record {
@@ -17,7 +17,7 @@ returns c =
         holds =
             λ other s more.
             below_context t.plan t.cert t.node other c.of_state.result t.point.state s c.of_state.ensures.same more
-            (rw c.of_state.ensures.sp (rw (← c.at.view_is) at c.stack_to_keep-sp.ensures.holds));
+            (rw c.of_state.ensures.sp (rw (← c.at.view_is) at c.sp_to_keep-sp.ensures.holds));
       };
       before = rw c.take-self.ensures.value kept.last;
     })

@@ -22,11 +22,11 @@ returns-in_err-loads c =
     let p = err_from_is_err_and c.from_residual-in_err-loads.result c.from_residual-in_err-loads.ensures.1 in
     rw (p.1, p.2) (refused_loads c.args.bytes.now _ c.in_ok-check_elf_header.ensures.refusal c.in_ok-check_program_headers.ensures c.in_err-loads.ensures.err)
 
-pub returns-in_err-check_no_overlap : goal.returns-in_err-check_no_overlap
-returns-in_err-check_no_overlap c =
-    let p = err_from_is_err_and c.from_residual-in_err-check_no_overlap.result c.from_residual-in_err-check_no_overlap.ensures.1 in
+pub returns-in_err-check_no_segment_overlap : goal.returns-in_err-check_no_segment_overlap
+returns-in_err-check_no_segment_overlap c =
+    let p = err_from_is_err_and c.from_residual-in_err-check_no_segment_overlap.result c.from_residual-in_err-check_no_segment_overlap.ensures.1 in
     let loads = c.in_ok-loads.ensures.ok in
-    rw (p.1, p.2) (refused_overlap c.args.bytes.now _ c.in_ok-check_elf_header.ensures.refusal c.in_ok-check_program_headers.ensures loads.1 c.deref.result.now (c.deref.ensures.value ∙ loads.0) c.in_err-check_no_overlap.ensures)
+    rw (p.1, p.2) (refused_overlap c.args.bytes.now _ c.in_ok-check_elf_header.ensures.refusal c.in_ok-check_program_headers.ensures loads.1 c.deref.result.now (c.deref.ensures.value ∙ loads.0) c.in_err-check_no_segment_overlap.ensures)
 
 pub loaded_segments-requires : goal.loaded_segments-requires
 loaded_segments-requires c =
@@ -38,10 +38,10 @@ pub invariant_of-result : goal.invariant_of-result
 invariant_of-result c =
     let bytes = c.args.bytes.now in
     let loads = c.in_ok-loads.ensures.ok in
-    loaded_is_image bytes c.elf_word_at.result _ (omega arith) (λ k. (c.type_inv.bytes k).fits) (sym c.in_ok-check_program_headers.ensures) loads.1 (sym (c.in_ok-check_no_overlap.ensures ∙ ap overlap_refusal (c.deref.ensures.value ∙ loads.0))) (c.in_ok-segments.ensures.ok ∙ ap (map (loaded_segment bytes)) (c.deref-2.ensures.value ∙ loads.0))
+    loaded_is_image bytes c.elf_word_at.result _ (omega arith) (λ k. (c.type_inv.bytes k).fits) (sym c.in_ok-check_program_headers.ensures) loads.1 (sym (c.in_ok-check_no_segment_overlap.ensures ∙ ap overlap_refusal (c.deref.ensures.value ∙ loads.0))) (c.in_ok-segments.ensures.ok ∙ ap (map (loaded_segment bytes)) (c.deref-2.ensures.value ∙ loads.0))
 
 pub returns : goal.returns
 returns c =
     let bytes = c.args.bytes.now in
     let loads = c.in_ok-loads.ensures.ok in
-    image_of-loaded bytes c.elf_word_at.result _ c.in_ok-check_elf_header.ensures.refusal c.in_ok-check_program_headers.ensures loads.1 (c.in_ok-check_no_overlap.ensures ∙ ap overlap_refusal (c.deref.ensures.value ∙ loads.0)) c.elf_word_at.ensures (c.in_ok-segments.ensures.ok ∙ ap (map (loaded_segment bytes)) (c.deref-2.ensures.value ∙ loads.0))
+    image_of-loaded bytes c.elf_word_at.result _ c.in_ok-check_elf_header.ensures.refusal c.in_ok-check_program_headers.ensures loads.1 (c.in_ok-check_no_segment_overlap.ensures ∙ ap overlap_refusal (c.deref.ensures.value ∙ loads.0)) c.elf_word_at.ensures (c.in_ok-segments.ensures.ok ∙ ap (map (loaded_segment bytes)) (c.deref-2.ensures.value ∙ loads.0))

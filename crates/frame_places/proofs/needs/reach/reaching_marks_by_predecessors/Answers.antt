@@ -7,10 +7,10 @@ use Rattle.frame_places.proofs.needs.reach.reaching_marks_by_predecessors.Goals 
 
 pub returns : goal.returns
 returns c edges are =
-    let S = c.finish_marking.new.marks in
+    let S = c.mark_reaching_nodes.new.marks in
     let D = c.deref_mut.result.now in
     let W = c.push.new.self.items in
-    let n : c.in_ok-marks.marks.len ≡ length S = omega (arith, c.finish_marking.auto.marks, c.deref_mut.ensures.len) in
+    let n : c.in_ok-marks.marks.len ≡ length S = omega (arith, c.mark_reaching_nodes.auto.marks, c.deref_mut.ensures.len) in
     let items : c.in_ok-marks.marks.items ≡ replicate c.args.nodes false = c.in_ok-marks.ensures.items_if_clones_equal (λ y same. same) in
     let e : take c.in_ok-marks.marks.len (S ++ drop (length S) (set c.in_ok-marks.marks.items c.args.node true)) ≡ S = take_front c.in_ok-marks.marks.len S (drop (length S) (set c.in_ok-marks.marks.items c.args.node true)) n in
     let l : length D ≡ c.args.nodes = omega (arith, c.deref_mut.ensures.len, c.in_ok-marks.ensures.len) in
@@ -23,4 +23,4 @@ returns c edges are =
     (marking_begins edges c.args.nodes c.args.node c.requires.node (length-replicate c.args.nodes false))))
     in
     subst (AreReachingMarks edges c.args.nodes c.args.node) (sym e)
-    (marking_done edges c.args.nodes c.args.node S (subst (λ (k : ℕ). SearchInvariantHolds edges k c.args.node S []) l (c.in_ok-finish_marking.ensures edges c.args.node are begun)))
+    (marking_done edges c.args.nodes c.args.node S (subst (λ (k : ℕ). SearchInvariantHolds edges k c.args.node S []) l (c.in_ok-mark_reaching_nodes.ensures edges c.args.node are begun)))

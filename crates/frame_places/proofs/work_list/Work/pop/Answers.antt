@@ -6,7 +6,7 @@ use Rattle.frame_places.proofs.WorkLemmas.{begun_empty, begun_none, begun_some, 
 use Rattle.frame_places.proofs.work_list.Work.pop.Goals as goal
 
 pub returns-in-Some-pop_from_round-clause-some : goal.returns-in-Some-pop_from_round-clause-some
-returns-in-Some-pop_from_round-clause-some c = takes_round c.args.self.now c.pop_next.new.self c.pop_from_round.new.self c.in-Some-pop_from_round.number c.in_default.ensures.none c.in-Some-pop_from_round.ensures.some
+returns-in-Some-pop_from_round-clause-some c = takes_round c.args.self.now c.pop_from_queue.new.self c.pop_from_round.new.self c.in-Some-pop_from_round.number c.in_default.ensures.none c.in-Some-pop_from_round.ensures.some
 
 pub returns-clause-some : goal.returns-clause-some
 returns-clause-some c =

@@ -9,14 +9,14 @@ use Rattle.packed_cert.proofs.NodeReads.{keys_in}
 use Rattle.packed_cert.proofs.CertFinds.{entered_alike, same_place}
 use Rattle.packed_cert.proofs.certs.Cert.have_same_entry_and_exit.Goals as goal
 
-pub entry_and_exit_places-requires-clause-rising : goal.entry_and_exit_places-requires-clause-rising
-entry_and_exit_places-requires-clause-rising c =
+pub entry_and_exit_offsets-requires-clause-rising : goal.entry_and_exit_offsets-requires-clause-rising
+entry_and_exit_offsets-requires-clause-rising c =
     subst IsStrictlyIncreasing
     (keys_in c.self.inside.version c.self.inside.bytes.items c.self.inside.nodes.items c.self.invariant.nodes ∙ ap (map (λ (n : NodePlaces). n.number)) (sym c.as_slice-nodes.ensures.value))
     c.self.invariant.limits.rising
 
-pub entry_and_exit_places-requires-2-clause-rising : goal.entry_and_exit_places-requires-2-clause-rising
-entry_and_exit_places-requires-2-clause-rising c =
+pub entry_and_exit_offsets-requires-2-clause-rising : goal.entry_and_exit_offsets-requires-2-clause-rising
+entry_and_exit_offsets-requires-2-clause-rising c =
     subst IsStrictlyIncreasing
     (keys_in c.self.inside.version c.self.inside.bytes.items c.self.inside.nodes.items c.self.invariant.nodes ∙ ap (map (λ (n : NodePlaces). n.number)) (sym c.as_slice-nodes.ensures.value))
     c.self.invariant.limits.rising
@@ -28,5 +28,5 @@ returns-then-one-two c same =
     let ns = c.as_slice-nodes.result.now in
     subst (λ (l : List NodeData). HaveSameEntryAndExit l c.args.a.now c.args.b.now)
     (ap (λ (l : List ℕ). nodes_in_bytes version l ns) c.as_slice-bytes.ensures.value ∙ ap (nodes_in_bytes version c.self.inside.bytes.items) c.as_slice-nodes.ensures.value ∙ ap (λ (d : CertData). d.nodes) c.self.view_is)
-    (entered_alike version bytes ns c.args.a.now c.args.b.now c.in-Some.one.0 c.in-Some-entry_and_exit_places.two.0 c.in-Some.one.1 c.in-Some-entry_and_exit_places.two.1 c.in-Some.ensures c.in-Some-entry_and_exit_places.ensures c.if-one-two.true
-    (same_place c.in-Some.one.1 c.in-Some-entry_and_exit_places.two.1 c.eq.result c.eq.ensures same))
+    (entered_alike version bytes ns c.args.a.now c.args.b.now c.in-Some.one.0 c.in-Some-entry_and_exit_offsets.two.0 c.in-Some.one.1 c.in-Some-entry_and_exit_offsets.two.1 c.in-Some.ensures c.in-Some-entry_and_exit_offsets.ensures c.if-one-two.true
+    (same_place c.in-Some.one.1 c.in-Some-entry_and_exit_offsets.two.1 c.eq.result c.eq.ensures same))

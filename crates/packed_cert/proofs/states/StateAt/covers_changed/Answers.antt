@@ -12,7 +12,7 @@ are_values_covered_at-requires-clause-count c = length-changed c.args.s.now c.ar
 
 pub returns : goal.returns
 returns c =
-    let regs = sym c.place_of_values-place.ensures.values ∙ ap (λ (s : State). s.regs) c.self.view_is in
+    let regs = sym c.offset_of_register_values-place.ensures.values ∙ ap (λ (s : State). s.regs) c.self.view_is in
     let both = subst (λ (l : List Val). IsTrue c.are_values_covered_at.result ↔ AreBelow (state_after c.args.s.now c.args.c.now).regs l) regs c.are_values_covered_at.ensures in
     let locals = rw (c.as_slice.ensures.value, c.as_slice-2.ensures.value) at (c.flags_imply.ensures.0 c.if-not-flags_imply.false) in (
       (λ t. record { regs = both.0 t; context = c.covers_context.ensures.0 c.if-not-covers_context.false; locals = rw c.locals.ensures at locals }),

@@ -10,11 +10,11 @@ push_words-requires c =
     let tag : List ℕ = (240 + c.args.step) ∷ [] in
     omega (arith, c.in_ok-make_room.ensures.room, ap (λ (l : List ℕ). length l) c.push.ensures, length-append c.make_room.new.self tag)
 
-pub returns-then-is_all_words_range : goal.returns-then-is_all_words_range
-returns-then-is_all_words_range c =
+pub returns-then-is_span_of_all_words : goal.returns-then-is_span_of_all_words
+returns-then-is_span_of_all_words c =
     let old = c.args.out.now.items ++ c.args.self.now in
     on_ok_weaker c.push_unknowns.result
-    (λ e. e ∙ ap (λ (l : List ℕ). old ++ l) (sym (all_bytes c.args.lo c.args.last c.args.step (sym c.is_all_words_range.ensures ∙ c.if-is_all_words_range.true)))) c.push_unknowns.ensures
+    (λ e. e ∙ ap (λ (l : List ℕ). old ++ l) (sym (all_bytes c.args.lo c.args.last c.args.step (sym c.is_span_of_all_words.ensures ∙ c.if-is_span_of_all_words.true)))) c.push_unknowns.ensures
 
 pub returns : goal.returns
 returns c =
@@ -27,4 +27,4 @@ returns c =
     ap (λ (l : List ℕ). out ++ l) (c.push_words.ensures ∙ ap (λ (l : List ℕ). l ++ ends) c.push.ensures ∙ append_assoc self tag ends)
     ∙ sym (append_assoc out self all)
     ∙ ap (λ (l : List ℕ). l ++ all) c.in_ok-make_room.ensures.same
-    ∙ ap (λ (l : List ℕ). old ++ l) (sym (range_bytes c.args.lo c.args.last c.args.step (sym c.is_all_words_range.ensures ∙ c.if-is_all_words_range.false)))
+    ∙ ap (λ (l : List ℕ). old ++ l) (sym (range_bytes c.args.lo c.args.last c.args.step (sym c.is_span_of_all_words.ensures ∙ c.if-is_span_of_all_words.false)))

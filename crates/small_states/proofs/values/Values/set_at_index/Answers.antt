@@ -5,12 +5,12 @@ use Rattle.small_states.specs.declared.values.SpacedValue.{SpacedValue}
 use Rattle.small_states.specs.CompactForms.{all_values, values_to_last_known}
 use Rattle.small_states.proofs.values.Values.set_at_index.Goals as goal
 
-pub set_before_known-requires-clause-before : goal.set_before_known-requires-clause-before
-set_before_known-requires-clause-before c = c.locate_index-n.ensures.before (omega (arith, c.if-n-len.true))
+pub set_in_entry-requires-clause-before : goal.set_in_entry-requires-clause-before
+set_in_entry-requires-clause-before c = c.locate_index-n.ensures.before (omega (arith, c.if-n-len.true))
 
 pub returns-then-n-len : goal.returns-then-n-len
 returns-then-n-len c =
-    on_ok_weaker c.set_before_known.result (λ e. e ∙ ap (λ (i : ℕ). set (all_values c.args.self.now) i c.args.value) (sym c.locate_index-n.ensures.at)) c.set_before_known.ensures
+    on_ok_weaker c.set_in_entry.result (λ e. e ∙ ap (λ (i : ℕ). set (all_values c.args.self.now) i c.args.value) (sym c.locate_index-n.ensures.at)) c.set_in_entry.ensures
 
 pub returns : goal.returns
 returns c =

@@ -18,4 +18,4 @@ returns-in_err-list g c =
 pub returns : goal.returns
 returns g c =
     (leads_firmware _ _ _ _ _ _ _ _ c.in_ok-image.ensures.leaves c.in_ok-image.ensures.later c.in_ok-image.ensures.found c.in_ok-board.ensures.leaves c.in_ok-board.ensures.later c.in_ok-board.ensures.found).comes _ _
-    ((leads_read _ _ _ _ _ _ _ c.in_ok-list.ensures.leaves c.in_ok-list.ensures.later c.in_ok-list.ensures.found).comes _ _ c.read_task_certs.ensures)
+    ((leads_read _ _ _ _ _ _ _ c.in_ok-list.ensures.leaves c.in_ok-list.ensures.later c.in_ok-list.ensures.found).comes _ _ c.check_task_cert_files.ensures)

@@ -1,4 +1,0 @@
-use Rattle.cfg_recover.proofs.local_rules.may_store_at_value.Goals as goal
-
-pub returns-in-Store : goal.returns-in-Store
-returns-in-Store c = rw c.in-Store.is c.store_ok.ensures

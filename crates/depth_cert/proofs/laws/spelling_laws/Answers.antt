@@ -1,5 +1,0 @@
-use Rattle.depth_cert.proofs.BackLaws.{written_is_read}
-use Rattle.depth_cert.proofs.laws.spelling_laws.Goals as goal
-
-pub returns : goal.returns
-returns c = written_is_read

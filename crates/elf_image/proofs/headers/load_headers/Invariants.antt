@@ -1,5 +1,0 @@
-use Rattle.elf_image.proofs.Loads.{LoadsSoFar}
-use Rattle.elf_image.proofs.headers.load_headers.Given as goal
-
-abbrev pub invariant-loop-number : goal.invariant-loop-number
-invariant-loop-number l = LoadsSoFar l.bytes l.number l.count l.loads.items l.total

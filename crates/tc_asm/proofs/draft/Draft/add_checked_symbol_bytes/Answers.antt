@@ -1,7 +1,0 @@
-use Rattle.std.proofs.Common.{Some}
-use Rattle.tc_stmt.specs.Items.{reference_of}
-use Rattle.tc_asm.proofs.KnownSymbols.{use_bytes}
-use Rattle.tc_asm.proofs.draft.Draft.add_checked_symbol_bytes.Goals as goal
-
-pub returns-clause-draft : goal.returns-clause-draft
-returns-clause-draft c = use_bytes c.args.self.now _ _ c.args.bytes.now (Some (reference_of c.args.r)) c.in_ok-add_use_of_known_symbol.ensures c.in_ok-add_bytes.ensures

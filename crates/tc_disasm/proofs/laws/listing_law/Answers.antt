@@ -1,5 +1,0 @@
-use Rattle.tc_disasm.proofs.Whole.{reads_back}
-use Rattle.tc_disasm.proofs.laws.listing_law.Goals as goal
-
-pub returns : goal.returns
-returns c = λ i is. reads_back i is

@@ -1,5 +1,0 @@
-use Rattle.tc_script.proofs.Only.{has_one_run}
-use Rattle.tc_script.proofs.laws.script_laws.Goals as goal
-
-pub returns : goal.returns
-returns c = has_one_run

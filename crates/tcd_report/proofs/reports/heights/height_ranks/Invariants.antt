@@ -1,6 +1,0 @@
-use Rattle.std.proofs.Common.{◌≡◌, map, take}
-use Rattle.tcd_report.specs.Reports.Heights.{height_rank_of}
-use Rattle.tcd_report.proofs.reports.heights.height_ranks.Given as goal
-
-abbrev pub invariant-loop-i : goal.invariant-loop-i
-invariant-loop-i l = l.ranks.items ≡ map height_rank_of (take l.i (l.cert).nodes)
