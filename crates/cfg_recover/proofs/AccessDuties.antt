@@ -7,7 +7,7 @@ use Rattle.tc_isa.specs.declared.shapes.Shape.TheVariants.{Load, Store}
 use Rattle.value_domain.specs.declared.states.State.{State}
 use Rattle.value_domain.specs.Limits.{Limits}
 use Rattle.depth_cert.specs.declared.keys.Key.{Key}
-use Rattle.cfg_recover.specs.LocalRules.{MayAccess}
+use Rattle.cfg_recover.specs.LocalRules.{IsAccessAllowed}
 use Rattle.cfg_recover.specs.Duties.{may_be_misaligned, misaligned_duties_of}
 
 -- only loads and stores access memory
@@ -22,7 +22,7 @@ untrapped : (t aln : Bool) → (t ≡ true) ⊎ (aln ≡ true) → aln ≡ false
 untrapped t aln (inl e) off = ap not e
 untrapped t aln (inr on) off = absurd (let no : true ≡ false = sym on ∙ off in cc)
 
-pub owes_no_access : (b : Limits) (plan : PlanData) (key : Key) (s : State) (shape : Shape) → MayAccess b plan s shape → plan.aln ≡ false → misaligned_duties_of b plan key s shape ≡ []
+pub owes_no_access : (b : Limits) (plan : PlanData) (key : Key) (s : State) (shape : Shape) → IsAccessAllowed b plan s shape → plan.aln ≡ false → misaligned_duties_of b plan key s shape ≡ []
 owes_no_access b plan key s (Load dst base offset size signed after) may off = rw (untrapped _ plan.aln may off) refl
 owes_no_access b plan key s (Store src base offset size after) may off = rw (untrapped _ plan.aln may off) refl
 owes_no_access b plan key s _ may off = refl

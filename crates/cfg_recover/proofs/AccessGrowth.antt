@@ -4,13 +4,13 @@ use Rattle.tcd_plan.specs.PlanData.{PlanData}
 use Rattle.tc_isa.specs.declared.shapes.Arg.{Arg}
 use Rattle.tc_isa.specs.declared.shapes.Arg.TheVariants.{Reg, Word}
 use Rattle.tc_isa.specs.declared.shapes.Op.TheVariants.{Add}
-use Rattle.tc_isa.specs.InBounds.{IsArg}
+use Rattle.tc_isa.specs.InBounds.{IsArgInBounds}
 use Rattle.value_domain.specs.declared.states.State.{State}
 use Rattle.value_domain.specs.Limits.{Limits}
 use Rattle.value_domain.specs.Values.{IsBelow}
 use Rattle.value_domain.specs.State.{Covers}
 use Rattle.vd_transfer.specs.Registers.{register_slot, arg_of, register_value_at}
-use Rattle.vd_transfer.specs.EffectsOnStates.{access_of}
+use Rattle.vd_transfer.specs.EffectsOnStates.{address_by_mode}
 use Rattle.vd_transfer.specs.Soundness.{MeetSoundnessPremises}
 use Rattle.vd_transfer.proofs.SlotLaws.{slot_is}
 use Rattle.vd_transfer.proofs.HoldLaws.{arg_value}
@@ -25,7 +25,7 @@ module _ (b : Limits) (p : PlanData) (s t : State) (low : MeetSoundnessPremises 
   arg_grows (Reg r) = value_grows r (register_slot r) refl
   arg_grows (Word w) = λ x m. m
 
-  pub access_grows : (base : Arg) (offset : ℕ) (after : Bool) → IsArg base → offset < 2 ^ 32 → IsBelow (access_of b p s base offset after) (access_of b p t base offset after)
+  pub access_grows : (base : Arg) (offset : ℕ) (after : Bool) → IsArgInBounds base → offset < 2 ^ 32 → IsBelow (address_by_mode b p s base offset after) (address_by_mode b p t base offset after)
   access_grows base offset true is small = arg_grows base
   access_grows base offset false is small =
       monotone b Add (arg_of p s base) (arg_of p s (Word offset)) (arg_of p t base) (arg_of p t (Word offset)) low.limits (arg_value b p s base low is) (arg_value b p s (Word offset) low small) (arg_value b p t base high is)

@@ -8,7 +8,7 @@ use Rattle.tcd_plan.specs.PlanData.{PlanData}
 use Rattle.tc_isa.specs.Insts.{InstData}
 use Rattle.tc_isa.specs.Spelling.{Spells}
 use Rattle.tc_isa.specs.Meanings.{shape_of}
-use Rattle.tc_isa.specs.InBounds.{IsShape}
+use Rattle.tc_isa.specs.InBounds.{IsShapeInBounds}
 use Rattle.tc_isa.specs.declared.shapes.Shape.{Shape}
 use Rattle.tc_isa.proofs.ShapeBounds.{shape_is}
 use Rattle.tc_encode.specs.Decoding.{decoded_of}
@@ -197,8 +197,8 @@ IsCode-one image plan x s t m n a b =
     (sym a.shaped ∙ ap shape_of same.0 ∙ b.shaped, sym a.sized ∙ same.1 ∙ b.sized)
 
 -- its registers and words are registers and words
-pub IsCode-bounded : (image : ImageData) (plan : PlanData) (x : ℕ) (s : Shape) (n : ℕ) → IsCode image plan x s n → IsShape s
-IsCode-bounded image plan x s n a = subst IsShape a.shaped (shape_is a.inst ((a.spells).spelled).inst)
+pub IsCode-bounded : (image : ImageData) (plan : PlanData) (x : ℕ) (s : Shape) (n : ℕ) → IsCode image plan x s n → IsShapeInBounds s
+IsCode-bounded image plan x s n a = subst IsShapeInBounds a.shaped (shape_is a.inst ((a.spells).spelled).inst)
 
 -- the numbers that it may write to registers are words
 pub IsCode-suits : (image : ImageData) (plan : PlanData) (x : ℕ) (s : Shape) (n : ℕ) → IsCode image plan x s n → machine.IsShape s

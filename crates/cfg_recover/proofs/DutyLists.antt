@@ -18,7 +18,7 @@ use Rattle.depth_cert.specs.declared.points.Exit.{Exit}
 use Rattle.depth_cert.specs.Exits.{exit_of_state}
 use Rattle.cfg_recover.specs.Entries.{aln_entry, aln_key, call_entry, call_key, irq_entry, irq_key, sys_key, possible_irqs_of}
 use Rattle.cfg_recover.specs.LocalRules.{targets_of}
-use Rattle.cfg_recover.specs.Duties.{Owed, owed, jump, enter, resume, leave, jump_on, value_loaded_by_shape, next_duty_of, successor_duties_of, entry_and_return, entry_duties_of, may_be_misaligned, misaligned_entry, misaligned_duties_of, interrupt_duties_of, exit_duties_of, entered_keys}
+use Rattle.cfg_recover.specs.Duties.{Owed, owed, jump, enter, resume, leave, branch_duty, value_loaded_by_shape, next_duty_of, successor_duties_of, entry_and_return, entry_duties_of, may_be_misaligned, misaligned_entry, misaligned_duties_of, interrupt_duties_of, exit_duties_of, entered_keys}
 
 -- ---- lists of lists
 pub flat_flat : {A B X : Type 0} (f : B → List X) (h : A → List B) (g : A → List X) → ((x : A) → flat_map f (h x) ≡ g x) → (xs : List A) → flat_map f (flat_map h xs) ≡ flat_map g xs
@@ -49,7 +49,7 @@ module _ {X : Type 0} (f : Owed → List X) where
   two_none : (c d : Owed) → f c ≡ [] → f d ≡ [] → flat_map f (c ∷ d ∷ []) ≡ []
   two_none c d e g = ap (λ l. l ++ (f d ++ [])) e ∙ one_none d g
 
-  side_none : ((q : ℕ) (t : State) → f (owed 4 (jump q t)) ≡ []) → (q : ℕ) (o : Option State) → flat_map f (jump_on q o) ≡ []
+  side_none : ((q : ℕ) (t : State) → f (owed 4 (jump q t)) ≡ []) → (q : ℕ) (o : Option State) → flat_map f (branch_duty q o) ≡ []
   side_none e q None = refl
   side_none e q (Some t) = one_none (owed 4 (jump q t)) (e q t)
 
@@ -61,8 +61,8 @@ module _ {X : Type 0} (f : Owed → List X) where
   pub successors_none : ((q : ℕ) (t : State) → f (owed 4 (jump q t)) ≡ []) → (b : Limits) (image : ImageData) (plan : PlanData) (p : ℕ) (s : State) (shape : Shape) (n : ℕ) → flat_map f (successor_duties_of b image plan p s shape n) ≡ []
   successors_none e b image plan p s (Branch cond x y by lowers) n =
       let o : Bool → Option State = refine_of b plan (Branch cond x y by lowers) s in
-      flat_map-append f (jump_on (wrapping_sum p n) (o false)) (jump_on (wrapping_sum p by) (o true))
-      ∙ ap (λ l. l ++ flat_map f (jump_on (wrapping_sum p by) (o true))) (side_none e (wrapping_sum p n) (o false))
+      flat_map-append f (branch_duty (wrapping_sum p n) (o false)) (branch_duty (wrapping_sum p by) (o true))
+      ∙ ap (λ l. l ++ flat_map f (branch_duty (wrapping_sum p by) (o true))) (side_none e (wrapping_sum p n) (o false))
       ∙ side_none e (wrapping_sum p by) (o true)
   successors_none e b image plan p s (Jump to) n =
       let ts : List ℕ = unwrap_or (targets_of plan s p to) [] in

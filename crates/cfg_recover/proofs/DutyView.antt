@@ -20,7 +20,7 @@ use Rattle.depth_cert.specs.declared.keys.Key.{Key}
 use Rattle.depth_cert.specs.Exits.{exit_of_state}
 use Rattle.cfg_recover.specs.Entries.{call_key, irq_key, sys_key, aln_key, call_entry, irq_entry, sys_entry, aln_entry, possible_irqs_of}
 use Rattle.cfg_recover.specs.LocalRules.{targets_of}
-use Rattle.cfg_recover.specs.Duties.{Owed, owed, jump, enter, resume, leave, value_loaded_by_shape, jump_on, next_duty_of, successor_duties_of, entry_and_return, entry_duties_of, may_be_misaligned, misaligned_duties_of, interrupt_duties_of, exit_duties_of, duties_of}
+use Rattle.cfg_recover.specs.Duties.{Owed, owed, jump, enter, resume, leave, value_loaded_by_shape, branch_duty, next_duty_of, successor_duties_of, entry_and_return, entry_duties_of, may_be_misaligned, misaligned_duties_of, interrupt_duties_of, exit_duties_of, duties_of}
 use Rattle.cfg_recover.proofs.Members.{contained_map, contained_flat, contains_first, contains_map, contains_flat, contains_jump, only_one, owes_successor, owes_entry, owes_misaligned, owes_interrupt, owes_leaving}
 
 pub data DutyAt (b : Limits) (image : ImageData) (plan : PlanData) (key : Key) (p : ℕ) (s : State) (n : ℕ) : Shape → Owed → Type 0 where
@@ -58,7 +58,7 @@ module _ (b : Limits) (image : ImageData) (plan : PlanData) (key : Key) (p : ℕ
   unfolding AreAt
   both_at shape ds es h k d c = elim (Contains-append_cases ds es d c) [ inl i ↦ h d i | inr i ↦ k d i ]
 
-  side_at : (shape : Shape) (q : ℕ) (o : Option State) → ((t : State) → o ≡ Some t → DutyAt b image plan key p s n shape (owed 4 (jump q t))) → AreAt shape (jump_on q o)
+  side_at : (shape : Shape) (q : ℕ) (o : Option State) → ((t : State) → o ≡ Some t → DutyAt b image plan key p s n shape (owed 4 (jump q t))) → AreAt shape (branch_duty q o)
   side_at shape q None h = none_at shape
   side_at shape q (Some t) h = one_at shape (owed 4 (jump q t)) (h t refl)
 
@@ -113,10 +113,10 @@ module _ (b : Limits) (image : ImageData) (plan : PlanData) (key : Key) (p : ℕ
   duty_listed _ d (next shape e) = owes_successor b image plan key p s shape n d (rw (e s) (contains_first d []))
   duty_listed _ d (straight test x y by lowers t e) =
       owes_successor b image plan key p s (Branch test x y by lowers) n d
-      (Contains-append_left (jump_on (wrapping_sum p n) (refine_of b plan (Branch test x y by lowers) s false)) (jump_on (wrapping_sum p by) (refine_of b plan (Branch test x y by lowers) s true)) d (contains_jump (wrapping_sum p n) _ t e))
+      (Contains-append_left (branch_duty (wrapping_sum p n) (refine_of b plan (Branch test x y by lowers) s false)) (branch_duty (wrapping_sum p by) (refine_of b plan (Branch test x y by lowers) s true)) d (contains_jump (wrapping_sum p n) _ t e))
   duty_listed _ d (taken test x y by lowers t e) =
       owes_successor b image plan key p s (Branch test x y by lowers) n d
-      (Contains-append_right (jump_on (wrapping_sum p n) (refine_of b plan (Branch test x y by lowers) s false)) (jump_on (wrapping_sum p by) (refine_of b plan (Branch test x y by lowers) s true)) d (contains_jump (wrapping_sum p by) _ t e))
+      (Contains-append_right (branch_duty (wrapping_sum p n) (refine_of b plan (Branch test x y by lowers) s false)) (branch_duty (wrapping_sum p by) (refine_of b plan (Branch test x y by lowers) s true)) d (contains_jump (wrapping_sum p by) _ t e))
   duty_listed _ d (target to q c) = owes_successor b image plan key p s (Jump to) n d (contains_map (λ q. owed 4 (jump q s)) _ q c)
   duty_listed _ d (called to q c) = owes_entry b image plan key p s (Call to) n d (contains_flat (λ q. entry_and_return 5 (call_key key q) (call_entry s) (wrapping_sum p n)) d q _ c (contains_first d (owed 4 (resume (call_key key q) (wrapping_sum p n)) ∷ [])))
   duty_listed _ d (called_back to q c) =

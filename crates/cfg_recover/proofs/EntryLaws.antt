@@ -14,7 +14,7 @@ use Rattle.tc_isa.specs.declared.shapes.Shape.{Shape}
 use Rattle.tc_isa.specs.declared.shapes.Shape.TheVariants.{Compute, Scaled, Load, Store, Branch, Rslcx, Mfcr}
 use Rattle.tc_machine.specs.declared.state.Machine.{Machine}
 use Rattle.tc_machine.specs.Machine.{reg, a10, is_interrupt_stack_used, IsMachine}
-use Rattle.tc_machine.specs.Handlers.{handler_stack}
+use Rattle.tc_machine.specs.Handlers.{handler_stack_pointer}
 use Rattle.tc_machine.specs.Starting.{HasGlobals, Starts}
 use Rattle.tc_machine.proofs.Words.{register_lt}
 use Rattle.value_domain.specs.declared.values.Val.{Val}
@@ -33,7 +33,7 @@ use Rattle.vd_transfer.proofs.SlotLaws.{slot_is, not_lower}
 use Rattle.vd_transfer.proofs.HoldLaws.{same_length, holds_set, holds_narrow}
 use Rattle.depth_cert.specs.declared.keys.Key.{Key}
 use Rattle.depth_cert.specs.declared.points.Exit.{Exit}
-use Rattle.cfg_recover.specs.Entries.{entry_stack_of, state_with_stack, start_state, call_entry, irq_entry, aln_entry, sys_entry}
+use Rattle.cfg_recover.specs.Entries.{handler_entry_sp_of, state_with_only_a10, start_state, call_entry, irq_entry, aln_entry, sys_entry}
 use Rattle.depth_cert.specs.Exits.{lower_values, exit_of_state, values_after_return_from, state_after_return, ExitCovers}
 
 -- ---- states with the same values, or greater ones
@@ -158,7 +158,7 @@ blank_at plan t w r (Some i) same e small fixed =
 
 -- at an entry: words whose A10 is a member of the stack pointer's value
 pub holds_entry : (plan : PlanData) (word : ℕ → ℕ) (sp : Val) (ie ie2 : Bool) (ccpn ccpn2 : ℕ) (lower : Bool) → (IsTrue ie2 → IsTrue ie) → ccpn ≤ ccpn2 → ((r : ℕ) → r < 32 → word r < 2 ^ 32)
-    → HasGlobalWords plan word → IsMember (word 26) sp → Holds plan word ie2 ccpn2 (state_with_stack sp ie ccpn lower)
+    → HasGlobalWords plan word → IsMember (word 26) sp → Holds plan word ie2 ccpn2 (state_with_only_a10 sp ie ccpn lower)
 holds_entry plan word sp ie ie2 ccpn ccpn2 lower enabled priority small globals m =
     holds_narrow plan (blank ie ccpn lower) word ie2 ccpn2 26 sp (length-replicate 27 any_val) (omega arith) m
     (record {
@@ -167,7 +167,7 @@ holds_entry plan word sp ie ie2 ccpn ccpn2 lower enabled priority small globals 
       priority = priority;
     })
 
-pub entry_length : (sp : Val) (ie : Bool) (ccpn : ℕ) (lower : Bool) → length (state_with_stack sp ie ccpn lower).regs ≡ 27
+pub entry_length : (sp : Val) (ie : Bool) (ccpn : ℕ) (lower : Bool) → length (state_with_only_a10 sp ie ccpn lower).regs ≡ 27
 entry_length sp ie ccpn lower = same_length (blank ie ccpn lower) sp (register_slot 26) ∙ length-replicate 27 any_val
 
 -- the state at the start holds the registers of a start state of the machine
@@ -177,23 +177,23 @@ holds_start image plan m st =
     (globals_start plan m st.machine st.globals) (inl st.sp)
 
 -- the stack pointer of a handler is a member of its value
-pub stack_member : (plan : PlanData) (key : Key) (m : Machine) (s : State) (ie : Bool) (ccpn : ℕ) → is_interrupt_stack_used m.psw ≡ key.is → m.isp ≡ plan.isp → Holds plan (reg m) ie ccpn s → IsMember (handler_stack m) (entry_stack_of plan key s)
+pub stack_member : (plan : PlanData) (key : Key) (m : Machine) (s : State) (ie : Bool) (ccpn : ℕ) → is_interrupt_stack_used m.psw ≡ key.is → m.isp ≡ plan.isp → Holds plan (reg m) ie ccpn s → IsMember (handler_stack_pointer m) (handler_entry_sp_of plan key s)
 stack_member plan key m s ie ccpn same isp h =
     elim (cases_Bool key.is) [
       | inl t ↦ rw (same, t) (h.regs 26 (omega arith))
       | inr f ↦ rw (same, f) (inl isp)
     ]
 
-module _ (plan : PlanData) (key : Key) (s : State) (word word2 : ℕ → ℕ) (ie : Bool) (ccpn : ℕ) (h : Holds plan word ie ccpn s) (stack : IsMember (word2 26) (entry_stack_of plan key s)) where
+module _ (plan : PlanData) (key : Key) (s : State) (word word2 : ℕ → ℕ) (ie : Bool) (ccpn : ℕ) (h : Holds plan word ie ccpn s) (stack : IsMember (word2 26) (handler_entry_sp_of plan key s)) where
   -- at the entry of an interrupt's handler
   pub holds_irq : (p : ℕ) → ((r : ℕ) → r < 32 → word2 r < 2 ^ 32) → ((r : ℕ) → 16 ≤ r → r < 26 → word2 r ≡ word r) → Holds plan word2 false p (irq_entry plan key s p)
-  holds_irq p small same = holds_entry plan word2 (entry_stack_of plan key s) false false p p true (λ t. t) (omega arith) small (globals_stay plan s word word2 ie ccpn (small 27 (omega arith)) same h) stack
+  holds_irq p small same = holds_entry plan word2 (handler_entry_sp_of plan key s) false false p p true (λ t. t) (omega arith) small (globals_stay plan s word word2 ie ccpn (small 27 (omega arith)) same h) stack
 
   -- at the entry of the handler of misaligned accesses
   pub holds_aln : ((r : ℕ) → r < 32 → word2 r < 2 ^ 32) → ((r : ℕ) → 16 ≤ r → r < 26 → word2 r ≡ word r) → word2 15 ≡ 4 → Holds plan word2 false ccpn (aln_entry plan key s)
   holds_aln small same four =
-      holds_narrow plan (state_with_stack (entry_stack_of plan key s) false s.ccpn true) word2 false ccpn 15 (word_val 4) (entry_length (entry_stack_of plan key s) false s.ccpn true) (omega arith) (inl four)
-      (holds_entry plan word2 (entry_stack_of plan key s) false false s.ccpn ccpn true (λ t. t) h.priority small (globals_stay plan s word word2 ie ccpn (small 27 (omega arith)) same h) stack)
+      holds_narrow plan (state_with_only_a10 (handler_entry_sp_of plan key s) false s.ccpn true) word2 false ccpn 15 (word_val 4) (entry_length (handler_entry_sp_of plan key s) false s.ccpn true) (omega arith) (inl four)
+      (holds_entry plan word2 (handler_entry_sp_of plan key s) false false s.ccpn ccpn true (λ t. t) h.priority small (globals_stay plan s word word2 ie ccpn (small 27 (omega arith)) same h) stack)
 
   sys_word : (tin r : ℕ) → word2 15 ≡ tin → (r ≢ 15 → r ≢ 26 → word2 r ≡ word r) → word2 r ≡ words_with_register (words_with_register word 26 (word2 26)) 15 tin r
   sys_word tin r is same =
@@ -209,21 +209,21 @@ module _ (plan : PlanData) (key : Key) (s : State) (word word2 : ℕ → ℕ) (i
   pub holds_sys : (tin : ℕ) → length s.regs ≡ 27 → word2 27 < 2 ^ 32 → word2 15 ≡ tin → ((r : ℕ) → r < 32 → r ≢ 15 → r ≢ 26 → r ≢ 27 → word2 r ≡ word r) → Holds plan word2 false ccpn (sys_entry plan key s tin)
   unfolding register_slot
   holds_sys tin len small is same =
-      let t1 = with_reg_value s 26 (entry_stack_of plan key s) in
+      let t1 = with_reg_value s 26 (handler_entry_sp_of plan key s) in
       let t2 = with_reg_value t1 15 (word_val tin) in
-      let h1 : Holds plan (words_with_register word 26 (word2 26)) ie ccpn t1 = holds_set plan s word ie ccpn 26 (word2 26) (entry_stack_of plan key s) len refl stack h in
+      let h1 : Holds plan (words_with_register word 26 (word2 26)) ie ccpn t1 = holds_set plan s word ie ccpn 26 (word2 26) (handler_entry_sp_of plan key s) len refl stack h in
       let h2 : Holds plan (words_with_register (words_with_register word 26 (word2 26)) 15 tin) ie ccpn t2 =
-      holds_set plan t1 (words_with_register word 26 (word2 26)) ie ccpn 15 tin (word_val tin) (same_length s (entry_stack_of plan key s) (register_slot 26) ∙ len) refl (inl refl) h1
+      holds_set plan t1 (words_with_register word 26 (word2 26)) ie ccpn 15 tin (word_val tin) (same_length s (handler_entry_sp_of plan key s) (register_slot 26) ∙ len) refl (inl refl) h1
       in
       holds_same plan t2 (sys_entry plan key s tin) (words_with_register (words_with_register word 26 (word2 26)) 15 tin) word2 ie false ccpn ccpn refl (λ t. t) h2.priority small
       (λ r lt n27. sys_word tin r is (λ n15 n26. same r lt n15 n26 n27)) h2
 
 pub aln_length : (plan : PlanData) (key : Key) (s : State) → length (aln_entry plan key s).regs ≡ 27
 aln_length plan key s =
-    same_length (state_with_stack (entry_stack_of plan key s) false s.ccpn true) (word_val 4) (register_slot 15) ∙ entry_length (entry_stack_of plan key s) false s.ccpn true
+    same_length (state_with_only_a10 (handler_entry_sp_of plan key s) false s.ccpn true) (word_val 4) (register_slot 15) ∙ entry_length (handler_entry_sp_of plan key s) false s.ccpn true
 
 pub sys_length : (plan : PlanData) (key : Key) (s : State) (tin : ℕ) → length (sys_entry plan key s tin).regs ≡ length s.regs
-sys_length plan key s tin = same_length (with_reg_value s 26 (entry_stack_of plan key s)) (word_val tin) (register_slot 15) ∙ same_length s (entry_stack_of plan key s) (register_slot 26)
+sys_length plan key s tin = same_length (with_reg_value s 26 (handler_entry_sp_of plan key s)) (word_val tin) (register_slot 15) ∙ same_length s (handler_entry_sp_of plan key s) (register_slot 26)
 
 -- ---- exits
 -- the place of a lower register in an exit's values

@@ -9,7 +9,7 @@ use Rattle.value_domain.specs.Values.{IsInLattice, any_val}
 use Rattle.value_domain.specs.State.{AreInLattice}
 use Rattle.value_domain.proofs.RangeLaws.{any_value}
 use Rattle.vd_transfer.specs.Registers.{register_slot}
-use Rattle.cfg_recover.specs.Entries.{state_with_stack}
+use Rattle.cfg_recover.specs.Entries.{state_with_only_a10}
 
 -- a list with the same value everywhere
 pub replicate-all : (v : Val) (n : ℕ) (vs : List Val) → length vs ≡ n → ((i : ℕ) → i < n → get_or vs i v ≡ v) → vs ≡ replicate n v
@@ -33,6 +33,6 @@ set_values b vs i v values value r h =
 pub any_values : (b : Limits) → AreLimits b → AreInLattice b (replicate 27 any_val)
 any_values b limits r h = let within : r < 27 = omega (arith, length-replicate 27 any_val) in rw (get_or-replicate 27 r any_val any_val within) (any_value b limits)
 
-pub entry_values : (b : Limits) (sp : Val) (ie : Bool) (ccpn : ℕ) (lower : Bool) → AreLimits b → IsInLattice b sp → AreInLattice b (state_with_stack sp ie ccpn lower).regs
+pub entry_values : (b : Limits) (sp : Val) (ie : Bool) (ccpn : ℕ) (lower : Bool) → AreLimits b → IsInLattice b sp → AreInLattice b (state_with_only_a10 sp ie ccpn lower).regs
 unfolding register_slot
 entry_values b sp ie ccpn lower limits value = set_values b (replicate 27 any_val) 22 sp (any_values b limits) value

@@ -2,7 +2,7 @@
 use Rattle.std.proofs.Common.{◌≡◌, ℕ, zero, suc, ◌+◌, ◌-◌, ◌*◌, ◌/◌, ◌<◌, ◌≤◌, inl, inr, List, [], ◌∷◌, ◌++◌, length, map, take, get_or, slice_get, Some, None, refl, sym, ap, ◌∙◌, subst, arith}
 use Rattle.std.proofs.lemmas.List.{take_more, map-append, length-map, length-take-le}
 use Rattle.tcd_base.proofs.OptionLaws.{some_same}
-use Rattle.value_domain.specs.Sets.{Among, IsAscending, sorted_insert, sorted_set_of}
+use Rattle.value_domain.specs.Sets.{Among, IsAscending, sorted_set_insert, sorted_set_of}
 use Rattle.value_domain.proofs.SetLaws.{put-eq, put-gt, put_has, length_put, distinct_same, among_distinct}
 use Rattle.value_domain.proofs.ExtentLaws.{among_append, append_left, append_right}
 
@@ -13,17 +13,17 @@ last-more y z zs =
     ap (λ (n : ℕ). slice_get (y ∷ z ∷ zs) n) e
 
 -- adding the last word again
-pub put-again : (x : ℕ) (ys : List ℕ) → IsAscending ys → slice_get ys (length ys - 1) ≡ Some x → sorted_insert x ys ≡ ys
+pub put-again : (x : ℕ) (ys : List ℕ) → IsAscending ys → slice_get ys (length ys - 1) ≡ Some x → sorted_set_insert x ys ≡ ys
 put-again x [] r e = absurd (let f : None ≡ Some x = e in cc)
 put-again x (y ∷ []) r e = put-eq x y [] (sym (some_same y x e))
 put-again x (y ∷ z ∷ zs) r e =
-    let rest : sorted_insert x (z ∷ zs) ≡ z ∷ zs = put-again x (z ∷ zs) r.1 (sym (last-more y z zs) ∙ e) in
+    let rest : sorted_set_insert x (z ∷ zs) ≡ z ∷ zs = put-again x (z ∷ zs) r.1 (sym (last-more y z zs) ∙ e) in
     let above : y < x = r.0 x (subst (λ (l : List ℕ). Among x l) rest (put_has x (z ∷ zs))) in
     put-gt x y (z ∷ zs) above ∙ ap (λ (l : List ℕ). y ∷ l) rest
 
 -- adding a word that isn't below the others, and isn't the last one
-pub put-behind : (x : ℕ) (ys : List ℕ) → IsAscending ys → ((y : ℕ) → Among y ys → y ≤ x) → (slice_get ys (length ys - 1) ≡ Some x → ⊥) → sorted_insert x ys ≡ ys ++ x ∷ []
-unfolding sorted_insert
+pub put-behind : (x : ℕ) (ys : List ℕ) → IsAscending ys → ((y : ℕ) → Among y ys → y ≤ x) → (slice_get ys (length ys - 1) ≡ Some x → ⊥) → sorted_set_insert x ys ≡ ys ++ x ∷ []
+unfolding sorted_set_insert
 put-behind x [] r greatest other = refl
 put-behind x (y ∷ []) r greatest other =
     let most : y ≤ x = greatest y (inl refl) in
@@ -32,11 +32,11 @@ put-behind x (y ∷ []) r greatest other =
 put-behind x (y ∷ z ∷ zs) r greatest other =
     let first : y < z = r.0 z (inl refl) in
     let most : z ≤ x = greatest z (inr (inl refl)) in
-    let rest : sorted_insert x (z ∷ zs) ≡ (z ∷ zs) ++ x ∷ [] = put-behind x (z ∷ zs) r.1 (λ w i. greatest w (inr i)) (λ e. other (last-more y z zs ∙ e)) in
+    let rest : sorted_set_insert x (z ∷ zs) ≡ (z ∷ zs) ++ x ∷ [] = put-behind x (z ∷ zs) r.1 (λ w i. greatest w (inr i)) (λ e. other (last-more y z zs ∙ e)) in
     put-gt x y (z ∷ zs) (omega arith) ∙ ap (λ (l : List ℕ). y ∷ l) rest
 
 -- ---- one word more
-pub distinct-next : (x : ℕ) (xs : List ℕ) → sorted_set_of (xs ++ x ∷ []) ≡ sorted_insert x (sorted_set_of xs)
+pub distinct-next : (x : ℕ) (xs : List ℕ) → sorted_set_of (xs ++ x ∷ []) ≡ sorted_set_insert x (sorted_set_of xs)
 unfolding sorted_set_of
 distinct-next x xs =
     distinct_same (xs ++ x ∷ []) (x ∷ xs)
@@ -88,7 +88,7 @@ length_evens ws i h =
     let e : length (map even_of (take i ws)) ≡ i = length-map (take i ws) even_of ∙ length-take-le i ws (omega arith) in
     omega arith
 
-pub evens-more : (ws : List ℕ) (i : ℕ) → i < length ws → evens_of (i + 1) ws ≡ sorted_insert (even_of (get_or ws i 0)) (evens_of i ws)
+pub evens-more : (ws : List ℕ) (i : ℕ) → i < length ws → evens_of (i + 1) ws ≡ sorted_set_insert (even_of (get_or ws i 0)) (evens_of i ws)
 evens-more ws i h =
     ap (λ (l : List ℕ). sorted_set_of (map even_of l)) (take_more ws i 0 h)
     ∙ ap sorted_set_of (map-append even_of (take i ws) (get_or ws i 0 ∷ []))

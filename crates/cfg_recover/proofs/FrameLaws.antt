@@ -21,7 +21,7 @@ use Rattle.cfg_recover.specs.Entries.{start_key}
 use Rattle.cfg_recover.specs.Duties.{Owed, duties_of}
 use Rattle.cfg_recover.specs.RulesHoldOrFail.{limits_of_cert}
 use Rattle.cfg_recover.specs.MovesAreOwed.{IsInState}
-use Rattle.cfg_recover.specs.Frames.{RunFrame, frames_after_edge, frames_after, frames_from, frames, AreFramesHeld, AreAllFramesHeld, IsReturnTo}
+use Rattle.cfg_recover.specs.Frames.{RunFrame, frames_after_edge, frames_after_step, frames_from, frames, AreFramesHeld, AreAllFramesHeld, IsReturnTo}
 use Rattle.cfg_recover.specs.EdgesAreOwed.{IsEdgeWayOwed, IsEdgeOwedByFrames, GoesBackToFrame}
 use Rattle.cfg_recover.specs.StepEdges.{EdgeWay, to, call, irq, sys, aln, ret, rfe, edge_way_of_shape, edge_way_by_trap, edge_way_in_fetch, edge_way_of_step}
 use Rattle.cfg_recover.specs.EdgeAndFrameLaws.{IsStepOfShape, KeepsFrame, EdgeMatchesStep, EdgesMatchSteps, FramesFollowStep, FramesFollowAllRuns, FramesDescribeMachine, HeldFramesDescribeMachine, IsStepOwed, IsStepOwedByPoint, StepsAreOwedByPoints}
@@ -70,20 +70,20 @@ edges_are m e = edge_is m e
 
 -- ---- frames
 -- the frames after one more event
-frames_more : (m : Machine) (es : List Event) (e : Event) (fs : List RunFrame) → frames_from m (es ++ e ∷ []) fs ≡ frames_after (run m es) e (frames_from m es fs)
+frames_more : (m : Machine) (es : List Event) (e : Event) (fs : List RunFrame) → frames_from m (es ++ e ∷ []) fs ≡ frames_after_step (run m es) e (frames_from m es fs)
 frames_more m [] e fs = refl
-frames_more m (x ∷ es) e fs = frames_more (step m x) es e (frames_after m x fs)
+frames_more m (x ∷ es) e fs = frames_more (step m x) es e (frames_after_step m x fs)
 
 module _ (m : Machine) (e : Event) (f : RunFrame) (older : List RunFrame) where
-  by_way : (w : EdgeWay) → edge_way_of_step m e ≡ w → frames_after m e (f ∷ older) ≡ frames_after_edge m.pc (wrapping_sum m.pc (fetched_size (fetched_instruction m))) e.irq w (f ∷ older)
+  by_way : (w : EdgeWay) → edge_way_of_step m e ≡ w → frames_after_step m e (f ∷ older) ≡ frames_after_edge m.pc (wrapping_sum m.pc (fetched_size (fetched_instruction m))) e.irq w (f ∷ older)
   by_way w h = ap (λ (v : EdgeWay). frames_after_edge m.pc (wrapping_sum m.pc (fetched_size (fetched_instruction m))) e.irq v (f ∷ older)) h
 
   -- ways that depend on the instruction's size
-  by_size : (w : EdgeWay) (shape : Shape) (n : ℕ) → edge_way_of_step m e ≡ w → IsStepOfShape m e shape n → frames_after m e (f ∷ older) ≡ frames_after_edge m.pc (wrapping_sum m.pc n) e.irq w (f ∷ older)
+  by_size : (w : EdgeWay) (shape : Shape) (n : ℕ) → edge_way_of_step m e ≡ w → IsStepOfShape m e shape n → frames_after_step m e (f ∷ older) ≡ frames_after_edge m.pc (wrapping_sum m.pc n) e.irq w (f ∷ older)
   by_size w shape n h meets =
       by_way w h ∙ ap (λ (r : Result (Shape × ℕ) Cause). frames_after_edge m.pc (wrapping_sum m.pc (fetched_size r)) e.irq w (f ∷ older)) meets.there
 
-  frames_next : FramesFollowStep m e f older (frames_after m e (f ∷ older))
+  frames_next : FramesFollowStep m e f older (frames_after_step m e (f ∷ older))
   frames_next = record {
     interrupted = λ t. by_way (irq (step m e).pc) (interrupted m e t);
     misaligned = λ shape n h t. by_way (aln (step m e).pc) (trapped m e shape n h t);
@@ -99,7 +99,7 @@ frames_are image plan m = record {
   start = refl;
   step = λ es e f older are.
       subst (λ (fs : List RunFrame). FramesFollowStep (run m es) e f older fs)
-      (sym (frames_more m es e (record { key = start_key image plan; at = m.pc } ∷ []) ∙ ap (λ (fs : List RunFrame). frames_after (run m es) e fs) are))
+      (sym (frames_more m es e (record { key = start_key image plan; at = m.pc } ∷ []) ∙ ap (λ (fs : List RunFrame). frames_after_step (run m es) e fs) are))
       (frames_next (run m es) e f older);
 }
 

@@ -15,7 +15,7 @@ use Rattle.value_domain.specs.declared.states.State.{State}
 use Rattle.value_domain.specs.Limits.{Limits}
 use Rattle.value_domain.specs.Values.{any_val, word_val}
 use Rattle.vd_transfer.specs.Operations.{operation_value}
-use Rattle.vd_transfer.specs.Registers.{register_slot, reg_of, with_slot_value, with_reg_value, state_after_reg_write, is_lower_register, RegisterHasValue, with_arg_value, IncreasesNoFixedRegister, WritesNoFixedRegister, is_same_register}
+use Rattle.vd_transfer.specs.Registers.{register_slot, reg_of, with_slot_value, with_reg_value, state_after_reg_write, is_lower_register, IsNotFixedRegister, with_arg_value, IncreasesNoFixedRegister, WritesNoFixedRegister, is_same_register}
 use Rattle.vd_transfer.specs.EffectsOnStates.{state_with_increased_base, transfer_of}
 use Rattle.vd_transfer.specs.Branches.{state_with_narrowed_register, state_with_narrowed_operands, state_on_side, with_decremented_counter, refine_of}
 use Rattle.vd_transfer.specs.EffectsOnWords.{words_with_register, words_with_increased_base, words_after}
@@ -44,10 +44,10 @@ same_keeps : (word : ℕ → ℕ) (s : State) → KeepsLower word word s s
 same_keeps word s e = (e, λ r low. refl)
 
 -- a register without a value isn't one that has a value
-without_value : (r q : ℕ) → RegisterHasValue r → register_slot q ≡ None → q ≢ r
+without_value : (r q : ℕ) → IsNotFixedRegister r → register_slot q ≡ None → q ≢ r
 without_value r q has none same = both_ways (is_some (register_slot r)) (ap (λ n. is_some (register_slot n)) (sym same) ∙ ap is_some none) has
 
-valueless_set : (word : ℕ → ℕ) (dst w r : ℕ) → RegisterHasValue dst → register_slot r ≡ None → words_with_register word dst w r ≡ word r
+valueless_set : (word : ℕ → ℕ) (dst w r : ℕ) → IsNotFixedRegister dst → register_slot r ≡ None → words_with_register word dst w r ≡ word r
 valueless_set word dst w r has none = set_word-other word dst w r (without_value dst r has none)
 
 -- ---- accesses

@@ -8,7 +8,7 @@ use Rattle.tcd_base.specs.Bytes.{bytes_of_word}
 use Rattle.tcd_plan.specs.PlanData.{PlanData}
 use Rattle.tc_isa.specs.Insts.{InstData, inst_fields}
 use Rattle.tc_isa.specs.Spelling.{spelling, Spells}
-use Rattle.tc_isa.specs.InBounds.{IsShape}
+use Rattle.tc_isa.specs.InBounds.{IsShapeInBounds}
 use Rattle.tc_encode.specs.Decoding.{decoded_of}
 use Rattle.tc_encode.specs.declared.errors.DecodeErr.{DecodeErr}
 use Rattle.tc_encode.proofs.DecodeProofs.{decode_laws}
@@ -96,6 +96,6 @@ located_there image plan x w bs found even at word known =
     subst (λ (o : Option Located). FindsShapeAndSize image plan x o) (sym (known ∙ word)) (located_by image plan x bs (decoded_of bs) refl even at)
 
 -- registers and words of the instruction are registers and words
-pub located_bounded : (image : ImageData) (plan : PlanData) (x : ℕ) (found : Option Located) → FindsShapeAndSize image plan x found → IfSome found (λ l. IsShape l.shape)
+pub located_bounded : (image : ImageData) (plan : PlanData) (x : ℕ) (found : Option Located) → FindsShapeAndSize image plan x found → IfSome found (λ l. IsShapeInBounds l.shape)
 located_bounded image plan x (Some l) code = IsCode-bounded image plan x l.shape l.size code
 located_bounded image plan x None code = tt

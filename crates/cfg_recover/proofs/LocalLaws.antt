@@ -20,7 +20,7 @@ use Rattle.tcd_plan.specs.MappedAddresses.{IsStoreInRange}
 use Rattle.store_ranges.specs.Accesses.{AreAligned, AreStoresInRange, are_aligned}
 use Rattle.depth_cert.specs.declared.keys.Key.{Key}
 use Rattle.cfg_recover.specs.Code.{IsCode}
-use Rattle.cfg_recover.specs.LocalRules.{StoresInRange, MayAccess, LocalRuleHolds, LocalRuleHoldsAtPoint, StoresInRangeAtValue, MayAccessAtValue}
+use Rattle.cfg_recover.specs.LocalRules.{StoresInRange, IsAccessAllowed, LocalRuleHolds, LocalRuleHoldsAtPoint, StoresInRangeAtValue, IsAccessAllowedAtValue}
 use Rattle.cfg_recover.specs.LocalFaults.{IsLocalFault, IsLeastLocalFault, IsFaultlessInst}
 use Rattle.cfg_recover.proofs.CodeLaws.{IsCode-one}
 
@@ -51,7 +51,7 @@ stores_same : (b : Limits) (plan : PlanData) (s : State) (shape : Shape) → Sto
 stores_same b plan s (Store src base offset size after) = (λ h. h, λ h. h)
 stores_same b plan s _ = (λ h. h, λ h. h)
 
-access_same : (b : Limits) (plan : PlanData) (s : State) (shape : Shape) → MayAccessAtValue plan (address_of_access b plan shape s) shape ↔ MayAccess b plan s shape
+access_same : (b : Limits) (plan : PlanData) (s : State) (shape : Shape) → IsAccessAllowedAtValue plan (address_of_access b plan shape s) shape ↔ IsAccessAllowed b plan s shape
 access_same b plan s (Load dst base offset size signed after) = (λ h. h, λ h. h)
 access_same b plan s (Store src base offset size after) = (λ h. h, λ h. h)
 access_same b plan s _ = (λ h. h, λ h. h)
@@ -62,9 +62,9 @@ StoresInRange-at b plan s shape at t e is =
     let same = stores_same b plan s shape in
     (λ h. same.0 (there.0 h), λ h. there.1 (same.1 h))
 
-pub MayAccess-at : (b : Limits) (plan : PlanData) (s : State) (shape : Shape) (at : Val) (t : Bool) → at ≡ address_of_access b plan shape s → IsTrue t ↔ MayAccessAtValue plan at shape → IsTrue t ↔ MayAccess b plan s shape
+pub MayAccess-at : (b : Limits) (plan : PlanData) (s : State) (shape : Shape) (at : Val) (t : Bool) → at ≡ address_of_access b plan shape s → IsTrue t ↔ IsAccessAllowedAtValue plan at shape → IsTrue t ↔ IsAccessAllowed b plan s shape
 MayAccess-at b plan s shape at t e is =
-    let there : IsTrue t ↔ MayAccessAtValue plan (address_of_access b plan shape s) shape = subst (λ (v : Val). IsTrue t ↔ MayAccessAtValue plan v shape) e is in
+    let there : IsTrue t ↔ IsAccessAllowedAtValue plan (address_of_access b plan shape s) shape = subst (λ (v : Val). IsTrue t ↔ IsAccessAllowedAtValue plan v shape) e is in
     let same = access_same b plan s shape in
     (λ h. same.0 (there.0 h), λ h. there.1 (same.1 h))
 

@@ -13,7 +13,7 @@ use Rattle.value_domain.specs.Limits.{Limits}
 use Rattle.value_domain.specs.Sets.{Among}
 use Rattle.value_domain.proofs.WordLaws.{among_place}
 use Rattle.depth_cert.specs.declared.keys.Key.{Key}
-use Rattle.cfg_recover.specs.Duties.{Owed, owed, jump, jump_on, successor_duties_of, entry_duties_of, misaligned_duties_of, interrupt_duties_of, exit_duties_of, duties_of}
+use Rattle.cfg_recover.specs.Duties.{Owed, owed, jump, branch_duty, successor_duties_of, entry_duties_of, misaligned_duties_of, interrupt_duties_of, exit_duties_of, duties_of}
 
 pub contains_first : {X : Type 0} (x : X) (xs : List X) → Contains (x ∷ xs) x
 contains_first x xs = (0, omega arith, refl)
@@ -83,8 +83,8 @@ passes_each p x (y ∷ ys) all (inl e) = ap p e ∙ (and_parts _ _ all).0
 passes_each p x (y ∷ ys) all (inr i) = passes_each p x ys (and_parts _ _ all).1 i
 
 -- a side of a branch that is possible is owed
-pub contains_jump : (q : ℕ) (o : Option State) (t : State) → o ≡ Some t → Contains (jump_on q o) (owed 4 (jump q t))
-contains_jump q o t e = subst (λ u. Contains (jump_on q u) (owed 4 (jump q t))) (sym e) (contains_first (owed 4 (jump q t)) [])
+pub contains_jump : (q : ℕ) (o : Option State) (t : State) → o ≡ Some t → Contains (branch_duty q o) (owed 4 (jump q t))
+contains_jump q o t e = subst (λ u. Contains (branch_duty q u) (owed 4 (jump q t))) (sym e) (contains_first (owed 4 (jump q t)) [])
 
 module _ (b : Limits) (image : ImageData) (plan : PlanData) (key : Key) (p : ℕ) (s : State) (shape : Shape) (n : ℕ) (d : Owed) where
   -- each part of what a point owes is owed

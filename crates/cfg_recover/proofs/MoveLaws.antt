@@ -14,12 +14,12 @@ use Rattle.tc_isa.specs.declared.shapes.Target.TheVariants as target
 use Rattle.tc_isa.specs.declared.shapes.Shape.{Shape}
 use Rattle.tc_isa.specs.declared.shapes.Shape.TheVariants.{Compute, Scaled, Load, Store, Branch, Jump, Enable, Disable, Mfcr, Nothing}
 use Rattle.tc_isa.specs.Arithmetic.{taken_of}
-use Rattle.tc_isa.specs.InBounds.{IsArg, IsTarget}
+use Rattle.tc_isa.specs.InBounds.{IsArgInBounds, IsTargetInBounds}
 use Rattle.tc_machine.specs.declared.events.Event.{Event}
 use Rattle.tc_machine.specs.declared.events.End.TheVariants.{Running}
 use Rattle.tc_machine.specs.declared.state.Machine.{Machine}
 use Rattle.tc_machine.specs.Machine.{reg, a11, IsMachine, core_register}
-use Rattle.tc_machine.specs.Instructions.{wrapping_sum, does, access_address, is_trapping_access, target_of}
+use Rattle.tc_machine.specs.Instructions.{wrapping_sum, after_instruction, access_address, is_trapping_access, target_address}
 use Rattle.tc_machine.specs.Fetching.{fetched_instruction}
 use Rattle.tc_machine.specs.Stepping.{is_interrupt_taken, load_of_fetched, store_of_fetched, none_if_dead, stored, step}
 use Rattle.tcd_plan.specs.MappedAddresses.{IsInAreas, MayAnswerLoad, IsStoreInRange}
@@ -36,18 +36,18 @@ use Rattle.value_domain.proofs.CoverLaws.{among_member, has_step}
 use Rattle.value_domain.proofs.RangeLaws.{one_value}
 use Rattle.value_domain.proofs.SetLaws.{distinct_has}
 use Rattle.vd_transfer.specs.Registers.{register_slot, reg_of, arg_of, with_reg_value}
-use Rattle.vd_transfer.specs.EffectsOnStates.{access_of, address_of_access, transfer_of}
+use Rattle.vd_transfer.specs.EffectsOnStates.{address_by_mode, address_of_access, transfer_of}
 use Rattle.vd_transfer.specs.EffectsOnWords.{ie_after, operand_word, words_after, ccpn_after}
 use Rattle.vd_transfer.specs.Branches.{refine_of}
 use Rattle.vd_transfer.specs.Holding.{Holds}
 use Rattle.vd_transfer.specs.Soundness.{LoadedIsMember, MeetSoundnessPremises}
 use Rattle.vd_transfer.proofs.HoldLaws.{same_length, reg_of-other, reg_of-here, transfer_holds, branch_holds, address_holds, arg_value}
 use Rattle.vd_transfer.proofs.ValueLaws.{value_of_value}
-use Rattle.store_ranges.specs.Loads.{HoldsLoads, load_value_of}
+use Rattle.store_ranges.specs.Loads.{HoldsLoadedWords, load_value_of}
 use Rattle.store_ranges.proofs.Covers.{map_has}
 use Rattle.store_ranges.proofs.Sound.{set_sound, span_sound}
 use Rattle.depth_cert.specs.declared.keys.Key.{Key}
-use Rattle.cfg_recover.specs.Entries.{entry_stack_of, sys_entry, possible_irqs_of}
+use Rattle.cfg_recover.specs.Entries.{handler_entry_sp_of, sys_entry, possible_irqs_of}
 use Rattle.cfg_recover.specs.LocalRules.{targets_of_value, targets_of}
 use Rattle.store_ranges.specs.Accesses.{are_aligned}
 use Rattle.cfg_recover.specs.Duties.{owed, jump, value_loaded_by_shape, successor_duties_of, next_duty_of, duties_of}
@@ -108,18 +108,18 @@ module _ {b : Limits} {image : ImageData} {plan : PlanData} {key : Key} {m : Mac
   same_memory = record { areas = λ x inside. refl; rom = at.rom; memory = at.memory }
 
   -- the machine goes where the point owes a jump
-  moved_to : (t : State) (word : ℕ → ℕ) (pc : ℕ) (ie : Bool) (mem : Memory) → Went m (does m e shape n) word pc ie mem → Holds plan word ie m.ccpn t → KeepsLower (reg m) word s t → t.locals.items ≡ s.locals.items
+  moved_to : (t : State) (word : ℕ → ℕ) (pc : ℕ) (ie : Bool) (mem : Memory) → Went m (after_instruction m e shape n) word pc ie mem → Holds plan word ie m.ccpn t → KeepsLower (reg m) word s t → t.locals.items ≡ s.locals.items
       → word 27 ≡ reg m 27 → IsSparing image plan m.mem mem → Contains (duties_of b image plan key m.pc s shape n) (owed 4 (jump pc t)) → IsMoveOwed b image plan key m e s shape n
   moved_to t word pc ie mem w h lower locals a11 sparing owes = record {
     state = t;
     owes = subst (λ q. Contains (duties_of b image plan key m.pc s shape n) (owed 4 (jump q t))) (sym (ap (λ (x : Machine). x.pc) w.is)) owes;
-    moves = moves_to image plan m (does m e shape n) s t word pc ie mem at.running w h lower locals a11 sparing;
+    moves = moves_to image plan m (after_instruction m e shape n) s t word pc ie mem at.running w h lower locals a11 sparing;
   }
 
   -- the machine goes to the next instruction
   moved_on : (input : ℕ) (mem : Memory) → GoesOn shape → input < 2 ^ 32 → LoadedIsMember shape input (value_loaded_by_shape b image plan s shape) → ccpn_after shape m.ccpn ≡ m.ccpn → IsSparing image plan m.mem mem
       → ((t : State) → successor_duties_of b image plan m.pc t shape n ≡ next_duty_of b image plan m.pc t shape n)
-      → Went m (does m e shape n) (words_after shape input (reg m)) (wrapping_sum m.pc n) (ie_after shape m.ie) mem → IsMoveOwed b image plan key m e s shape n
+      → Went m (after_instruction m e shape n) (words_after shape input (reg m)) (wrapping_sum m.pc n) (ie_after shape m.ie) mem → IsMoveOwed b image plan key m e s shape n
   moved_on input mem goes small reads ccpn sparing next_only w =
       let read = value_loaded_by_shape b image plan s shape in
       let t = transfer_of b plan shape s read in
@@ -132,12 +132,12 @@ module _ {b : Limits} {image : ImageData} {plan : PlanData} {key : Key} {m : Mac
 
 -- ---- accesses
 -- the value of an address is within the limits
-address_value : (b : Limits) (plan : PlanData) (s : State) (base : Arg) (offset : ℕ) (after : Bool) → MeetSoundnessPremises b plan s → IsArg base → offset < 2 ^ 32 → IsInLattice b (access_of b plan s base offset after)
+address_value : (b : Limits) (plan : PlanData) (s : State) (base : Arg) (offset : ℕ) (after : Bool) → MeetSoundnessPremises b plan s → IsArgInBounds base → offset < 2 ^ 32 → IsInLattice b (address_by_mode b plan s base offset after)
 address_value b plan s base offset true set is small = arg_value b plan s base set is
 address_value b plan s base offset false set is small = value_of_value b Add (arg_of plan s base) (word_val offset) set.limits (arg_value b plan s base set is) (one_value b offset set.limits small)
 
 -- what is loaded is a member of the load's value
-loads_hold : (b : Limits) (image : ImageData) (plan : PlanData) (at : Val) (size : ℕ) (signed : Bool) → IsPlan plan → IsWellFormed at → HoldsLoads image plan at size signed (load_value_of b image plan at size signed)
+loads_hold : (b : Limits) (image : ImageData) (plan : PlanData) (at : Val) (size : ℕ) (signed : Bool) → IsPlan plan → IsWellFormed at → HoldsLoadedWords image plan at size signed (load_value_of b image plan at size signed)
 loads_hold b image plan (Set ws) size signed ok well = set_sound b image plan ws size signed ok
 loads_hold b image plan (Span lo last step) size signed ok well = span_sound b image plan (Span lo last step) size signed ok well
 
@@ -176,7 +176,7 @@ named_has (Set ws) w some m = contains_among _ (w / 2 * 2) (distinct_has (w / 2 
 named_has (Span lo last step) w some m = absurd (let f : false ≡ true = some in cc)
 
 -- a jump or a call goes to a known target
-goes_to : (plan : PlanData) (m : Machine) (s : State) (to : Target) → IsSome (targets_of plan s m.pc to) → IsTarget to → IsInState plan m s → Contains (unwrap_or (targets_of plan s m.pc to) []) (target_of m to)
+goes_to : (plan : PlanData) (m : Machine) (s : State) (to : Target) → IsSome (targets_of plan s m.pc to) → IsTargetInBounds to → IsInState plan m s → Contains (unwrap_or (targets_of plan s m.pc to) []) (target_address m to)
 goes_to plan m s (target.Rel by) some is inside = contains_first (wrapping_sum m.pc by) []
 goes_to plan m s (target.Abs x) some is inside = contains_first x []
 goes_to plan m s (target.Reg r) some is inside = named_has (reg_of plan s r) (reg m r) some (inside.regs r is)
@@ -204,7 +204,7 @@ moves_branch b image plan key m e s test x y by lowers n side at goes =
     (keeps_branch b plan test x y by lowers s side (reg m))
     in
     moved_to e at t.0 word (cond side (wrapping_sum m.pc by) (wrapping_sum m.pc n)) m.ie m.mem
-    (subst (λ u. Went m (does m e (Branch test x y by lowers) n) word (cond u (wrapping_sum m.pc by) (wrapping_sum m.pc n)) m.ie m.mem) goes (does-branch m at.machine e n test x y by lowers is.0))
+    (subst (λ u. Went m (after_instruction m e (Branch test x y by lowers) n) word (cond u (wrapping_sum m.pc by) (wrapping_sum m.pc n)) m.ie m.mem) goes (does-branch m at.machine e n test x y by lowers is.0))
     t.2 (t.3).lower (t.3).locals (keeps_valueless (Branch test x y by lowers) (reg m) 0 27 (writes at) no_a11) (same_memory e at)
     (owes_side b image plan key m.pc s test x y by lowers n side t.0 t.1)
 
@@ -217,7 +217,7 @@ core_small : (b : Limits) (image : ImageData) (plan : PlanData) (key : Key) (m :
     → core_register m e number < 2 ^ 32
 core_small b image plan key m e s dst number n at fits none =
     let w = does-mfcr m at.machine e n dst number (bounded at).0 in
-    let after = does m e (Mfcr dst number) n in
+    let after = after_instruction m e (Mfcr dst number) n in
     let stays : IsMachine (with_event after e) =
     subst IsMachine (step_does m e (Mfcr dst number) n at.running none (fetched_at at) (ap (λ (x : Machine). x.end) w.is ∙ at.running)) (stays_step m e at.machine (irq_lt at.is_plan m e fits) fits.input fits.status)
     in
@@ -254,8 +254,8 @@ moves_in_frame b image plan key m e s (Store src base offset size after) n at fi
 moves_in_frame b image plan key m e s (Branch test x y by lowers) n at fits none stays quiet =
     moves_branch b image plan key m e s test x y by lowers n (taken_of test (reg m x) (operand_word (reg m) y)) at refl
 moves_in_frame b image plan key m e s (Jump to) n at fits none stays quiet =
-    moved_to e at s (reg m) (target_of m to) m.ie m.mem (does-goto m at.machine e n to) at.inside (λ t. (t, λ r low. refl)) refl refl (same_memory e at)
-    (duty_listed b image plan key m.pc s n _ _ (jump_target to (target_of m to) (goes_to plan m s to ((at.own 5).targets refl) (bounded at) at.inside)))
+    moved_to e at s (reg m) (target_address m to) m.ie m.mem (does-goto m at.machine e n to) at.inside (λ t. (t, λ r low. refl)) refl refl (same_memory e at)
+    (duty_listed b image plan key m.pc s n _ _ (jump_target to (target_address m to) (goes_to plan m s to ((at.own 5).targets refl) (bounded at) at.inside)))
 moves_in_frame b image plan key m e s Enable n at fits none stays quiet = moved_on e at 0 m.mem (tt, tt) (omega arith) tt refl (same_memory e at) (λ t. refl) (does-enable m at.machine e n 0)
 moves_in_frame b image plan key m e s Disable n at fits none stays quiet = moved_on e at 0 m.mem (tt, tt) (omega arith) tt refl (same_memory e at) (λ t. refl) (does-disable m at.machine e n 0)
 moves_in_frame b image plan key m e s (Mfcr dst number) n at fits none stays quiet =
@@ -287,15 +287,15 @@ pub calls_owed : CallsAreOwed
 calls_owed b image plan key m s to n at =
     let known = goes_to plan m s to ((at.own 5).targets refl) (bounded at) at.inside in
     record {
-      entered = duty_listed b image plan key m.pc s n _ _ (called to (target_of m to) known);
-      back = duty_listed b image plan key m.pc s n _ _ (called_back to (target_of m to) known);
+      entered = duty_listed b image plan key m.pc s n _ _ (called to (target_address m to) known);
+      back = duty_listed b image plan key m.pc s n _ _ (called_back to (target_address m to) known);
     }
 
 -- ---- system calls
 pub system_calls_owed : SystemCallsAreOwed
 unfolding register_slot
 system_calls_owed b image plan key m s tin n at =
-    let sp = entry_stack_of plan key s in
+    let sp = handler_entry_sp_of plan key s in
     let t = with_reg_value s 26 sp in
     let u = sys_entry plan key s tin in
     let long : length t.regs ≡ 27 = same_length s sp (register_slot 26) ∙ at.regs in

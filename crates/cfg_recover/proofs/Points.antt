@@ -6,12 +6,12 @@ use Rattle.elf_image.specs.Images.{ImageData}
 use Rattle.tcd_plan.specs.PlanData.{PlanData}
 use Rattle.tc_isa.specs.declared.shapes.Shape.{Shape}
 use Rattle.tc_isa.specs.declared.shapes.Shape.TheVariants.{Load, Store, Rfe, Svlcx, Rslcx, Bisr, Syscall}
-use Rattle.tc_isa.specs.InBounds.{IsShape}
+use Rattle.tc_isa.specs.InBounds.{IsShapeInBounds}
 use Rattle.tc_isa.proofs.ShapeBounds.{shape_is}
 use Rattle.tc_machine.specs.declared.events.Event.{Event}
 use Rattle.tc_machine.specs.declared.state.Machine.{Machine}
 use Rattle.tc_machine.specs.Machine.{a11, if_running}
-use Rattle.tc_machine.specs.Instructions.{wrapping_sum, with_pc_advanced, does, misaligned_access_trap, is_trapping_instruction}
+use Rattle.tc_machine.specs.Instructions.{wrapping_sum, with_pc_advanced, after_instruction, misaligned_access_trap, is_trapping_instruction}
 use Rattle.tc_machine.specs.Handlers.{after_trap}
 use Rattle.tc_machine.specs.SavesAndRestores.{save, restore}
 use Rattle.tc_machine.specs.Fetching.{fetched_instruction}
@@ -28,8 +28,8 @@ module _ {b : Limits} {image : ImageData} {plan : PlanData} {key : Key} {m : Mac
   pub setting : MeetSoundnessPremises b plan s
   setting = record { limits = at.limits; plan = at.is_plan; regs = at.regs; values = at.values }
 
-  pub bounded : IsShape shape
-  bounded = subst IsShape at.code.shaped (shape_is at.code.inst at.code.spells.spelled.inst)
+  pub bounded : IsShapeInBounds shape
+  bounded = subst IsShapeInBounds at.code.shaped (shape_is at.code.inst at.code.spells.spelled.inst)
 
   pub writes : WritesNoFixedRegister shape
   writes = (at.own 13).writes refl
@@ -42,29 +42,29 @@ module _ {b : Limits} {image : ImageData} {plan : PlanData} {key : Key} {m : Mac
 
 -- ---- instructions on contexts
 module _ (m : Machine) (e : Event) (n : ℕ) where
-  pub does-rfe : does m e Rfe n ≡ if_running (restore m true) (λ r. record r { pc = a11 m / 2 * 2; ie = pie_of m.core m.pcxi; ccpn = pcpn_of m.core m.pcxi })
-  unfolding does
+  pub does-rfe : after_instruction m e Rfe n ≡ if_running (restore m true) (λ r. record r { pc = a11 m / 2 * 2; ie = pie_of m.core m.pcxi; ccpn = pcpn_of m.core m.pcxi })
+  unfolding after_instruction
   does-rfe = refl
 
-  pub does-svlcx : does m e Svlcx n ≡ if_running (save m false) (with_pc_advanced n)
-  unfolding does
+  pub does-svlcx : after_instruction m e Svlcx n ≡ if_running (save m false) (with_pc_advanced n)
+  unfolding after_instruction
   does-svlcx = refl
 
-  pub does-rslcx : does m e Rslcx n ≡ if_running (restore m false) (with_pc_advanced n)
-  unfolding does
+  pub does-rslcx : after_instruction m e Rslcx n ≡ if_running (restore m false) (with_pc_advanced n)
+  unfolding after_instruction
   does-rslcx = refl
 
-  pub does-bisr : (c : ℕ) → does m e (Bisr c) n ≡ if_running (save m false) (λ s. record (with_pc_advanced n s) { ccpn = c; ie = true })
-  unfolding does
+  pub does-bisr : (c : ℕ) → after_instruction m e (Bisr c) n ≡ if_running (save m false) (λ s. record (with_pc_advanced n s) { ccpn = c; ie = true })
+  unfolding after_instruction
   does-bisr c = refl
 
-  pub does-syscall : (tin : ℕ) → does m e (Syscall tin) n ≡ after_trap m 6 tin (wrapping_sum m.pc n)
-  unfolding does
+  pub does-syscall : (tin : ℕ) → after_instruction m e (Syscall tin) n ≡ after_trap m 6 tin (wrapping_sum m.pc n)
+  unfolding after_instruction
   does-syscall tin = refl
 
   -- an access that traps does nothing else
-  pub does-trapped : (shape : Shape) → is_trapping_instruction m e shape ≡ true → does m e shape n ≡ misaligned_access_trap m
-  unfolding does
+  pub does-trapped : (shape : Shape) → is_trapping_instruction m e shape ≡ true → after_instruction m e shape n ≡ misaligned_access_trap m
+  unfolding after_instruction
   does-trapped (Load dst base offset size signed after) t = rw t refl
   does-trapped (Store src base offset size after) t = rw t refl
   does-trapped shape t = absurd (false≢true t)

@@ -9,11 +9,11 @@ use Rattle.tc_isa.specs.declared.shapes.Op.{Op}
 use Rattle.tc_isa.specs.declared.shapes.Shape.TheVariants.{Compute, Scaled, Load, Store, Branch, Jump, Enable, Disable, Mfcr, Nothing}
 use Rattle.tc_isa.specs.declared.shapes.Target.{Target}
 use Rattle.tc_isa.specs.Arithmetic.{alu_of, taken_of}
-use Rattle.tc_isa.specs.InBounds.{IsArg}
+use Rattle.tc_isa.specs.InBounds.{IsArgInBounds}
 use Rattle.tc_machine.specs.declared.events.Event.{Event}
 use Rattle.tc_machine.specs.declared.state.Machine.{Machine}
 use Rattle.tc_machine.specs.Machine.{reg, with_reg, IsMachine, core_register}
-use Rattle.tc_machine.specs.Instructions.{wrapping_sum, operand_value, with_pc_advanced, access_address, with_base_incremented, is_trapping_access, with_register_decremented, target_of, does}
+use Rattle.tc_machine.specs.Instructions.{wrapping_sum, operand_value, with_pc_advanced, access_address, with_base_incremented, is_trapping_access, with_register_decremented, target_address, after_instruction}
 use Rattle.vd_transfer.specs.EffectsOnWords.{words_with_register, operand_word, accessed_address, words_with_increased_base, words_after}
 
 -- ---- registers
@@ -102,7 +102,7 @@ arg-is m (Word w) = refl
 pub address-is : (m : Machine) (base : Arg) (offset : ℕ) (after : Bool) → access_address m base offset after ≡ accessed_address (reg m) base offset after
 address-is m base offset after = ap (λ x. cond after x ((x + offset) % 2 ^ 32)) (arg-is m base)
 
-registers_base : (m : Machine) → IsMachine m → (base : Arg) (offset : ℕ) (after : Bool) → IsArg base → Registers m (with_base_incremented m base offset after) (words_with_increased_base (reg m) base offset after)
+registers_base : (m : Machine) → IsMachine m → (base : Arg) (offset : ℕ) (after : Bool) → IsArgInBounds base → Registers m (with_base_incremented m base offset after) (words_with_increased_base (reg m) base offset after)
 registers_base m k (Word w) offset after lt = registers_same m k
 registers_base m k (Reg r) offset false lt = registers_same m k
 registers_base m k (Reg r) offset true lt = registers_with m m (reg m) r (wrapping_sum (reg m r) offset) lt (registers_same m k)
@@ -133,55 +133,55 @@ module _ (m : Machine) (k : IsMachine m) (e : Event) (n : ℕ) where
   went_set : (word word2 : ℕ → ℕ) (base : Machine) (r w : ℕ) → r < 32 → words_with_register word r w ≡ word2 → Registers m base word → Went m (with_pc_advanced n (with_reg base r w)) word2 (wrapping_sum m.pc n) m.ie m.mem
   went_set word word2 base r w lt same h = went_by m (with_reg base r w) (words_with_register word r w) word2 (wrapping_sum m.pc n) m.ie m.mem (with_pc_advanced n) (λ d a. refl) same (registers_with m base word r w lt h)
 
-  pub does-compute : (op : Op) (dst : ℕ) (x y : Arg) (input : ℕ) → dst < 32 → Went m (does m e (Compute op dst x y) n) (words_after (Compute op dst x y) input (reg m)) (wrapping_sum m.pc n) m.ie m.mem
-  unfolding does words_after
+  pub does-compute : (op : Op) (dst : ℕ) (x y : Arg) (input : ℕ) → dst < 32 → Went m (after_instruction m e (Compute op dst x y) n) (words_after (Compute op dst x y) input (reg m)) (wrapping_sum m.pc n) m.ie m.mem
+  unfolding after_instruction words_after
   does-compute op dst x y input lt =
       went_set (reg m) _ m dst (alu_of op (operand_value m x) (operand_value m y)) lt
       (ap (λ u. words_with_register (reg m) dst (alu_of op u (operand_value m y))) (arg-is m x) ∙ ap (λ u. words_with_register (reg m) dst (alu_of op (operand_word (reg m) x) u)) (arg-is m y)) (registers_same m k)
 
-  pub does-scaled : (dst base index j input : ℕ) → dst < 32 → Went m (does m e (Scaled dst base index j) n) (words_after (Scaled dst base index j) input (reg m)) (wrapping_sum m.pc n) m.ie m.mem
-  unfolding does words_after
+  pub does-scaled : (dst base index j input : ℕ) → dst < 32 → Went m (after_instruction m e (Scaled dst base index j) n) (words_after (Scaled dst base index j) input (reg m)) (wrapping_sum m.pc n) m.ie m.mem
+  unfolding after_instruction words_after
   does-scaled dst base index j input lt = went_set (reg m) _ m dst (wrapping_sum (reg m base) (reg m index * 2 ^ j)) lt refl (registers_same m k)
 
-  pub does-mfcr : (dst number : ℕ) → dst < 32 → Went m (does m e (Mfcr dst number) n) (words_after (Mfcr dst number) (core_register m e number) (reg m)) (wrapping_sum m.pc n) m.ie m.mem
-  unfolding does words_after
+  pub does-mfcr : (dst number : ℕ) → dst < 32 → Went m (after_instruction m e (Mfcr dst number) n) (words_after (Mfcr dst number) (core_register m e number) (reg m)) (wrapping_sum m.pc n) m.ie m.mem
+  unfolding after_instruction words_after
   does-mfcr dst number lt = went_set (reg m) _ m dst (core_register m e number) lt refl (registers_same m k)
 
-  pub does-enable : (input : ℕ) → Went m (does m e Enable n) (words_after Enable input (reg m)) (wrapping_sum m.pc n) true m.mem
-  unfolding does words_after
+  pub does-enable : (input : ℕ) → Went m (after_instruction m e Enable n) (words_after Enable input (reg m)) (wrapping_sum m.pc n) true m.mem
+  unfolding after_instruction words_after
   does-enable input = went_by m m (reg m) (reg m) (wrapping_sum m.pc n) true m.mem (λ x. record (with_pc_advanced n x) { ie = true }) (λ d a. refl) refl (registers_same m k)
 
-  pub does-disable : (input : ℕ) → Went m (does m e Disable n) (words_after Disable input (reg m)) (wrapping_sum m.pc n) false m.mem
-  unfolding does words_after
+  pub does-disable : (input : ℕ) → Went m (after_instruction m e Disable n) (words_after Disable input (reg m)) (wrapping_sum m.pc n) false m.mem
+  unfolding after_instruction words_after
   does-disable input = went_by m m (reg m) (reg m) (wrapping_sum m.pc n) false m.mem (λ x. record (with_pc_advanced n x) { ie = false }) (λ d a. refl) refl (registers_same m k)
 
-  pub does-nop : (input : ℕ) → Went m (does m e Nothing n) (words_after Nothing input (reg m)) (wrapping_sum m.pc n) m.ie m.mem
-  unfolding does words_after
+  pub does-nop : (input : ℕ) → Went m (after_instruction m e Nothing n) (words_after Nothing input (reg m)) (wrapping_sum m.pc n) m.ie m.mem
+  unfolding after_instruction words_after
   does-nop input = went_by m m (reg m) (reg m) (wrapping_sum m.pc n) m.ie m.mem (with_pc_advanced n) (λ d a. refl) refl (registers_same m k)
 
-  pub does-goto : (to : Target) → Went m (does m e (Jump to) n) (reg m) (target_of m to) m.ie m.mem
-  unfolding does
-  does-goto to = went_by m m (reg m) (reg m) (target_of m to) m.ie m.mem (λ x. record x { pc = target_of m to }) (λ d a. refl) refl (registers_same m k)
+  pub does-goto : (to : Target) → Went m (after_instruction m e (Jump to) n) (reg m) (target_address m to) m.ie m.mem
+  unfolding after_instruction
+  does-goto to = went_by m m (reg m) (reg m) (target_address m to) m.ie m.mem (λ x. record x { pc = target_address m to }) (λ d a. refl) refl (registers_same m k)
 
-  module _ (base : Arg) (offset size : ℕ) (after : Bool) (is_arg : IsArg base) (quiet : is_trapping_access e (access_address m base offset after) size ≡ false) where
+  module _ (base : Arg) (offset size : ℕ) (after : Bool) (is_arg : IsArgInBounds base) (quiet : is_trapping_access e (access_address m base offset after) size ≡ false) where
     pub does-load : (dst : ℕ) (signed : Bool) → dst < 32
-        → Went m (does m e (Load dst base offset size signed after) n) (words_after (Load dst base offset size signed after) (load_result signed size (loaded_number m.mem e.input (access_address m base offset after) size)) (reg m)) (wrapping_sum m.pc n) m.ie m.mem
-    unfolding does words_after
+        → Went m (after_instruction m e (Load dst base offset size signed after) n) (words_after (Load dst base offset size signed after) (load_result signed size (loaded_number m.mem e.input (access_address m base offset after) size)) (reg m)) (wrapping_sum m.pc n) m.ie m.mem
+    unfolding after_instruction words_after
     does-load dst signed lt =
         let w = load_result signed size (loaded_number m.mem e.input (access_address m base offset after) size) in
         rw quiet (went_set (words_with_increased_base (reg m) base offset after) _ (with_base_incremented m base offset after) dst w lt refl (registers_base m k base offset after is_arg))
 
     pub does-store : (src input : ℕ)
-        → Went m (does m e (Store src base offset size after) n) (words_after (Store src base offset size after) input (reg m)) (wrapping_sum m.pc n) m.ie (with_bytes m.mem (access_address m base offset after) (reg m src) size)
-    unfolding does words_after
+        → Went m (after_instruction m e (Store src base offset size after) n) (words_after (Store src base offset size after) input (reg m)) (wrapping_sum m.pc n) m.ie (with_bytes m.mem (access_address m base offset after) (reg m src) size)
+    unfolding after_instruction words_after
     does-store src input =
         let mem = with_bytes m.mem (access_address m base offset after) (reg m src) size in
         rw quiet
         (went_by m (with_base_incremented m base offset after) (words_with_increased_base (reg m) base offset after) _ (wrapping_sum m.pc n) m.ie mem (λ x. with_pc_advanced n (record x { mem = mem })) (λ d a. refl) refl (registers_base m k base offset after is_arg))
 
   pub does-branch : (test : Cond) (x : ℕ) (y : Arg) (by : ℕ) (lowers : Bool) → x < 32
-      → Went m (does m e (Branch test x y by lowers) n) (words_after (Branch test x y by lowers) 0 (reg m)) (cond (taken_of test (reg m x) (operand_word (reg m) y)) (wrapping_sum m.pc by) (wrapping_sum m.pc n)) m.ie m.mem
-  unfolding does words_after
+      → Went m (after_instruction m e (Branch test x y by lowers) n) (words_after (Branch test x y by lowers) 0 (reg m)) (cond (taken_of test (reg m x) (operand_word (reg m) y)) (wrapping_sum m.pc by) (wrapping_sum m.pc n)) m.ie m.mem
+  unfolding after_instruction words_after
   does-branch test x y by lowers lt =
       subst (λ u. Went m (record (with_register_decremented m x lowers) { pc = cond (taken_of test (reg m x) (operand_value m y)) (wrapping_sum m.pc by) (wrapping_sum m.pc n) }) (words_after (Branch test x y by lowers) 0 (reg m)) (cond (taken_of test (reg m x) u) (wrapping_sum m.pc by) (wrapping_sum m.pc n)) m.ie m.mem)
       (arg-is m y)

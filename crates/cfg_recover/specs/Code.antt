@@ -3,7 +3,7 @@ use Rattle.std.specs.Prelude.{◌≡◌, ◌%◌, ℕ, List, length, Option, Som
 use Rattle.elf_image.specs.Images.{ImageData}
 use Rattle.tcd_plan.specs.PlanData.{PlanData}
 use Rattle.tc_isa.specs.Insts.{InstData}
-use Rattle.tc_isa.specs.InBounds.{IsShape}
+use Rattle.tc_isa.specs.InBounds.{IsShapeInBounds}
 use Rattle.tc_isa.specs.Meanings.{shape_of}
 use Rattle.tc_isa.specs.declared.shapes.Shape.{Shape}
 use Rattle.tc_machine.specs.Safe.{SpellsAt}
@@ -47,7 +47,7 @@ FindsShapeAndSize image plan p None = HasCode image plan p → ⊥
 
 -- the shape of a located instruction is one that instructions have: its fields are in their bounds
 abbrev pub HasShapeInBounds : Located → Type 0
-HasShapeInBounds found = IsShape found.shape
+HasShapeInBounds found = IsShapeInBounds found.shape
 
 -- the shape and the size of the instruction that a decoding gives; none if the decoding fails
 abbrev pub shape_and_size_of : Result (InstData × ℕ) DecodeErr → Option Located

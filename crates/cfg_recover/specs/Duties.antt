@@ -66,14 +66,14 @@ value_loaded_by_shape b image plan s (Load dst base offset size signed after) =
 value_loaded_by_shape b image plan s _ = any_val
 
 -- the duties of a point to jump to each of these addresses with this state (K4)
-abbrev pub jumps_to : State → List ℕ → List Owed
-jumps_to s targets = map (λ t. owed 4 (jump t s)) targets
+abbrev pub jump_duties_to : State → List ℕ → List Owed
+jump_duties_to s targets = map (λ t. owed 4 (jump t s)) targets
 
 -- the duty of a point to jump to q on a branch's side (K4), in the refined state; none if
 -- impossible
-abbrev pub jump_on : ℕ → Option State → List Owed
-jump_on q None = []
-jump_on q (Some s) = owed 4 (jump q s) ∷ []
+abbrev pub branch_duty : ℕ → Option State → List Owed
+branch_duty q None = []
+branch_duty q (Some s) = owed 4 (jump q s) ∷ []
 
 -- what a point owes by an instruction that goes on to the next one in its frame: the duty to jump
 -- there, with the state after this one
@@ -84,8 +84,8 @@ next_duty_of b image plan p s shape n = owed 4 (jump (wrapping_sum p n) (transfe
 -- call or a system call
 abbrev pub successor_duties_of : Limits → ImageData → PlanData → ℕ → State → Shape → ℕ → List Owed
 successor_duties_of b image plan p s (Branch cond x y by lowers) n =
-    jump_on (wrapping_sum p n) (refine_of b plan (Branch cond x y by lowers) s false) ++ jump_on (wrapping_sum p by) (refine_of b plan (Branch cond x y by lowers) s true)
-successor_duties_of b image plan p s (Jump to) n = jumps_to s (unwrap_or (targets_of plan s p to) [])
+    branch_duty (wrapping_sum p n) (refine_of b plan (Branch cond x y by lowers) s false) ++ branch_duty (wrapping_sum p by) (refine_of b plan (Branch cond x y by lowers) s true)
+successor_duties_of b image plan p s (Jump to) n = jump_duties_to s (unwrap_or (targets_of plan s p to) [])
 successor_duties_of b image plan p s (Call to) n = []
 successor_duties_of b image plan p s Ret n = []
 successor_duties_of b image plan p s Rfe n = []

@@ -24,7 +24,7 @@ use Rattle.depth_cert.specs.Certs.{CertData}
 use Rattle.cfg_recover.specs.Code.{IsCode}
 use Rattle.cfg_recover.specs.Duties.{Owed, jump, duties_of}
 use Rattle.cfg_recover.specs.RulesHoldOrFail.{limits_of_cert}
-use Rattle.cfg_recover.specs.Frames.{RunFrame, frames, entered_frame_at, frame_going_on, AreAllFramesHeld}
+use Rattle.cfg_recover.specs.Frames.{RunFrame, frames, entered_frame_at, frame_resumed_at, AreAllFramesHeld}
 use Rattle.cfg_recover.specs.EdgesAreOwed.{EdgesOwed, OwesEntryOfFields, GoesBackToFrame}
 use Rattle.cfg_recover.specs.StepEdges.{to, call, irq, sys, aln, ret, rfe, edge_way_of_step, edge_of_step}
 
@@ -72,21 +72,21 @@ EdgesMatchSteps = (m : Machine) (e : Event) → EdgeMatchesStep m e
 -- the law of frames at one step: calls and system calls return past pc, interrupts and misaligned
 -- accesses to pc; handlers use the interrupt stack, and only interrupts change the priority
 pub record FramesFollowStep (m : Machine) (e : Event) (f : RunFrame) (older next : List RunFrame) : Type 0 where
-  pub interrupted : is_interrupt_taken m e ≡ true → next ≡ entered_frame_at 2 (step m e).pc e.irq true ∷ frame_going_on f m.pc ∷ older
+  pub interrupted : is_interrupt_taken m e ≡ true → next ≡ entered_frame_at 2 (step m e).pc e.irq true ∷ frame_resumed_at f m.pc ∷ older
   pub misaligned :
       (shape : Shape) (n : ℕ) → IsStepOfShape m e shape n → is_trapping_instruction m e shape ≡ true
-      → next ≡ entered_frame_at 4 (step m e).pc (f.key).prio true ∷ frame_going_on f m.pc ∷ older
+      → next ≡ entered_frame_at 4 (step m e).pc (f.key).prio true ∷ frame_resumed_at f m.pc ∷ older
   pub called :
       (x : Target) (n : ℕ) → IsStepOfShape m e (Call x) n
-      → next ≡ entered_frame_at 1 (step m e).pc (f.key).prio (f.key).is ∷ frame_going_on f (wrapping_sum m.pc n) ∷ older
+      → next ≡ entered_frame_at 1 (step m e).pc (f.key).prio (f.key).is ∷ frame_resumed_at f (wrapping_sum m.pc n) ∷ older
   pub system :
       (tin n : ℕ) → IsStepOfShape m e (Syscall tin) n
-      → next ≡ entered_frame_at 3 (step m e).pc (f.key).prio true ∷ frame_going_on f (wrapping_sum m.pc n) ∷ older
+      → next ≡ entered_frame_at 3 (step m e).pc (f.key).prio true ∷ frame_resumed_at f (wrapping_sum m.pc n) ∷ older
   pub returned : (n : ℕ) → IsStepOfShape m e Ret n → next ≡ older
   pub resumed : (n : ℕ) → IsStepOfShape m e Rfe n → next ≡ older
   pub stayed :
       (shape : Shape) (n : ℕ) → IsStepOfShape m e shape n → is_trapping_instruction m e shape ≡ false → KeepsFrame shape
-      → next ≡ frame_going_on f (step m e).pc ∷ older
+      → next ≡ frame_resumed_at f (step m e).pc ∷ older
 
 -- At the start there is one frame, of the start's key, and each event of a run makes the next
 -- frames.

@@ -42,18 +42,18 @@ aln_key plan key = record { kind = aln_kind; entry = bit_or plan.btv (2 * 2 ^ 5)
 -- ---- states at entries
 -- the stack pointer of a handler: the start of the interrupt stack, or the state's A10 (register
 -- 26) if that stack is in use
-abbrev pub entry_stack_of : PlanData → Key → State → Val
-entry_stack_of plan key s = if key.is then reg_of plan s 26 else word_val plan.isp
+abbrev pub handler_entry_sp_of : PlanData → Key → State → Val
+handler_entry_sp_of plan key s = if key.is then reg_of plan s 26 else word_val plan.isp
 
 -- a state without locals in which only A10 is known
-abbrev pub state_with_stack : Val → Bool → ℕ → Bool → State
-state_with_stack sp ie ccpn lower =
+abbrev pub state_with_only_a10 : Val → Bool → ℕ → Bool → State
+state_with_only_a10 sp ie ccpn lower =
     with_reg_value (record { regs = replicate 27 any_val; ie = ie; ccpn = ccpn; lower = lower; locals = record { items = [] } }) 26 sp
 
 -- the state at the entry of the start frame, in which only A10, IE and CCPN are known, from the
 -- plan
 abbrev pub start_state : PlanData → State
-start_state plan = state_with_stack (word_val plan.sp) plan.start_ie plan.start_ccpn false
+start_state plan = state_with_only_a10 (word_val plan.sp) plan.start_ie plan.start_ccpn false
 
 -- at the entry of a called function: the caller's state, without its locals
 abbrev pub call_entry : State → State
@@ -62,17 +62,17 @@ call_entry s = record s { lower = false; locals = record { items = [] } }
 -- At the entry of the handler of interrupt p, interrupts are off, and the lower registers are the
 -- entry's.
 abbrev pub irq_entry : PlanData → Key → State → ℕ → State
-irq_entry plan key s p = state_with_stack (entry_stack_of plan key s) false p true
+irq_entry plan key s p = state_with_only_a10 (handler_entry_sp_of plan key s) false p true
 
 -- At the entry of the handler of misaligned accesses, D15 has the trap's number 4, too.
 abbrev pub aln_entry : PlanData → Key → State → State
-aln_entry plan key s = with_reg_value (state_with_stack (entry_stack_of plan key s) false s.ccpn true) 15 (word_val 4)
+aln_entry plan key s = with_reg_value (state_with_only_a10 (handler_entry_sp_of plan key s) false s.ccpn true) 15 (word_val 4)
 
 -- At the entry of the handler of system calls, the state is the caller's. D15 has the number of the
 -- call.
 abbrev pub sys_entry : PlanData → Key → State → ℕ → State
 sys_entry plan key s tin =
-    record (with_reg_value (with_reg_value s 26 (entry_stack_of plan key s)) 15 (word_val tin)) { ie = false; lower = false; locals = record { items = [] } }
+    record (with_reg_value (with_reg_value s 26 (handler_entry_sp_of plan key s)) 15 (word_val tin)) { ie = false; lower = false; locals = record { items = [] } }
 
 -- ---- handlers
 -- the key of a handler of an interrupt or a trap
@@ -85,8 +85,8 @@ abbrev pub possible_irqs_of : PlanData → State → List ℕ
 possible_irqs_of plan s = if s.ie then filter (λ p. nat_lt s.ccpn p) plan.irqs else []
 
 -- a handler's stack pointer: the interrupt stack's start, or this A10 if that stack is in use
-abbrev pub entry_stack_from_a10 : PlanData → Key → Val → Val
-entry_stack_from_a10 plan key sp = if key.is then sp else word_val plan.isp
+abbrev pub handler_entry_sp_from_a10 : PlanData → Key → Val → Val
+handler_entry_sp_from_a10 plan key sp = if key.is then sp else word_val plan.isp
 
 -- the key of a frame that is entered at an address: by a call it runs on its caller's stack, in any
 -- other way on the interrupt stack; its priority is that of the frame that enters it

@@ -18,12 +18,12 @@ use Rattle.cfg_recover.specs.Code.{IsCode}
 use Rattle.cfg_recover.specs.Entries.{irq_key, irq_entry, entered_key}
 use Rattle.depth_cert.specs.Exits.{exit_of_state}
 use Rattle.cfg_recover.specs.LocalFaults.{IsFaultless}
-use Rattle.cfg_recover.specs.Duties.{Owed, owed, enter, resume, leave, jumps_to, duties_of}
+use Rattle.cfg_recover.specs.Duties.{Owed, owed, enter, resume, leave, jump_duties_to, duties_of}
 
 -- the duties of a jump in a Flow: one for each target
 abbrev pub duties_of_jump : Option Jump → List Owed
 duties_of_jump None = []
-duties_of_jump (Some j) = jumps_to j.state j.targets.items
+duties_of_jump (Some j) = jump_duties_to j.state j.targets.items
 
 -- the duties of all jumps in a Flow
 abbrev pub duties_of_jumps : List (Option Jump) → List Owed

@@ -7,16 +7,16 @@ use Rattle.cfg_recover.specs.declared.flow_types.Enter.{Enter}
 use Rattle.cfg_recover.specs.declared.flow_types.Flow.{Flow}
 
 -- the state of a jump in a Flow has values of the plan's lattice
-abbrev pub JumpHasValues : Limits → Option Jump → Type 0
-JumpHasValues b jump = IfSome jump (λ j. AreInLattice b (j.state).regs)
+abbrev pub IsJumpInLattice : Limits → Option Jump → Type 0
+IsJumpInLattice b jump = IfSome jump (λ j. AreInLattice b (j.state).regs)
 
 -- the state of an entry in a Flow has values of the plan's lattice
-abbrev pub EntryHasValues : Limits → Option Enter → Type 0
-EntryHasValues b entry = IfSome entry (λ e. AreInLattice b (e.state).regs)
+abbrev pub IsEntryInLattice : Limits → Option Enter → Type 0
+IsEntryInLattice b entry = IfSome entry (λ e. AreInLattice b (e.state).regs)
 
 -- each state in a Flow has values of the plan's lattice
-pub record FlowHasValues (b : Limits) (f : Flow) : Type 0 where
-  pub jumps : All (JumpHasValues b) f.jumps
-  pub enter : EntryHasValues b f.enter
-  pub misaligned : EntryHasValues b f.aln
+pub record IsFlowInLattice (b : Limits) (f : Flow) : Type 0 where
+  pub jumps : All (IsJumpInLattice b) f.jumps
+  pub enter : IsEntryInLattice b f.enter
+  pub misaligned : IsEntryInLattice b f.aln
   pub interrupts : AreInLattice b (f.irq_entry).regs

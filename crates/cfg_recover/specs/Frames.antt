@@ -50,13 +50,13 @@ frames_after_edge p next prio ret fs = frames_after_return fs
 frames_after_edge p next prio rfe fs = frames_after_return fs
 
 -- the frames of a run after one step of the machine
-abbrev pub frames_after : Machine → Event → List RunFrame → List RunFrame
-frames_after m e fs = frames_after_edge m.pc (wrapping_sum m.pc (fetched_size (fetched_instruction m))) e.irq (edge_way_of_step m e) fs
+abbrev pub frames_after_step : Machine → Event → List RunFrame → List RunFrame
+frames_after_step m e fs = frames_after_edge m.pc (wrapping_sum m.pc (fetched_size (fetched_instruction m))) e.irq (edge_way_of_step m e) fs
 
 -- the frames after the steps of a run, from those before it
 abbrev pub frames_from : Machine → List Event → List RunFrame → List RunFrame
 frames_from m [] fs = fs
-frames_from m (e ∷ es) fs = frames_from (step m e) es (frames_after m e fs)
+frames_from m (e ∷ es) fs = frames_from (step m e) es (frames_after_step m e fs)
 
 -- the frames after a run from a start state
 abbrev pub frames : ImageData → PlanData → Machine → List Event → List RunFrame
@@ -88,8 +88,8 @@ abbrev pub entered_frame_at : ℕ → ℕ → ℕ → Bool → RunFrame
 entered_frame_at kind at prio is = record { key = record { kind = kind; entry = at; prio = prio; is = is }; at = at }
 
 -- this frame of a run, going on at an address
-abbrev pub frame_going_on : RunFrame → ℕ → RunFrame
-frame_going_on f at = record { key = f.key; at = at }
+abbrev pub frame_resumed_at : RunFrame → ℕ → RunFrame
+frame_resumed_at f at = record { key = f.key; at = at }
 
 -- a return to q: the frame before the newest one goes on at this address
 abbrev pub IsReturnTo : ℕ → List RunFrame → Type 0

@@ -9,8 +9,8 @@ use Rattle.value_domain.specs.declared.states.State.{State}
 use Rattle.value_domain.specs.Limits.{Limits}
 use Rattle.depth_cert.specs.declared.keys.Key.{Key}
 use Rattle.cfg_recover.specs.Code.{IsCode}
-use Rattle.cfg_recover.specs.LocalRules.{StoresInRange, MayAccess, LocalRuleHolds, LocalRuleHoldsAtPoint}
-use Rattle.tc_isa.specs.InBounds.{IsShape}
+use Rattle.cfg_recover.specs.LocalRules.{StoresInRange, IsAccessAllowed, LocalRuleHolds, LocalRuleHoldsAtPoint}
+use Rattle.tc_isa.specs.InBounds.{IsShapeInBounds}
 use Rattle.cfg_recover.specs.declared.local_rules.Located.{Located}
 
 -- The own part of this rule fails for the shape, and that of each lesser one holds; if there is no
@@ -38,11 +38,11 @@ pub record IsFaultlessInst (b : Limits) (image : ImageData) (plan : PlanData) (k
 -- instruction of this shape breaks; if none, both hold
 abbrev pub IsAccessFault : Limits → PlanData → State → Shape → Option ℕ → Type 0
 IsAccessFault b plan s shape (Some r) =
-    ((r ≡ 9) × (StoresInRange b plan s shape → ⊥)) ⊎ ((r ≡ 10) × StoresInRange b plan s shape × (MayAccess b plan s shape → ⊥))
-IsAccessFault b plan s shape None = StoresInRange b plan s shape × MayAccess b plan s shape
+    ((r ≡ 9) × (StoresInRange b plan s shape → ⊥)) ⊎ ((r ≡ 10) × StoresInRange b plan s shape × (IsAccessAllowed b plan s shape → ⊥))
+IsAccessFault b plan s shape None = StoresInRange b plan s shape × IsAccessAllowed b plan s shape
 
 -- An instruction of this shape and size is at p, and no rule's own part fails there.
 pub record IsFaultlessShape (b : Limits) (image : ImageData) (plan : PlanData) (key : Key) (p : ℕ) (s : State) (found : Located) : Type 0 where
   pub faultless : IsFaultless b image plan key p s
   pub code : IsCode image plan p found.shape found.size
-  pub shape : IsShape found.shape
+  pub shape : IsShapeInBounds found.shape

@@ -48,17 +48,17 @@ HasKnownTargets plan s p (Call to) = IsSome (targets_of plan s p to)
 HasKnownTargets plan s p _ = Unit {0}
 
 -- K6: only a called function returns, and it has restored all lower contexts
-abbrev pub MayReturn : Key → State → Shape → Type 0
-MayReturn key s Ret = (key.kind ≡ call_kind) × (length s.locals.items ≡ 0)
-MayReturn key s _ = Unit {0}
+abbrev pub IsReturnAllowed : Key → State → Shape → Type 0
+IsReturnAllowed key s Ret = (key.kind ≡ call_kind) × (length s.locals.items ≡ 0)
+IsReturnAllowed key s _ = Unit {0}
 
 -- K7: only a handler returns from an exception, and it has restored all lower contexts. The handler
 -- of an interrupt or of a misaligned access, which may come anywhere, returns with the lower
 -- registers of its entry.
-abbrev pub MayReturnFromException : Key → State → Shape → Type 0
-MayReturnFromException key s Rfe =
+abbrev pub IsExceptionReturnAllowed : Key → State → Shape → Type 0
+IsExceptionReturnAllowed key s Rfe =
     (length s.locals.items ≡ 0) × ((((key.kind ≡ irq_kind) ⊎ (key.kind ≡ aln_kind)) × (s.lower ≡ true)) ⊎ (key.kind ≡ sys_kind))
-MayReturnFromException key s _ = Unit {0}
+IsExceptionReturnAllowed key s _ = Unit {0}
 
 -- K9's own part, for an instruction of this shape at a point: each possible store is in one ram
 -- range or one peripheral range as a whole, and doesn't pass 2^32
@@ -68,29 +68,29 @@ StoresInRange b plan s _ = Unit {0}
 
 -- K10: each possible address is a multiple of the size, or the plan states the trap of misaligned
 -- accesses.
-abbrev pub MayAccess : Limits → PlanData → State → Shape → Type 0
-MayAccess b plan s (Load dst base offset size signed after) =
+abbrev pub IsAccessAllowed : Limits → PlanData → State → Shape → Type 0
+IsAccessAllowed b plan s (Load dst base offset size signed after) =
     (are_aligned (address_of_access b plan (Load dst base offset size signed after) s) size ≡ true) ⊎ (plan.aln ≡ true)
-MayAccess b plan s (Store src base offset size after) =
+IsAccessAllowed b plan s (Store src base offset size after) =
     (are_aligned (address_of_access b plan (Store src base offset size after) s) size ≡ true) ⊎ (plan.aln ≡ true)
-MayAccess b plan s _ = Unit {0}
+IsAccessAllowed b plan s _ = Unit {0}
 
 -- K12: the plan states the trap of system calls
-abbrev pub MayCallSystem : PlanData → Shape → Type 0
-MayCallSystem plan (Syscall tin) = plan.sys ≡ true
-MayCallSystem plan _ = Unit {0}
+abbrev pub IsSystemCallAllowed : PlanData → Shape → Type 0
+IsSystemCallAllowed plan (Syscall tin) = plan.sys ≡ true
+IsSystemCallAllowed plan _ = Unit {0}
 
 -- The own part of rule r at an instruction of this shape. K8: a lower context is saved only if
 -- there is room for a local, and restored only if there is one. K13: the instruction isn't MTCR,
 -- and writes none of A0, A1, A8, A9 and A11.
 pub record LocalRuleHolds (b : Limits) (plan : PlanData) (key : Key) (p : ℕ) (s : State) (shape : Shape) (r : ℕ) : Type 0 where
   pub targets : r ≡ 5 → HasKnownTargets plan s p shape
-  pub returns : r ≡ 6 → MayReturn key s shape
-  pub exceptions : r ≡ 7 → MayReturnFromException key s shape
+  pub returns : r ≡ 6 → IsReturnAllowed key s shape
+  pub exceptions : r ≡ 7 → IsExceptionReturnAllowed key s shape
   pub room : r ≡ 8 → LocalsFitInstruction b shape s
   pub stores : r ≡ 9 → StoresInRange b plan s shape
-  pub accesses : r ≡ 10 → MayAccess b plan s shape
-  pub system : r ≡ 12 → MayCallSystem plan shape
+  pub accesses : r ≡ 10 → IsAccessAllowed b plan s shape
+  pub system : r ≡ 12 → IsSystemCallAllowed plan shape
   pub writes : r ≡ 13 → WritesNoFixedRegister shape
 
 -- The own part of rule r holds at the point p of a node with this key and state. K3: there is an
@@ -109,7 +109,7 @@ StoresInRangeAtValue plan at _ = Unit {0}
 
 -- the own part of K10, by the addresses of the access: each is a multiple of the size, or the plan
 -- states the trap of misaligned accesses
-abbrev pub MayAccessAtValue : PlanData → Val → Shape → Type 0
-MayAccessAtValue plan at (Load dst base offset size signed after) = (are_aligned at size ≡ true) ⊎ (plan.aln ≡ true)
-MayAccessAtValue plan at (Store src base offset size after) = (are_aligned at size ≡ true) ⊎ (plan.aln ≡ true)
-MayAccessAtValue plan at _ = Unit {0}
+abbrev pub IsAccessAllowedAtValue : PlanData → Val → Shape → Type 0
+IsAccessAllowedAtValue plan at (Load dst base offset size signed after) = (are_aligned at size ≡ true) ⊎ (plan.aln ≡ true)
+IsAccessAllowedAtValue plan at (Store src base offset size after) = (are_aligned at size ≡ true) ⊎ (plan.aln ≡ true)
+IsAccessAllowedAtValue plan at _ = Unit {0}

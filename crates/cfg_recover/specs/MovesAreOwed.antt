@@ -9,7 +9,7 @@ use Rattle.tc_machine.specs.declared.events.Event.{Event}
 use Rattle.tc_machine.specs.declared.events.End.TheVariants.{Running}
 use Rattle.tc_machine.specs.declared.state.Machine.{Machine}
 use Rattle.tc_machine.specs.Machine.{reg, a11, IsMachine}
-use Rattle.tc_machine.specs.Instructions.{wrapping_sum, does, is_trapping_instruction, target_of}
+use Rattle.tc_machine.specs.Instructions.{wrapping_sum, after_instruction, is_trapping_instruction, target_address}
 use Rattle.tc_machine.specs.Stepping.{is_interrupt_taken, stored}
 use Rattle.tcd_plan.specs.MappedAddresses.{IsInAreas, IsStoreInRange}
 use Rattle.tc_machine.specs.Safe.{Fits}
@@ -71,8 +71,8 @@ pub record MovesTo (image : ImageData) (plan : PlanData) (m n : Machine) (s t : 
 -- then.
 pub record IsMoveOwed (b : Limits) (image : ImageData) (plan : PlanData) (key : Key) (m : Machine) (e : Event) (s : State) (shape : Shape) (n : ℕ) : Type 0 where
   pub state : State
-  pub owes : Contains (duties_of b image plan key m.pc s shape n) (owed 4 (jump (does m e shape n).pc state))
-  pub moves : MovesTo image plan m (does m e shape n) s state
+  pub owes : Contains (duties_of b image plan key m.pc s shape n) (owed 4 (jump (after_instruction m e shape n).pc state))
+  pub moves : MovesTo image plan m (after_instruction m e shape n) s state
 
 -- an instruction of this shape makes a move that is owed as a jump: it stays in its frame, and
 -- keeps the contexts as they are
@@ -138,8 +138,8 @@ PointStoresAreInRange =
 -- a law of moves at one call: the point owes the entry of the called function (K5), and the return
 -- (K4)
 pub record IsCallOwed (b : Limits) (image : ImageData) (plan : PlanData) (key : Key) (m : Machine) (s : State) (to : Target) (n : ℕ) : Type 0 where
-  pub entered : Contains (duties_of b image plan key m.pc s (Call to) n) (owed 5 (enter (call_key key (target_of m to)) (call_entry s)))
-  pub back : Contains (duties_of b image plan key m.pc s (Call to) n) (owed 4 (resume (call_key key (target_of m to)) (wrapping_sum m.pc n)))
+  pub entered : Contains (duties_of b image plan key m.pc s (Call to) n) (owed 5 (enter (call_key key (target_address m to)) (call_entry s)))
+  pub back : Contains (duties_of b image plan key m.pc s (Call to) n) (owed 4 (resume (call_key key (target_address m to)) (wrapping_sum m.pc n)))
 
 -- a law of moves: each point with a call owes the entry where the machine goes, and the return
 abbrev pub CallsAreOwed : Type 0

@@ -1,6 +1,6 @@
 // The frames that an instruction enters by itself.
 ghost use Rattle.std.specs.Prelude.{◌≡◌, ◌++◌, ℕ, OnOk, not};
-ghost use Rattle.tc_isa.specs.InBounds.{IsShape, IsShapeAccessSize};
+ghost use Rattle.tc_isa.specs.InBounds.{IsShapeInBounds, IsOneTwoOrFour};
 ghost use Rattle.value_domain.specs.State.{AreInLattice};
 ghost use Rattle.vd_transfer.specs.EffectsOnStates.{address_of_access};
 ghost use Rattle.store_ranges.specs.Accesses.{are_aligned};
@@ -27,7 +27,7 @@ pub fn push_entered_keys(
     s: &State,
     shape: Shape,
 ) -> Result<(), AllocError>
-    requires { IsShape shape }
+    requires { IsShapeInBounds shape }
     ensures { (size : ℕ) → OnOk result (keys.new.items
         ≡ keys.old.items ++ entered_keys (entry_duties_of plan.now key.now addr s.now shape size)) }
 {
@@ -48,7 +48,7 @@ pub fn push_entered_keys(
 /// the entry of the handler of misaligned accesses.
 #[inline(always)]
 pub fn may_be_misaligned(b: &Bounds, plan: &Plan, s: &State, shape: Shape) -> bool
-    requires shape { IsShape shape }
+    requires shape { IsShapeInBounds shape }
     requires values { AreInLattice b.now s.now.regs }
     ensures { result ≡ duties.may_be_misaligned b.now plan.now s.now shape }
 {
@@ -63,9 +63,9 @@ pub fn may_be_misaligned(b: &Bounds, plan: &Plan, s: &State, shape: Shape) -> bo
 /// of its own, since a value needs stack.
 #[inline(never)]
 fn has_misaligned_address(b: &Bounds, plan: &Plan, s: &State, shape: Shape, size: u8) -> bool
-    requires shape { IsShape shape }
+    requires shape { IsShapeInBounds shape }
     requires values { AreInLattice b.now s.now.regs }
-    requires size { IsShapeAccessSize size }
+    requires size { IsOneTwoOrFour size }
     ensures { result ≡ not (are_aligned (address_of_access b.now plan.now shape s.now) size) }
 {
     let _most_words = b.most_words();

@@ -5,7 +5,7 @@ ghost use Rattle.value_domain.specs.State.{AreInLattice};
 ghost use Rattle.vd_transfer.specs.Changes.{state_after};
 ghost use Rattle.cfg_recover.specs.Changes as changes;
 ghost use Rattle.cfg_recover.specs.Entries as entries;
-ghost use Rattle.cfg_recover.specs.Entries.{entry_stack_of, irq_entry, aln_entry, sys_entry};
+ghost use Rattle.cfg_recover.specs.Entries.{handler_entry_sp_of, irq_entry, aln_entry, sys_entry};
 
 use arrayvec::ArrayVec;
 use depth_cert::Key;
@@ -75,7 +75,7 @@ pub fn aln_entry_change(b: &Bounds, plan: &Plan, key: &Key, s: &State) -> Change
 /// A10 if that stack is in use.
 fn handler_entry_sp(b: &Bounds, plan: &Plan, key: &Key, s: &State) -> Val
     requires { AreInLattice b.now s.now.regs }
-    ensures stack { result ≡ entry_stack_of plan.now key.now s.now }
+    ensures stack { result ≡ handler_entry_sp_of plan.now key.now s.now }
     ensures value { IsInLattice b.now result }
 {
     let _most_words = b.most_words();

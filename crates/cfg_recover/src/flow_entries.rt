@@ -3,7 +3,7 @@ ghost use Rattle.std.specs.Prelude.{◌≡◌, Some};
 ghost use Rattle.tc_isa.specs.Meanings.{shape_of};
 ghost use Rattle.value_domain.specs.State.{AreInLattice};
 ghost use Rattle.cfg_recover.specs.Duties.{entry_duties_of, misaligned_duties_of, exit_duties_of};
-ghost use Rattle.cfg_recover.specs.FlowStates.{EntryHasValues};
+ghost use Rattle.cfg_recover.specs.FlowStates.{IsEntryInLattice};
 ghost use Rattle.cfg_recover.specs.FlowDuties.{duties_of_call_entry, duties_of_misaligned_entry, duties_of_leaving, flow_leave_of};
 
 use crate::decoded_inst::InstAt;
@@ -31,7 +31,7 @@ pub(crate) fn call_flow_entry(
     ensures entry { duties_of_call_entry key.now result
         ≡ entry_duties_of plan.now key.now at.entry.addr s.now
         (shape_of at.entry.inst.now) at.entry.size }
-    ensures values { EntryHasValues b.now result }
+    ensures values { IsEntryInLattice b.now result }
 {
     let resume = Some(at.addr.wrapping_add(at.size));
     match shape(at.inst) {
@@ -63,7 +63,7 @@ pub(crate) fn misaligned_flow_entry(
     requires { AreInLattice b.now s.now.regs }
     ensures entry { duties_of_misaligned_entry key.now result
         ≡ misaligned_duties_of b.now plan.now key.now s.now (shape_of inst.now) }
-    ensures values { EntryHasValues b.now result }
+    ensures values { IsEntryInLattice b.now result }
 {
     if !may_be_misaligned(b, plan, s, shape(inst)) {
         return None;

@@ -5,7 +5,7 @@ ghost use Rattle.value_domain.specs.State.{AreInLattice};
 ghost use Rattle.vd_transfer.specs.EffectsOnStates.{LocalsFitInstruction};
 ghost use Rattle.cfg_recover.specs.Duties.{duties_of};
 ghost use Rattle.cfg_recover.specs.Entries.{irq_entry};
-ghost use Rattle.cfg_recover.specs.FlowStates.{FlowHasValues};
+ghost use Rattle.cfg_recover.specs.FlowStates.{IsFlowInLattice};
 ghost use Rattle.cfg_recover.specs.FlowDuties.{duties_of_flow, flow_leave_of, FlowHasDuties};
 ghost use Rattle.cfg_recover.specs.LocalFaults.{IsLocalFault};
 
@@ -35,7 +35,7 @@ pub fn flow(
     requires { AreInLattice b.now s.now.regs }
     ensures fault { IfErr result (IsLocalFault b.now image.now plan.now key.now addr s.now) }
     ensures duties { IfOk result (FlowHasDuties b.now image.now plan.now key.now addr s.now) }
-    ensures values { IfOk result (FlowHasValues b.now) }
+    ensures values { IfOk result (IsFlowInLattice b.now) }
 {
     match check_instruction_at(b, image, plan, key, addr, s) {
         Ok((inst, size)) => {
@@ -58,7 +58,7 @@ fn flow_of_faultless_point(
 ) -> Flow
     requires values { AreInLattice b.now s.now.regs }
     requires room { LocalsFitInstruction b.now (shape_of at.inst.now) s.now }
-    ensures values { FlowHasValues b.now result }
+    ensures values { IsFlowInLattice b.now result }
     ensures told { duties_of_flow plan.now key.now s.now result
         ≡ duties_of b.now image.now plan.now key.now at.entry.addr s.now
         (shape_of at.entry.inst.now) at.entry.size }

@@ -1,6 +1,6 @@
 // The successors of a point in its frame.
 ghost use Rattle.std.specs.Prelude.{◌≡◌, All, Some};
-ghost use Rattle.tc_isa.specs.InBounds.{IsShape};
+ghost use Rattle.tc_isa.specs.InBounds.{IsShapeInBounds};
 ghost use Rattle.tc_isa.specs.Meanings.{shape_of};
 ghost use Rattle.value_domain.specs.declared.states.State.{State};
 ghost use Rattle.value_domain.specs.Values.{IsInLattice};
@@ -8,8 +8,8 @@ ghost use Rattle.value_domain.specs.State.{AreInLattice};
 ghost use Rattle.vd_transfer.specs.Changes.{state_after};
 ghost use Rattle.vd_transfer.specs.EffectsOnStates.{LocalsFitInstruction, address_of_access, transfer_of};
 ghost use Rattle.vd_transfer.specs.Branches.{refine_of};
-ghost use Rattle.cfg_recover.specs.Duties.{jump_on, value_loaded_by_shape, next_duty_of, successor_duties_of};
-ghost use Rattle.cfg_recover.specs.FlowStates.{JumpHasValues};
+ghost use Rattle.cfg_recover.specs.Duties.{branch_duty, value_loaded_by_shape, next_duty_of, successor_duties_of};
+ghost use Rattle.cfg_recover.specs.FlowStates.{IsJumpInLattice};
 ghost use Rattle.cfg_recover.specs.FlowDuties.{duties_of_jump, duties_of_jumps};
 
 use crate::Jump;
@@ -37,7 +37,7 @@ pub(crate) fn successor_jumps(
 ) -> [Option<Jump>; 2]
     requires values { AreInLattice b.now s.now.regs }
     requires room { LocalsFitInstruction b.now (shape_of at.inst.now) s.now }
-    ensures values { All (JumpHasValues b.now) result }
+    ensures values { All (IsJumpInLattice b.now) result }
     ensures jumps { duties_of_jumps result
         ≡ successor_duties_of b.now image.now plan.now at.entry.addr s.now
         (shape_of at.entry.inst.now) at.entry.size }
@@ -71,7 +71,7 @@ pub fn write_successor_change(
     s: &State,
     c: &mut Change,
 )
-    requires shape { IsShape shape }
+    requires shape { IsShapeInBounds shape }
     requires values { AreInLattice b.now s.now.regs }
     requires room { LocalsFitInstruction b.now shape s.now }
     ensures change { state_after s.now c.new
@@ -101,9 +101,9 @@ fn jump_on_branch_side(
     to: u32,
 ) -> Option<Jump>
     requires { AreInLattice b.now s.now.regs }
-    ensures values { JumpHasValues b.now result }
+    ensures values { IsJumpInLattice b.now result }
     ensures jump { duties_of_jump result
-        ≡ jump_on to (refine_of b.now plan.now (shape_of inst.now) s.now taken) }
+        ≡ branch_duty to (refine_of b.now plan.now (shape_of inst.now) s.now taken) }
 {
     let state = refine(b, plan, inst, s, taken)?;
     Some(Jump {
@@ -116,7 +116,7 @@ fn jump_on_branch_side(
 fn jump_to_next(b: &Bounds, image: &Image, plan: &Plan, s: &State, at: InstAt<'_>) -> Jump
     requires values { AreInLattice b.now s.now.regs }
     requires room { LocalsFitInstruction b.now (shape_of at.inst.now) s.now }
-    ensures values { JumpHasValues b.now (Some result) }
+    ensures values { IsJumpInLattice b.now (Some result) }
     ensures jump { duties_of_jump (Some result)
         ≡ next_duty_of b.now image.now plan.now at.entry.addr s.now
         (shape_of at.entry.inst.now) at.entry.size }
@@ -152,7 +152,7 @@ fn write_identity_change(s: &State, c: &mut Change)
 /// Overwrites `out` with the abstract value that a load gets from the addresses `at`, or with any
 /// word if the instruction isn't a load.
 fn write_loaded_value(b: &Bounds, image: &Image, plan: &Plan, shape: Shape, at: &Val, out: &mut Val)
-    requires shape { IsShape shape }
+    requires shape { IsShapeInBounds shape }
     requires value { IsInLattice b.now at.now }
     ensures loaded { (s : State) → at.now ≡ address_of_access b.now plan.now shape s
         → out.new ≡ value_loaded_by_shape b.now image.now plan.now s shape }

@@ -1,9 +1,9 @@
 // The targets of jumps and calls.
 ghost use Rattle.std.specs.Prelude.{◌≡◌, ◌<◌, ◌≤◌, ◌-◌, ◌*◌, ◌/◌, ◌↔◌, [], ◌∷◌, ℕ, IsTrue, Some, length, map, slice_get, unwrap_or, IfSome};
 ghost use Rattle.tcd_plan.specs.PlanData.{PlanData};
-ghost use Rattle.tc_isa.specs.InBounds.{IsTarget};
+ghost use Rattle.tc_isa.specs.InBounds.{IsTargetInBounds};
 ghost use Rattle.value_domain.specs.declared.states.State.{State};
-ghost use Rattle.value_domain.specs.Sets.{Among, AreSetWords, IsAscending, sorted_set_of, sorted_insert};
+ghost use Rattle.value_domain.specs.Sets.{Among, AreSetWords, IsAscending, sorted_set_of, sorted_set_insert};
 ghost use Rattle.vd_transfer.specs.Registers.{reg_of};
 ghost use Rattle.cfg_recover.specs.LocalRules as rules;
 ghost use Rattle.cfg_recover.specs.LocalRules.{targets_of_value, targets_of};
@@ -31,7 +31,7 @@ pub fn direct_target(addr: u32, to: Target) -> Option<u32>
 
 /// Returns the addresses to which a jump or call at `addr` may go; none if the register has a Span.
 pub fn targets(plan: &Plan, s: &State, addr: u32, to: Target) -> ArrayVec<u32, 128>
-    requires { IsTarget to }
+    requires { IsTargetInBounds to }
     ensures { result.items ≡ unwrap_or (targets_of plan.now s.now addr to) [] }
 {
     match to {
@@ -88,7 +88,7 @@ fn add_target_once(words: &mut ArrayVec<u32, 128>, x: u32)
     requires room { length words.old.items < 128 }
     requires rising { IsAscending words.old.items }
     requires greatest { (y : ℕ) → Among y words.old.items → y ≤ x }
-    ensures { words.new.items ≡ sorted_insert x words.old.items }
+    ensures { words.new.items ≡ sorted_set_insert x words.old.items }
 {
     if !is_last_target(words.as_slice(), x) {
         words.push(x);

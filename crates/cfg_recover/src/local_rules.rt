@@ -1,10 +1,10 @@
 // The own parts of rules: what each asks of a point's instruction alone, for the shapes of
 // instructions at which it can fail; and the least rule that fails at a point.
 ghost use Rattle.std.specs.Prelude.{◌≡◌, ◌<◌, ◌≤◌, ◌⊎◌, ◌↔◌, ℕ, true, length, IsTrue, IsSome, IfErr, IfOk, IfSome, None, Some, if◌then◌else◌, MatchResult};
-ghost use Rattle.tc_isa.specs.InBounds.{IsArg, IsShape, IsShapeAccessSize, IsTarget};
+ghost use Rattle.tc_isa.specs.InBounds.{IsArgInBounds, IsShapeInBounds, IsOneTwoOrFour, IsTargetInBounds};
 ghost use Rattle.value_domain.specs.Values.{IsWellFormed, word_val};
-ghost use Rattle.vd_transfer.specs.Registers.{IncreasesNoFixedRegister, RegisterHasValue};
-ghost use Rattle.cfg_recover.specs.LocalRules.{targets_of_value, targets_of, StoresInRangeAtValue, MayAccessAtValue};
+ghost use Rattle.vd_transfer.specs.Registers.{IncreasesNoFixedRegister, IsNotFixedRegister};
+ghost use Rattle.cfg_recover.specs.LocalRules.{targets_of_value, targets_of, StoresInRangeAtValue, IsAccessAllowedAtValue};
 ghost use Rattle.store_ranges.specs.Accesses.{are_aligned};
 ghost use Rattle.depth_cert.specs.Keys.{call_kind, irq_kind, sys_kind, aln_kind};
 ghost use Rattle.cfg_recover.specs.LocalFaults.{IsLocalFault, IsLeastLocalFault, IsAccessFault, IsFaultlessShape, IsFaultlessInst};
@@ -14,7 +14,7 @@ ghost use Rattle.value_domain.specs.declared.states.State.{State};
 ghost use Rattle.value_domain.specs.State.{AreInLattice};
 ghost use Rattle.cfg_recover.specs.Code.{FindsShapeAndSize, HasShapeInBounds};
 ghost use Rattle.value_domain.specs.Limits.{Limits};
-ghost use Rattle.vd_transfer.specs.EffectsOnStates.{access_of, address_of_access};
+ghost use Rattle.vd_transfer.specs.EffectsOnStates.{address_by_mode, address_of_access};
 
 use crate::rom_code::code_at;
 use depth_cert::{ALN, CALL, IRQ, Key, SYS};
@@ -155,7 +155,7 @@ pub(crate) fn local_fault_of_shape(
     s: &State,
     shape: &Shape,
 ) -> Option<u8>
-    requires shape { IsShape shape.now }
+    requires shape { IsShapeInBounds shape.now }
     requires values { AreInLattice b.now s.now.regs }
     ensures { (p : ℕ) → IsLeastLocalFault b.now plan.now key.now p s.now shape.now result }
 {
@@ -209,7 +209,7 @@ pub fn broken_rule_unless(holds: bool, rule: u8) -> Option<u8>
 /// Returns the first of K9 and K10 whose own part fails for a load or store at the only address
 /// `x`, or `None`.
 pub(crate) fn access_fault_at_word(plan: &Plan, x: u32, shape: Shape) -> Option<u8>
-    requires shape { IsShape shape }
+    requires shape { IsShapeInBounds shape }
     ensures { (b : Limits) (s : State) → address_of_access b plan.now shape s ≡ word_val x
         → IsAccessFault b plan.now s shape result }
 {
@@ -226,7 +226,7 @@ pub(crate) fn access_fault_at_word(plan: &Plan, x: u32, shape: Shape) -> Option<
 /// of its own, so that an access with one address builds no value.
 #[inline(never)]
 pub(crate) fn access_fault_at_value(b: &Bounds, plan: &Plan, s: &State, shape: Shape) -> Option<u8>
-    requires shape { IsShape shape }
+    requires shape { IsShapeInBounds shape }
     requires values { AreInLattice b.now s.now.regs }
     ensures { IsAccessFault b.now plan.now s.now shape result }
 {
@@ -243,7 +243,7 @@ pub(crate) fn access_fault_at_value(b: &Bounds, plan: &Plan, s: &State, shape: S
 
 /// Tests K5's own part at a jump or call: the target is fixed, or the register's value is a Set.
 pub(crate) fn has_known_targets(plan: &Plan, s: &State, to: Target) -> bool
-    requires { IsTarget to }
+    requires { IsTargetInBounds to }
     ensures { (p : ℕ) → IsTrue result ↔ IsSome (targets_of plan.now s.now p to) }
 {
     match to {
@@ -287,7 +287,7 @@ pub(crate) fn has_saved_lower_context(s: &State) -> bool
 /// Tests K9: true if each possible store is wholly in one ram range or one peripheral range, and
 /// doesn't pass 2^32. Other instructions pass.
 pub(crate) fn stores_in_range_at_value(plan: &Plan, at: &Val, shape: Shape) -> bool
-    requires shape { IsShape shape }
+    requires shape { IsShapeInBounds shape }
     requires well { IsWellFormed at.now }
     ensures { IsTrue result ↔ StoresInRangeAtValue plan.now at.now shape }
 {
@@ -311,9 +311,9 @@ pub(crate) fn stores_in_range_at_word(plan: &Plan, x: u32, shape: Shape) -> bool
 /// Tests K10's own part: true if each address in `at` is a multiple of the access's size, or the
 /// plan states the trap. Other instructions pass.
 pub(crate) fn is_access_allowed_at_value(plan: &Plan, at: &Val, shape: Shape) -> bool
-    requires shape { IsShape shape }
+    requires shape { IsShapeInBounds shape }
     requires well { IsWellFormed at.now }
-    ensures { IsTrue result ↔ MayAccessAtValue plan.now at.now shape }
+    ensures { IsTrue result ↔ IsAccessAllowedAtValue plan.now at.now shape }
 {
     match shape {
         Shape::Load { size, .. } => is_aligned_or_trap_stated(plan, at, size),
@@ -325,8 +325,8 @@ pub(crate) fn is_access_allowed_at_value(plan: &Plan, at: &Val, shape: Shape) ->
 /// Tests K10's own part for an access at the only address `x`: true if that is aligned, or the plan
 /// states the trap. Other instructions pass.
 pub(crate) fn is_access_allowed_at_word(plan: &Plan, x: u32, shape: Shape) -> bool
-    requires { IsShape shape }
-    ensures { IsTrue result ↔ MayAccessAtValue plan.now (word_val x) shape }
+    requires { IsShapeInBounds shape }
+    ensures { IsTrue result ↔ IsAccessAllowedAtValue plan.now (word_val x) shape }
 {
     match shape {
         Shape::Load { size, .. } => is_word_aligned_or_trap_stated(plan, x, size),
@@ -344,7 +344,7 @@ pub(crate) fn is_system_call_allowed(plan: &Plan) -> bool
 
 /// Returns the first of K9 and K10 whose own part fails for a load or store; else `None`.
 fn access_fault(b: &Bounds, plan: &Plan, s: &State, shape: Shape) -> Option<u8>
-    requires shape { IsShape shape }
+    requires shape { IsShapeInBounds shape }
     requires values { AreInLattice b.now s.now.regs }
     ensures { IsAccessFault b.now plan.now s.now shape result }
 {
@@ -358,7 +358,7 @@ fn access_fault(b: &Bounds, plan: &Plan, s: &State, shape: Shape) -> Option<u8>
 /// instructions.
 #[tactic(auto, unfolding(vd_transfer::specs::EffectsOnStates::address_of_access))]
 fn single_address_by_shape(b: &Bounds, plan: &Plan, s: &State, shape: Shape) -> Option<u32>
-    requires shape { IsShape shape }
+    requires shape { IsShapeInBounds shape }
     requires values { AreInLattice b.now s.now.regs }
     ensures { IfSome result (λ x. address_of_access b.now plan.now shape s.now ≡ word_val x) }
 {
@@ -390,9 +390,9 @@ fn single_address_by_base(
     offset: u32,
     after: bool,
 ) -> Option<u32>
-    requires base { IsArg base }
+    requires base { IsArgInBounds base }
     requires values { AreInLattice b.now s.now.regs }
-    ensures { IfSome result (λ x. access_of b.now plan.now s.now base offset after ≡ word_val x) }
+    ensures { IfSome result (λ x. address_by_mode b.now plan.now s.now base offset after ≡ word_val x) }
 {
     let _most_words = b.most_words();
     let Some(x) = arg_word(b, plan, s, base) else {
@@ -440,7 +440,7 @@ fn is_handler_return_allowed(key: &Key, s: &State) -> bool
 /// the trap of misaligned accesses.
 fn is_aligned_or_trap_stated(plan: &Plan, at: &Val, size: u8) -> bool
     requires well { IsWellFormed at.now }
-    requires size { IsShapeAccessSize size }
+    requires size { IsOneTwoOrFour size }
     ensures { IsTrue result ↔ ((are_aligned at.now size ≡ true) ⊎ (plan.now.aln ≡ true)) }
 {
     plan.aln || aligned(at, size)
@@ -449,7 +449,7 @@ fn is_aligned_or_trap_stated(plan: &Plan, at: &Val, size: u8) -> bool
 /// Tests K10's own part: true if the only address `x` is a multiple of `size`, or the plan states
 /// the trap of misaligned accesses.
 fn is_word_aligned_or_trap_stated(plan: &Plan, x: u32, size: u8) -> bool
-    requires { IsShapeAccessSize size }
+    requires { IsOneTwoOrFour size }
     ensures { IsTrue result
         ↔ ((are_aligned (word_val x) size ≡ true) ⊎ (plan.now.aln ≡ true)) }
 {
@@ -461,14 +461,14 @@ fn is_word_aligned_or_trap_stated(plan: &Plan, x: u32, size: u8) -> bool
 /// Tests K13 for a load: true if none of the registers that it writes is one of the fixed
 /// registers.
 pub(crate) fn keeps_fixed_registers_in_load(dst: u8, base: Arg, after: bool) -> bool
-    ensures { IsTrue result ↔ (RegisterHasValue dst × IncreasesNoFixedRegister base after) }
+    ensures { IsTrue result ↔ (IsNotFixedRegister dst × IncreasesNoFixedRegister base after) }
 {
     is_not_fixed_register(dst) && keeps_fixed_base_register(base, after)
 }
 
 /// Tests K13 for a branch that compares register `x`: true unless `x` is fixed and decremented.
 pub(crate) fn keeps_fixed_registers_in_branch(x: u8, lowers: bool) -> bool
-    ensures { IsTrue result ↔ (IsTrue lowers → RegisterHasValue x) }
+    ensures { IsTrue result ↔ (IsTrue lowers → IsNotFixedRegister x) }
 {
     !lowers || is_not_fixed_register(x)
 }
@@ -488,7 +488,7 @@ pub(crate) fn keeps_fixed_base_register(base: Arg, after: bool) -> bool
 /// A1, A8, A9 and A11.
 #[tactic(auto, unfolding(vd_transfer::specs::Registers::register_slot))]
 pub(crate) fn is_not_fixed_register(r: u8) -> bool
-    ensures { IsTrue result ↔ RegisterHasValue r }
+    ensures { IsTrue result ↔ IsNotFixedRegister r }
 {
     r < 16 || 18 <= r && r <= 23 || r == 26 || 28 <= r && r <= 31
 }

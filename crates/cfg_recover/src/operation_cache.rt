@@ -4,7 +4,7 @@ ghost use Rattle.value_domain.specs.declared.values.Val.{Val};
 ghost use Rattle.value_domain.specs.declared.values.Val.TheVariants.{Set};
 ghost use Rattle.value_domain.specs.Limits.{Limits};
 ghost use Rattle.value_domain.specs.State.{AreInLattice};
-ghost use Rattle.tc_isa.specs.InBounds.{IsShape};
+ghost use Rattle.tc_isa.specs.InBounds.{IsShapeInBounds};
 ghost use Rattle.vd_transfer.specs.Changes.{state_after};
 ghost use Rattle.vd_transfer.specs.EffectsOnStates.{transfer_of};
 ghost use Rattle.cfg_recover.specs.SetOperations.{IsSetOperand, IsSetOperation, IsSameOperation, IsCorrectEntry, IsCorrectCache};
@@ -132,7 +132,7 @@ impl CachedOperation {
         operation: SetOperation<'_>,
         c: &mut Change,
     )
-        requires shape { IsShape operation.shape }
+        requires shape { IsShapeInBounds operation.shape }
         requires values { AreInLattice b.now s.now.regs }
         requires operation { IsSetOperation s.now operation }
         requires results { IsCorrectEntry b.now self.old }
@@ -198,7 +198,7 @@ impl OperationCache {
         s: &State,
         c: &mut Change,
     ) -> bool
-        requires shape { IsShape shape }
+        requires shape { IsShapeInBounds shape }
         requires values { AreInLattice b.now s.now.regs }
         requires results { IsCorrectCache b.now self.old }
         ensures change { IsTrue result → (loaded : Val) → state_after s.now c.new

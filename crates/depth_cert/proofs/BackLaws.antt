@@ -20,7 +20,7 @@ use Rattle.depth_cert.specs.Points.{IsState, IsPoint, AreAscendingPoints, addres
 use Rattle.depth_cert.specs.Exits.{IsExit}
 use Rattle.depth_cert.specs.Nodes.{NodeData, IsNode, count_points, key_numbers}
 use Rattle.depth_cert.specs.Certs.{CertData, IsCert}
-use Rattle.depth_cert.specs.Grammar.{valid_field_or_fault, is_above_last_read, last_number_read, flag_at, values_at, locals_at, state_at, address_after, point_after, key_after, need_at, has_exit_at, exit_at, optional_exit_at, point_count_at, points_at, node_after, magic_at, version_at, node_count_at, cert_at, certificate_of}
+use Rattle.depth_cert.specs.Grammar.{valid_field_or_fault, is_above_last, last_number, flag_at, values_at, locals_at, state_at, address_after, point_after, key_after, need_at, exit_flag_at, exit_at, optional_exit_at, point_count_at, points_at, node_after, magic_at, version_at, node_count_at, cert_at, certificate_of}
 use Rattle.depth_cert.specs.Spelling.{bytes_of_value, bytes_of_state, bytes_of_point, bytes_of_key, bytes_of_exit, bytes_of_node, bytes_of_cert}
 use Rattle.depth_cert.proofs.WrittenLaws.{IsRead, done, seq, test, byte, half, word, many_read, one_of, above_map, flag, values_read}
 
@@ -61,11 +61,11 @@ pub point_read : (version : ℕ) (all before : List Point) (x : Point) (after : 
 unfolding point_after address_after bytes_of_point
 point_read version all before x after rising each e =
     let good : IsPoint version x = one_of (IsPoint version) all before x after each e in
-    let above : is_above_last_read (last_number_read (addresses before)) x.addr ≡ true = above_map (λ p. p.addr) all before x after rising e in
+    let above : is_above_last (last_number (addresses before)) x.addr ≡ true = above_map (λ p. p.addr) all before x after rising e in
     at_end (point_after version before) (bytes_of_word x.addr) (bytes_of_state x.state) x
-    (seq (address_after (last_number_read (addresses before))) _ (bytes_of_word x.addr) (bytes_of_state x.state ++ []) x.addr x
-    (alone (address_after (last_number_read (addresses before))) (bytes_of_word x.addr) x.addr
-    (seq u32_at (λ p a. valid_field_or_fault 3 (is_above_last_read (last_number_read (addresses before)) a.0) p a) (bytes_of_word x.addr) [] x.addr x.addr (word x.addr good.addr) (λ p0. test 3 (is_above_last_read (last_number_read (addresses before)) x.addr) p0 x.addr above)))
+    (seq (address_after (last_number (addresses before))) _ (bytes_of_word x.addr) (bytes_of_state x.state ++ []) x.addr x
+    (alone (address_after (last_number (addresses before))) (bytes_of_word x.addr) x.addr
+    (seq u32_at (λ p a. valid_field_or_fault 3 (is_above_last (last_number (addresses before)) a.0) p a) (bytes_of_word x.addr) [] x.addr x.addr (word x.addr good.addr) (λ p0. test 3 (is_above_last (last_number (addresses before)) x.addr) p0 x.addr above)))
     (λ p1. seq (state_at version) _ (bytes_of_state x.state) [] x.state x (state_read version x.state good.state) (λ p2. done x)))
 
 pub points_read : (version used : ℕ) (ps : List Point) → AreAscendingPoints ps → All (IsPoint version) ps → used + length ps ≤ 2 ^ 16 → IsRead (points_at version used) (bytes_of_word (length ps) ++ flat_map bytes_of_point ps) ps
@@ -82,7 +82,7 @@ flag_byte : (b : Bool) → (cert_flag_byte b ≤ 1) × (eqb (cert_flag_byte b) 1
 flag_byte true = (omega arith, refl)
 flag_byte false = (omega arith, refl)
 
-pub key_read : (last : Option ℕ) (k : Key) → IsKey k → is_above_last_read last (number_of_key k) ≡ true → IsRead (key_after last) (bytes_of_key k) k
+pub key_read : (last : Option ℕ) (k : Key) → IsKey k → is_above_last last (number_of_key k) ≡ true → IsRead (key_after last) (bytes_of_key k) k
 unfolding key_after bytes_of_key
 key_read last k good above =
     let bit = flag_byte k.is in
@@ -93,8 +93,8 @@ key_read last k good above =
     (λ p1. seq u32_at _ (bytes_of_word k.entry) _ k.entry k (word k.entry good.entry)
     (λ p2. seq u8_at _ (k.prio ∷ []) _ k.prio k (byte k.prio)
     (λ p3. seq u8_at _ (cert_flag_byte k.is ∷ []) [] (cert_flag_byte k.is) k (byte (cert_flag_byte k.is))
-    (λ p4. seq (λ p. valid_field_or_fault 3 (is_above_last_read last (key_number k.kind k.entry k.prio (cert_flag_byte k.is))) p0 (cert_flag_byte k.is, p)) _ [] [] (cert_flag_byte k.is) k
-    (test 3 (is_above_last_read last (key_number k.kind k.entry k.prio (cert_flag_byte k.is))) p0 (cert_flag_byte k.is) above)
+    (λ p4. seq (λ p. valid_field_or_fault 3 (is_above_last last (key_number k.kind k.entry k.prio (cert_flag_byte k.is))) p0 (cert_flag_byte k.is, p)) _ [] [] (cert_flag_byte k.is) k
+    (test 3 (is_above_last last (key_number k.kind k.entry k.prio (cert_flag_byte k.is))) p0 (cert_flag_byte k.is) above)
     (λ p5. seq (λ p. valid_field_or_fault 4 (leb (cert_flag_byte k.is) 1) p4 (cert_flag_byte k.is, p)) _ [] [] (cert_flag_byte k.is) k (test 4 (leb (cert_flag_byte k.is) 1) p4 (cert_flag_byte k.is) (le-leb _ _ bit.0))
     (λ p6. subst (λ (x : Key). IsRead (λ p. Ok (made, p)) [] x) same (done made))))))))
 
@@ -107,15 +107,15 @@ exit_read version x good =
     (λ p1. seq (values_at version 14) _ (flat_map bytes_of_value x.lower) [] x.lower x (values_read version 14 x.lower good.values good.lower) (λ p2. done x))))
 
 exits_read : (version kind : ℕ) (x : Option Exit) → IfSome x (λ e. ((kind ≡ 1) ⊎ (kind ≡ 3)) × IsExit version e) → IsRead (optional_exit_at version kind) (bytes_of_exit x) x
-unfolding optional_exit_at has_exit_at bytes_of_exit
+unfolding optional_exit_at exit_flag_at bytes_of_exit
 exits_read version kind None good =
-    seq (has_exit_at kind) _ (0 ∷ []) [] false None
+    seq (exit_flag_at kind) _ (0 ∷ []) [] false None
     (seq flag_at _ (0 ∷ []) [] false false (flag false) (λ p0. done false))
     (λ p1. done None)
 exits_read version kind (Some e) good =
     let may : not (eqb kind 1 || eqb kind 3) ≡ false = kinds kind good.0 in
     at_end (optional_exit_at version kind) (1 ∷ []) (cert_flag_byte e.ie ∷ e.ccpn ∷ flat_map bytes_of_value e.lower) (Some e)
-    (seq (has_exit_at kind) _ (1 ∷ []) _ true (Some e)
+    (seq (exit_flag_at kind) _ (1 ∷ []) _ true (Some e)
     (seq flag_at _ (1 ∷ []) [] true true (flag true) (λ p0. record { at = λ front rest. rw may ((done true).at front rest) }))
     (λ p1. seq (exit_at version) _ (cert_flag_byte e.ie ∷ e.ccpn ∷ flat_map bytes_of_value e.lower) [] e (Some e) (exit_read version e good.1) (λ p2. done (Some e))))
   where
@@ -127,13 +127,13 @@ node_read : (version : ℕ) (all before : List NodeData) (x : NodeData) (after :
 unfolding node_after need_at bytes_of_node
 node_read version all before x after rising each few e =
     let good : IsNode version x = one_of (IsNode version) all before x after each e in
-    let above : is_above_last_read (last_number_read (key_numbers before)) (number_of_key x.key) ≡ true = above_map (λ n. number_of_key n.key) all before x after rising e in
+    let above : is_above_last (last_number (key_numbers before)) (number_of_key x.key) ≡ true = above_map (λ n. number_of_key n.key) all before x after rising e in
     let sum = ap count_points e ∙ sum_by-append (λ (n : NodeData). length n.points) before (x ∷ after) in
     let own = sum_by-cons (λ (n : NodeData). length n.points) x after in
     let room : count_points before + length x.points ≤ 2 ^ 16 = omega arith in
     let points : List ℕ = bytes_of_word (length x.points) ++ flat_map bytes_of_point x.points in
     subst (λ (l : List ℕ). IsRead (node_after version before) (bytes_of_key x.key ++ (bytes_of_half x.need ++ (bytes_of_exit x.exit ++ l))) x) (append-nil points)
-    (seq (key_after (last_number_read (key_numbers before))) _ (bytes_of_key x.key) _ x.key x (key_read (last_number_read (key_numbers before)) x.key good.key above)
+    (seq (key_after (last_number (key_numbers before))) _ (bytes_of_key x.key) _ x.key x (key_read (last_number (key_numbers before)) x.key good.key above)
     (λ p0. seq need_at _ (bytes_of_half x.need) _ x.need x
     (alone need_at (bytes_of_half x.need) x.need
     (seq u16_at (λ p n. valid_field_or_fault 5 (leb n.0 4096) p n) (bytes_of_half x.need) [] x.need x.need (half x.need (omega (arith, good.need))) (λ p1. test 5 (leb x.need 4096) p1 x.need (le-leb _ _ good.need))))

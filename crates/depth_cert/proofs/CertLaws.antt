@@ -13,7 +13,7 @@ use Rattle.depth_cert.specs.declared.keys.Key.{Key}
 use Rattle.depth_cert.specs.declared.points.Point.{Point}
 use Rattle.depth_cert.specs.Keys.{cert_flag_byte, key_number, number_of_key, IsKey}
 use Rattle.depth_cert.specs.Points.{IsState, IsPoint, AreAscendingPoints, addresses}
-use Rattle.depth_cert.specs.Grammar.{valid_field_or_fault, is_above_last_read, last_number_read, flag_at, values_at, locals_at, state_at, address_after, point_after, key_after, point_count_at, points_at}
+use Rattle.depth_cert.specs.Grammar.{valid_field_or_fault, is_above_last, last_number, flag_at, values_at, locals_at, state_at, address_after, point_after, key_after, point_count_at, points_at}
 use Rattle.depth_cert.specs.Spelling.{bytes_of_value, bytes_of_state, bytes_of_point, bytes_of_key}
 use Rattle.depth_cert.proofs.ManyLaws.{rising_map_push}
 use Rattle.tcd_base.proofs.PassedLaws.{AreBytes, Passed, passed_bytes, passed_both, ok_pair, byte_passed, word_passed, many_passed}
@@ -81,16 +81,16 @@ point_passed : (version : ℕ) (before : List Point) (front rest : List ℕ) (p 
     → Passed (bytes_of_point p) front rest q × ArePointsOf version (before ++ p ∷ [])
 unfolding point_after address_after
 point_passed version before front rest p q bytes good e =
-    let addr = bind_ok (address_after (last_number_read (addresses before)) (place_between front rest)) _ _ e in
+    let addr = bind_ok (address_after (last_number (addresses before)) (place_between front rest)) _ _ e in
     let word = bind_ok (u32_at (place_between front rest)) _ _ addr.1 in
-    let t = checked_passed 3 (is_above_last_read (last_number_read (addresses before)) word.0.0) (place_between front rest) word.0 addr.0 word.2 in
+    let t = checked_passed 3 (is_above_last (last_number (addresses before)) word.0.0) (place_between front rest) word.0 addr.0 word.2 in
     let h1 = word_passed front rest addr.0.0 addr.0.1 bytes (word.1 ∙ ap (λ (v : ℕ × Place). Ok v) t.1) in
     let state = bind_ok (state_at version addr.0.1) _ _ addr.2 in
     let h2 = state_passed version _ h1.0.after state.0.0 state.0.1 (passed_bytes h1.0 bytes) (next (state_at version) _ h1.0 state.1) in
     let made : Point = record { addr = addr.0.0; state = state.0.0 } in
     let f = ok_pair made p state.0.1 q state.2 in
     let all : Passed (bytes_of_point made) front rest state.0.1 = subst (λ (l : List ℕ). Passed l front rest state.0.1) (point_bytes made) (passed_both h1.0 h2.0) in
-    let above : is_above_last_read (last_number_read (addresses before)) addr.0.0 ≡ true = subst (λ (v : ℕ × Place). is_above_last_read (last_number_read (addresses before)) v.0 ≡ true) t.1 t.0 in (
+    let above : is_above_last (last_number (addresses before)) addr.0.0 ≡ true = subst (λ (v : ℕ × Place). is_above_last (last_number (addresses before)) v.0 ≡ true) t.1 t.0 in (
       subst (λ (r : Place). Passed (bytes_of_point p) front rest r) f.1 (subst (λ (t : Point). Passed (bytes_of_point t) front rest state.0.1) f.0 all),
       subst (λ (t : Point). ArePointsOf version (before ++ t ∷ [])) f.0 (record {
         rising = rising_map_push (λ p. p.addr) before made good.rising above;
@@ -125,7 +125,7 @@ is_byte (suc zero) h = refl
 is_byte (suc (suc n)) h = absurd (omega arith)
 
 pub key_passed : (last : Option ℕ) (front rest : List ℕ) (k : Key) (q : Place) → AreBytes rest → key_after last (place_between front rest) ≡ Ok (k, q)
-    → Passed (bytes_of_key k) front rest q × IsKey k × (is_above_last_read last (number_of_key k) ≡ true)
+    → Passed (bytes_of_key k) front rest q × IsKey k × (is_above_last last (number_of_key k) ≡ true)
 unfolding key_after
 key_passed last front rest k q bytes e =
     let kind = bind_ok (u8_at (place_between front rest)) _ _ e in
@@ -143,8 +143,8 @@ key_passed last front rest k q bytes e =
     let b3 = passed_bytes h3.0 b2 in
     let is = bind_ok (u8_at prio.0.1) _ _ prio.2 in
     let h4 = byte_passed _ h3.0.after is.0.0 is.0.1 b3 (next u8_at _ h3.0 is.1) in
-    let above = bind_ok (valid_field_or_fault 3 (is_above_last_read last (key_number kept.0.0 entry.0.0 prio.0.0 is.0.0)) (place_between front rest) is.0) _ _ is.2 in
-    let t2 = checked_passed 3 (is_above_last_read last (key_number kept.0.0 entry.0.0 prio.0.0 is.0.0)) (place_between front rest) is.0 above.0 above.1 in
+    let above = bind_ok (valid_field_or_fault 3 (is_above_last last (key_number kept.0.0 entry.0.0 prio.0.0 is.0.0)) (place_between front rest) is.0) _ _ is.2 in
+    let t2 = checked_passed 3 (is_above_last last (key_number kept.0.0 entry.0.0 prio.0.0 is.0.0)) (place_between front rest) is.0 above.0 above.1 in
     let flag = bind_ok (valid_field_or_fault 4 (leb above.0.0 1) prio.0.1 above.0) _ _ above.2 in
     let t3 = checked_passed 4 (leb above.0.0 1) prio.0.1 above.0 flag.0 flag.1 in
     let one : is.0 ≡ flag.0 = t2.1 ∙ t3.1 in
@@ -160,6 +160,6 @@ key_passed last front rest k q bytes e =
     let kind_low : kind.0.0 ≤ 4 = leb-true _ _ t1.0 in (
       subst (λ (r : Place). Passed (bytes_of_key k) front rest r) end (subst (λ (x : Key). Passed (bytes_of_key x) front rest is.0.1) g all),
       subst IsKey g (record { kind = kind_low; entry = h2.1; prio = h3.1 }),
-      subst (λ (x : Key). is_above_last_read last (number_of_key x) ≡ true) g
-          (ap (λ n. is_above_last_read last (key_number kind.0.0 entry.0.0 prio.0.0 n)) (sym byte) ∙ ap (λ n. is_above_last_read last (key_number n entry.0.0 prio.0.0 is.0.0)) same ∙ t2.0),
+      subst (λ (x : Key). is_above_last last (number_of_key x) ≡ true) g
+          (ap (λ n. is_above_last last (key_number kind.0.0 entry.0.0 prio.0.0 n)) (sym byte) ∙ ap (λ n. is_above_last last (key_number n entry.0.0 prio.0.0 is.0.0)) same ∙ t2.0),
     )

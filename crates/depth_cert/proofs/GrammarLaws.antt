@@ -17,7 +17,7 @@ use Rattle.value_domain.specs.VersionLimits.{most_words_of, most_locals_of}
 use Rattle.value_domain.proofs.WordLaws.{rising_from, among_place}
 use Rattle.depth_cert.specs.Keys.{cert_flag_byte}
 use Rattle.depth_cert.specs.Points.{IsWellFormedCertValue}
-use Rattle.depth_cert.specs.Grammar.{valid_field_or_fault, flag_at, set_word_after, set_at, span_at, value_at, values_at, is_cert_span, is_above_last_read, last_number_read}
+use Rattle.depth_cert.specs.Grammar.{valid_field_or_fault, flag_at, set_word_after, set_at, span_at, value_at, values_at, is_cert_span, is_above_last, last_number}
 use Rattle.depth_cert.specs.Spelling.{bytes_of_value}
 use Rattle.depth_cert.proofs.ManyLaws.{rising_push}
 use Rattle.tcd_base.proofs.PassedLaws.{AreBytes, Passed, passed_bytes, passed_both, ok_pair, passed_test, byte_passed, word_passed, many_passed}
@@ -59,8 +59,8 @@ record AreAscending (ws : List ℕ) : Type 0 where
 word_after_passed : (before front rest : List ℕ) (x : ℕ) (q : Place) → AreBytes rest → AreAscending before → set_word_after before (place_between front rest) ≡ Ok (x, q) → Passed (bytes_of_word x) front rest q × AreAscending (before ++ x ∷ [])
 unfolding set_word_after
 word_after_passed before front rest x q bytes good e =
-    let b = bind_ok (u32_at (place_between front rest)) (λ w. valid_field_or_fault 4 (is_above_last_read (last_number_read before) w.0) (place_between front rest) w) (x, q) e in
-    let t = checked_passed 4 (is_above_last_read (last_number_read before) b.0.0) (place_between front rest) b.0 (x, q) b.2 in
+    let b = bind_ok (u32_at (place_between front rest)) (λ w. valid_field_or_fault 4 (is_above_last (last_number before) w.0) (place_between front rest) w) (x, q) e in
+    let t = checked_passed 4 (is_above_last (last_number before) b.0.0) (place_between front rest) b.0 (x, q) b.2 in
     let same : b.0.0 ≡ x = ap (λ (v : ℕ × Place). v.0) t.1 in
     let at : b.0.1 ≡ q = ap (λ (v : ℕ × Place). v.1) t.1 in
     let h = word_passed front rest x q bytes (b.1 ∙ ap (λ (v : ℕ × Place). Ok v) t.1) in

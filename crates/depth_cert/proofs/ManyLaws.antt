@@ -13,7 +13,7 @@ use Rattle.tcd_base.proofs.ManyLaws.{many_fail}
 use Rattle.depth_cert.specs.declared.errors.CertErr.{CertErr}
 use Rattle.depth_cert.specs.declared.errors.CertErr.TheVariants.{Bad, NoMemory}
 use Rattle.depth_cert.specs.Answers.{IsFaultOf}
-use Rattle.depth_cert.specs.Grammar.{is_above_last_read, last_number_read}
+use Rattle.depth_cert.specs.Grammar.{is_above_last, last_number}
 
 -- the first fault of an item, as an error says it
 pub many_fault : {A : Type 0} (item : List A → Place → Result (A × Place) FormErr) (n i : ℕ) (before : List A) (start p : Place) (e : CertErr) → i < n
@@ -22,15 +22,15 @@ many_fault item n i before start p (Bad e) h inv f = many_fail item n i before s
 many_fault item n i before start p NoMemory h inv f = tt
 
 -- ---- numbers that ascend
-pub is_above-last : (xs : List ℕ) (x : ℕ) → 1 ≤ length xs → is_above_last_read (last_number_read xs) x ≡ ltb (get_or xs (length xs - 1) 0) x
-is_above-last xs x h = ap (λ (o : Option ℕ). is_above_last_read o x) (slice_get-get_or xs (length xs - 1) 0 (omega arith))
+pub is_above-last : (xs : List ℕ) (x : ℕ) → 1 ≤ length xs → is_above_last (last_number xs) x ≡ ltb (get_or xs (length xs - 1) 0) x
+is_above-last xs x h = ap (λ (o : Option ℕ). is_above_last o x) (slice_get-get_or xs (length xs - 1) 0 (omega arith))
 
 -- the last of the numbers of items
-pub last_of-map : {A : Type 0} (f : A → ℕ) (xs : List A) → last_number_read (map f xs) ≡ option_map f (slice_get xs (length xs - 1))
+pub last_of-map : {A : Type 0} (f : A → ℕ) (xs : List A) → last_number (map f xs) ≡ option_map f (slice_get xs (length xs - 1))
 last_of-map f xs = ap (λ n. slice_get (map f xs) (n - 1)) (length-map xs f) ∙ slice_get-map f xs (length xs - 1)
 
 -- one item more is the last one
-pub last_of-push : {A : Type 0} (f : A → ℕ) (xs : List A) (x : A) → last_number_read (map f (xs ++ x ∷ [])) ≡ Some (f x)
+pub last_of-push : {A : Type 0} (f : A → ℕ) (xs : List A) (x : A) → last_number (map f (xs ++ x ∷ [])) ≡ Some (f x)
 last_of-push f xs x = last_of-map f (xs ++ x ∷ []) ∙ ap (option_map f) (ap (λ n. slice_get (xs ++ x ∷ []) n) at ∙ slice_get-get_or (xs ++ x ∷ []) (length xs) x (omega (arith, len)) ∙ ap Some (get_or-append_seam xs x [] x))
   where
     len : length (xs ++ x ∷ []) ≡ length xs + 1
@@ -39,7 +39,7 @@ last_of-push f xs x = last_of-map f (xs ++ x ∷ []) ∙ ap (option_map f) (ap (
     at : length (xs ++ x ∷ []) - 1 ≡ length xs
     at = omega (arith, len)
 
-pub rising_push : (xs : List ℕ) (x : ℕ) → IsStrictlyIncreasing xs → is_above_last_read (last_number_read xs) x ≡ true → IsStrictlyIncreasing (xs ++ x ∷ [])
+pub rising_push : (xs : List ℕ) (x : ℕ) → IsStrictlyIncreasing xs → is_above_last (last_number xs) x ≡ true → IsStrictlyIncreasing (xs ++ x ∷ [])
 rising_push xs x rising above k h =
     let len = length_push xs x in
     elim (cases_lt (k + 1) (length xs)) [
@@ -61,5 +61,5 @@ pub some_elements : (n : ℕ) → false ≡ eqb n 0 → 1 ≤ n
 some_elements zero h = cc
 some_elements (suc n) h = omega arith
 
-pub rising_map_push : {A : Type 0} (f : A → ℕ) (xs : List A) (x : A) → IsStrictlyIncreasing (map f xs) → is_above_last_read (last_number_read (map f xs)) (f x) ≡ true → IsStrictlyIncreasing (map f (xs ++ x ∷ []))
+pub rising_map_push : {A : Type 0} (f : A → ℕ) (xs : List A) (x : A) → IsStrictlyIncreasing (map f xs) → is_above_last (last_number (map f xs)) (f x) ≡ true → IsStrictlyIncreasing (map f (xs ++ x ∷ []))
 rising_map_push f xs x rising above = rw (map-append f xs (x ∷ [])) (rising_push (map f xs) (f x) rising above)

@@ -17,7 +17,7 @@ use Rattle.depth_cert.specs.Keys.{cert_flag_byte, number_of_key}
 use Rattle.depth_cert.specs.Exits.{IsExit}
 use Rattle.depth_cert.specs.Nodes.{NodeData, IsNode, count_points, key_numbers}
 use Rattle.depth_cert.specs.Certs.{CertData, IsCert}
-use Rattle.depth_cert.specs.Grammar.{last_number_read, flag_at, values_at, key_after, need_at, has_exit_at, exit_at, optional_exit_at, points_at, node_after, magic_at, version_at, node_count_at, cert_at, certificate_of}
+use Rattle.depth_cert.specs.Grammar.{last_number, flag_at, values_at, key_after, need_at, exit_flag_at, exit_at, optional_exit_at, points_at, node_after, magic_at, version_at, node_count_at, cert_at, certificate_of}
 use Rattle.depth_cert.specs.Spelling.{bytes_of_value, bytes_of_point, bytes_of_key, bytes_of_exit, bytes_of_node, bytes_of_cert}
 use Rattle.depth_cert.proofs.ManyLaws.{rising_map_push}
 use Rattle.tcd_base.proofs.PassedLaws.{AreBytes, bytes_from, Passed, passed_bytes, passed_both, ok_pair, passed_test, byte_passed, half_passed, word_passed, many_passed}
@@ -82,9 +82,9 @@ exit_or_none true version kind front rest x at q h bytes may e =
     )
 
 exits_passed : (version kind : ℕ) (front rest : List ℕ) (x : Option Exit) (q : Place) → AreBytes rest → optional_exit_at version kind (place_between front rest) ≡ Ok (x, q) → Passed (bytes_of_exit x) front rest q × IsExitOf version kind x
-unfolding optional_exit_at has_exit_at
+unfolding optional_exit_at exit_flag_at
 exits_passed version kind front rest x q bytes e =
-    let has = bind_ok (has_exit_at kind (place_between front rest)) _ _ e in
+    let has = bind_ok (exit_flag_at kind (place_between front rest)) _ _ e in
     let flag = bind_ok (flag_at (place_between front rest)) _ _ has.1 in
     let a = allowed flag.0.0 kind (record { kind = 4; at = length front }) flag.0 has.0 flag.2 in
     let h = flag_passed front rest has.0.0 has.0.1 bytes (flag.1 ∙ ap (λ (v : Bool × Place). Ok v) a.0) in
@@ -104,8 +104,8 @@ node_passed : (version : ℕ) (before : List NodeData) (front rest : List ℕ) (
     → Passed (bytes_of_node n) front rest q × AreNodesOf version (before ++ n ∷ [])
 unfolding node_after need_at
 node_passed version before front rest n q bytes good e =
-    let key = bind_ok (key_after (last_number_read (key_numbers before)) (place_between front rest)) _ _ e in
-    let h1 = key_passed (last_number_read (key_numbers before)) front rest key.0.0 key.0.1 bytes key.1 in
+    let key = bind_ok (key_after (last_number (key_numbers before)) (place_between front rest)) _ _ e in
+    let h1 = key_passed (last_number (key_numbers before)) front rest key.0.0 key.0.1 bytes key.1 in
     let b1 = passed_bytes h1.0 bytes in
     let need = bind_ok (need_at key.0.1) _ _ key.2 in
     let half = bind_ok (u16_at key.0.1) _ _ need.1 in

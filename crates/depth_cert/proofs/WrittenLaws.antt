@@ -19,7 +19,7 @@ use Rattle.value_domain.specs.Values.{any_val, span_len, is_span_of_all_words}
 use Rattle.value_domain.specs.VersionLimits.{most_words_of}
 use Rattle.depth_cert.specs.Keys.{cert_flag_byte}
 use Rattle.depth_cert.specs.Points.{IsWellFormedCertValue}
-use Rattle.depth_cert.specs.Grammar.{valid_field_or_fault, is_above_last_read, last_number_read, is_cert_span, flag_at, set_word_after, set_at, span_at, value_at, values_at}
+use Rattle.depth_cert.specs.Grammar.{valid_field_or_fault, is_above_last, last_number, is_cert_span, flag_at, set_word_after, set_at, span_at, value_at, values_at}
 use Rattle.depth_cert.specs.Spelling.{bytes_of_value}
 use Rattle.depth_cert.proofs.ManyLaws.{is_above-last}
 use Rattle.depth_cert.proofs.GrammarLaws.{width_le}
@@ -75,7 +75,7 @@ one_of P all before x after h e =
     let within : length before < length all = rw (e, length-append before (x ∷ after)) (omega arith) in
     subst P (ap (λ (l : List _). get_or l (length before) x) e ∙ get_or-append_seam before x after x) (h (length before) x within)
 
-above_before : (before : List ℕ) (x : ℕ) (after : List ℕ) → IsStrictlyIncreasing (before ++ (x ∷ after)) → is_above_last_read (last_number_read before) x ≡ true
+above_before : (before : List ℕ) (x : ℕ) (after : List ℕ) → IsStrictlyIncreasing (before ++ (x ∷ after)) → is_above_last (last_number before) x ≡ true
 above_before [] x after h = refl
 above_before (y ∷ ys) x after h =
     let before : List ℕ = y ∷ ys in
@@ -85,7 +85,7 @@ above_before (y ∷ ys) x after h =
     let rises = h (length before - 1) (omega (arith, length-append before (x ∷ after))) in
     is_above-last before x (omega arith) ∙ lt-ltb _ _ (omega arith)
 
-pub above_map : {A : Type 0} (f : A → ℕ) (all before : List A) (x : A) (after : List A) → IsStrictlyIncreasing (map f all) → all ≡ before ++ (x ∷ after) → is_above_last_read (last_number_read (map f before)) (f x) ≡ true
+pub above_map : {A : Type 0} (f : A → ℕ) (all before : List A) (x : A) (after : List A) → IsStrictlyIncreasing (map f all) → all ≡ before ++ (x ∷ after) → is_above_last (last_number (map f before)) (f x) ≡ true
 above_map f all before x after h e =
     above_before (map f before) (f x) (map f after) (subst IsStrictlyIncreasing (ap (map f) e ∙ map-append f before (x ∷ after)) h)
 
@@ -98,9 +98,9 @@ flag false = seq u8_at _ (0 ∷ []) [] 0 false (byte 0) (λ start. done false)
 word_read : (all before : List ℕ) (x : ℕ) (after : List ℕ) → IsStrictlyIncreasing all → All (λ w. w < 2 ^ 32) all → all ≡ before ++ (x ∷ after) → IsRead (set_word_after before) (bytes_of_word x) x
 unfolding set_word_after
 word_read all before x after rising below e =
-    let above : is_above_last_read (last_number_read before) x ≡ true = above_before before x after (subst IsStrictlyIncreasing e rising) in
-    subst (λ (l : List ℕ). IsRead (λ p. u32_at p >>= λ w. valid_field_or_fault 4 (is_above_last_read (last_number_read before) w.0) p w) l x) (append-nil (bytes_of_word x))
-    (seq u32_at (λ p w. valid_field_or_fault 4 (is_above_last_read (last_number_read before) w.0) p w) (bytes_of_word x) [] x x (word x (one_of (λ w. w < 2 ^ 32) all before x after below e)) (λ start. test 4 (is_above_last_read (last_number_read before) x) start x above))
+    let above : is_above_last (last_number before) x ≡ true = above_before before x after (subst IsStrictlyIncreasing e rising) in
+    subst (λ (l : List ℕ). IsRead (λ p. u32_at p >>= λ w. valid_field_or_fault 4 (is_above_last (last_number before) w.0) p w) l x) (append-nil (bytes_of_word x))
+    (seq u32_at (λ p w. valid_field_or_fault 4 (is_above_last (last_number before) w.0) p w) (bytes_of_word x) [] x x (word x (one_of (λ w. w < 2 ^ 32) all before x after below e)) (λ start. test 4 (is_above_last (last_number before) x) start x above))
 
 set_read : (version : ℕ) (ws : List ℕ) → IsStrictlyIncreasing ws → All (λ w. w < 2 ^ 32) ws → IsRead (set_at (length ws)) (flat_map bytes_of_word ws) (Set ws)
 unfolding set_at

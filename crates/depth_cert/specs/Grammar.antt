@@ -24,13 +24,13 @@ abbrev pub valid_field_or_fault : ℕ → Bool → Place → ℕ × Place → Re
 valid_field_or_fault kind good p x = if good then Ok x else field_fault_at kind p
 
 -- the last of the numbers that the grammar has read in ascending order, if there is one
-abbrev pub last_number_read : List ℕ → Option ℕ
-last_number_read xs = slice_get xs (length xs - 1)
+abbrev pub last_number : List ℕ → Option ℕ
+last_number xs = slice_get xs (length xs - 1)
 
 -- a number of a certificate is above the last one in its ascending list, if there is one
-abbrev pub is_above_last_read : Option ℕ → ℕ → Bool
-is_above_last_read None x = true
-is_above_last_read (Some last) x = nat_lt last x
+abbrev pub is_above_last : Option ℕ → ℕ → Bool
+is_above_last None x = true
+is_above_last (Some last) x = nat_lt last x
 
 -- a truth value of a certificate: a byte 0 or 1
 unfoldable pub flag_at : Place → Result (Bool × Place) FormErr
@@ -43,7 +43,7 @@ flags_at n p = many_fields_at (λ before. flag_at) n [] p
 -- ---- values
 -- a word of a Set in a certificate, above those before
 unfoldable pub set_word_after : List ℕ → Place → Result (ℕ × Place) FormErr
-set_word_after before p = u32_at p >>= λ w. valid_field_or_fault 4 (is_above_last_read (last_number_read before) w.0) p w
+set_word_after before p = u32_at p >>= λ w. valid_field_or_fault 4 (is_above_last (last_number before) w.0) p w
 
 -- a Set of n words in a certificate, each word above the one before
 unfoldable pub set_at : ℕ → Place → Result (Val × Place) FormErr
@@ -87,19 +87,19 @@ state_at version p =
 
 -- a point's address in a certificate, above the last one
 unfoldable pub address_after : Option ℕ → Place → Result (ℕ × Place) FormErr
-address_after last p = u32_at p >>= λ addr. valid_field_or_fault 3 (is_above_last_read last addr.0) p addr
+address_after last p = u32_at p >>= λ addr. valid_field_or_fault 3 (is_above_last last addr.0) p addr
 
 -- a point of a certificate: an address above those before, and the state
 unfoldable pub point_after : ℕ → List Point → Place → Result (Point × Place) FormErr
 point_after version before p =
-    address_after (last_number_read (addresses before)) p >>= λ addr. state_at version addr.1 >>= λ s. Ok (record { addr = addr.0; state = s.0 }, s.1)
+    address_after (last_number (addresses before)) p >>= λ addr. state_at version addr.1 >>= λ s. Ok (record { addr = addr.0; state = s.0 }, s.1)
 
 -- ---- nodes
 -- a key whose number is above the last; a fault of the order is at the kind, after `is` was read
 unfoldable pub key_after : Option ℕ → Place → Result (Key × Place) FormErr
 key_after last p =
     u8_at p >>= λ kind. valid_field_or_fault 4 (nat_le kind.0 4) p kind >>= λ kind. u32_at kind.1 >>= λ entry. u8_at entry.1 >>= λ prio. u8_at prio.1 >>= λ is.
-    valid_field_or_fault 3 (is_above_last_read last (key_number kind.0 entry.0 prio.0 is.0)) p is >>= λ is. valid_field_or_fault 4 (nat_le is.0 1) prio.1 is >>= λ is.
+    valid_field_or_fault 3 (is_above_last last (key_number kind.0 entry.0 prio.0 is.0)) p is >>= λ is. valid_field_or_fault 4 (nat_le is.0 1) prio.1 is >>= λ is.
     Ok (record { kind = kind.0; entry = entry.0; prio = prio.0; is = is.0 == 1 }, is.1)
 
 -- a node's need in a certificate, at most 4,096 areas
@@ -107,8 +107,8 @@ unfoldable pub need_at : Place → Result (ℕ × Place) FormErr
 need_at p = u16_at p >>= λ need. valid_field_or_fault 5 (nat_le need.0 4096) p need
 
 -- whether a certificate's node has an exit: only calls and system calls can have one
-unfoldable pub has_exit_at : ℕ → Place → Result (Bool × Place) FormErr
-has_exit_at kind p = flag_at p >>= λ exit. if exit.0 && not (kind == call_kind || kind == sys_kind) then field_fault_at 4 p else Ok exit
+unfoldable pub exit_flag_at : ℕ → Place → Result (Bool × Place) FormErr
+exit_flag_at kind p = flag_at p >>= λ exit. if exit.0 && not (kind == call_kind || kind == sys_kind) then field_fault_at 4 p else Ok exit
 
 -- a node's exit in a certificate: ie, ccpn, and the values of the 14 lower registers
 unfoldable pub exit_at : ℕ → Place → Result (Exit × Place) FormErr
@@ -118,7 +118,7 @@ exit_at version p =
 -- a node's exit, if it has one
 unfoldable pub optional_exit_at : ℕ → ℕ → Place → Result (Option Exit × Place) FormErr
 optional_exit_at version kind p =
-    has_exit_at kind p >>= λ has. if has.0 then (exit_at version has.1 >>= λ exit. Ok (Some exit.0, exit.1)) else Ok (None, has.1)
+    exit_flag_at kind p >>= λ has. if has.0 then (exit_at version has.1 >>= λ exit. Ok (Some exit.0, exit.1)) else Ok (None, has.1)
 
 -- the number of a node's points, which with those of the nodes before are at most 65,536
 unfoldable pub point_count_at : ℕ → Place → Result (ℕ × Place) FormErr
@@ -131,7 +131,7 @@ points_at version used p = point_count_at used p >>= λ n. many_fields_at (point
 -- a node whose key is above those before: the key, the need, the exit, and the points
 unfoldable pub node_after : ℕ → List NodeData → Place → Result (NodeData × Place) FormErr
 node_after version before p =
-    key_after (last_number_read (key_numbers before)) p >>= λ key. need_at key.1 >>= λ need. optional_exit_at version key.0.kind need.1 >>= λ exit. points_at version (count_points before) exit.1 >>= λ points.
+    key_after (last_number (key_numbers before)) p >>= λ key. need_at key.1 >>= λ need. optional_exit_at version key.0.kind need.1 >>= λ exit. points_at version (count_points before) exit.1 >>= λ points.
     Ok (record { key = key.0; need = need.0; exit = exit.0; points = points.0 }, points.1)
 
 -- ---- certificates

@@ -5,5 +5,5 @@ use Rattle.depth_cert.specs.Grammar.{certificate_of}
 use Rattle.depth_cert.specs.Spelling.{bytes_of_cert}
 
 -- the bytes that spell a certificate are read as this certificate
-abbrev pub SpellingIsRead : Type 0
-SpellingIsRead = (cert : CertData) → IsCert cert → certificate_of (bytes_of_cert cert) ≡ Ok cert
+abbrev pub WrittenCertsAreReadBack : Type 0
+WrittenCertsAreReadBack = (cert : CertData) → IsCert cert → certificate_of (bytes_of_cert cert) ≡ Ok cert

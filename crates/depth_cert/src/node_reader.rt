@@ -1,7 +1,7 @@
 // Reads the fields of nodes.
 ghost use Rattle.std.specs.Prelude.{◌≡◌, ◌≤◌, ◌<◌, ◌+◌, ◌^◌, Ok, Err, OnOk, IfOk, IfErr};
 ghost use Rattle.tcd_base.specs.FieldReaders.{ReadsField};
-ghost use Rattle.depth_cert.specs.Grammar.{is_above_last_read, key_after, need_at, has_exit_at, exit_at, point_count_at};
+ghost use Rattle.depth_cert.specs.Grammar.{is_above_last, key_after, need_at, exit_flag_at, exit_at, point_count_at};
 
 use crate::keys::key_number_of_fields;
 use crate::point_reader::MOST_POINTS;
@@ -46,7 +46,7 @@ pub fn read_key(c: &mut FileCursor<'_>, last: Option<u64>) -> Result<Key, FormEr
 /// Returns true if the number of a certificate's key is above `last`, the number of the key before,
 /// or if there is no key before.
 fn is_above_last_key(last: Option<u64>, number: u64) -> bool
-    ensures { result ≡ is_above_last_read last number }
+    ensures { result ≡ is_above_last last number }
 {
     match last {
         None => true,
@@ -72,9 +72,9 @@ pub fn read_need(c: &mut FileCursor<'_>) -> Result<u16, FormErr>
 
 /// Reads whether a certificate's node of this kind has an exit. An exit is a `BAD_VALUE` unless the
 /// kind is that of calls or of system calls.
-#[tactic(auto, unfolding(crate::specs::Grammar::has_exit_at))]
+#[tactic(auto, unfolding(crate::specs::Grammar::exit_flag_at))]
 pub fn read_exit_flag(c: &mut FileCursor<'_>, kind: u8) -> Result<bool, FormErr>
-    ensures { ReadsField result c.old c.new (has_exit_at kind) }
+    ensures { ReadsField result c.old c.new (exit_flag_at kind) }
 {
     let start = c.place();
     let exit = read_flag(c)?;

@@ -1,7 +1,7 @@
 // Reads the fields of points.
 ghost use Rattle.std.specs.Prelude.{◌≡◌, ◌≤◌, true, Ok, Err, IfOk, IfErr};
 ghost use Rattle.tcd_base.specs.FieldReaders.{ReadsField};
-ghost use Rattle.depth_cert.specs.Grammar.{flags_at, locals_at, address_after, is_above_last_read};
+ghost use Rattle.depth_cert.specs.Grammar.{flags_at, locals_at, address_after, is_above_last};
 
 use crate::value_reader::read_flag;
 use arrayvec::ArrayVec;
@@ -30,7 +30,7 @@ pub fn read_locals(c: &mut FileCursor<'_>, version: u8) -> Result<ArrayVec<bool,
 #[inline]
 pub fn read_address(c: &mut FileCursor<'_>, last: Option<u32>) -> Result<u32, FormErr>
     ensures read { ReadsField result c.old c.new (address_after last) }
-    ensures next { IfOk result (λ addr. is_above_last_read last addr ≡ true) }
+    ensures next { IfOk result (λ addr. is_above_last last addr ≡ true) }
 {
     let start = c.place();
     let addr = read_u32(c)?;
@@ -59,7 +59,7 @@ fn read_flags(c: &mut FileCursor<'_>, count: u8) -> Result<ArrayVec<bool, 8>, Fo
 /// Returns true if the address of a certificate's point is above `last`, that of the point before,
 /// or if there is no point before.
 fn is_above_last_address(last: Option<u32>, addr: u32) -> bool
-    ensures { result ≡ is_above_last_read last addr }
+    ensures { result ≡ is_above_last last addr }
 {
     match last {
         None => true,

@@ -4,7 +4,7 @@ ghost use Rattle.tcd_base.specs.FieldReaders.{ReadsField};
 ghost use Rattle.tcd_base.specs.Place.{place_moved_to};
 ghost use Rattle.value_domain.specs.declared.values.Val.TheVariants.{Set};
 ghost use Rattle.std.specs.List.Sorted.{IsStrictlyIncreasing};
-ghost use Rattle.depth_cert.specs.Grammar.{flag_at, set_word_after, set_at, span_at, value_at, values_at, is_above_last_read, is_cert_span, last_number_read};
+ghost use Rattle.depth_cert.specs.Grammar.{flag_at, set_word_after, set_at, span_at, value_at, values_at, is_above_last, is_cert_span, last_number};
 
 use arrayvec::ArrayVec;
 use tcd_base::{BAD_VALUE, FileCursor, FormErr, form_err_at, read_u8, read_u32};
@@ -96,7 +96,7 @@ pub fn read_values(c: &mut FileCursor<'_>, version: u8, out: &mut [Val]) -> Resu
 #[tactic(auto, unfolding(crate::specs::Grammar::set_word_after))]
 fn read_set_word(c: &mut FileCursor<'_>, before: &[u32]) -> Result<u32, FormErr>
     ensures read { ReadsField result c.old c.new (set_word_after before.now) }
-    ensures next { IfOk result (λ w. is_above_last_read (last_number_read before.now) w ≡ true) }
+    ensures next { IfOk result (λ w. is_above_last (last_number before.now) w ≡ true) }
 {
     let at = c.place();
     let word = read_u32(c)?;
@@ -119,7 +119,7 @@ fn overwrite_with_set(words: &[u32], out: &mut Val)
 /// Returns true if `x` is above the words of a certificate's Set that were read before, or if there
 /// are none.
 fn is_above_last_word(before: &[u32], x: u32) -> bool
-    ensures { result ≡ is_above_last_read (last_number_read before.now) x }
+    ensures { result ≡ is_above_last (last_number before.now) x }
 {
     before.is_empty() || before[before.len() - 1] < x
 }

@@ -8,7 +8,7 @@ use Rattle.depth_cert.specs.Certs.{CertData}
 use Rattle.cfg_recover.specs.Entries.{start_key, start_state}
 use Rattle.cfg_recover.specs.RulesHoldOrFail.{HasCoveringPoint, Accepts, certified_need}
 use Rattle.cfg_recover.proofs.FaultLaws.{fails_refutes, first_faults_say}
-use Rattle.depth_check.specs.AnswerLaws.{YesSays, AllAnswersSay}
+use Rattle.depth_check.specs.AnswerLaws.{YesSays, AnswersSayNeedOrFirstFault}
 
 yes_says : (image : ImageData) (plan : PlanData) (cert : CertData) (n : ℕ) (o : Option NodeData) → IsPlan plan → Accepts image plan cert → n ≡ certified_need image plan cert → n ≤ plan.areas - plan.reserve
     → find_node (start_key image plan) cert.nodes ≡ o → IsSomeAnd o (λ n. HasCoveringPoint n image.entry (start_state plan)) → YesSays image plan cert n
@@ -21,7 +21,7 @@ yes_says image plan cert n (Some node) is_plan accepts need room found start = r
   holds = λ r k p fails. fails_refutes image plan cert r k p fails accepts;
 }
 
-pub answers_say : AllAnswersSay
+pub answers_say : AnswersSayNeedOrFirstFault
 answers_say image plan cert entry is_plan is_cert = record {
   yes = λ n h. yes_says image plan cert n (find_node (start_key image plan) cert.nodes) is_plan h.0 h.1 h.2 refl (h.0).start;
   safe = λ n h. h;

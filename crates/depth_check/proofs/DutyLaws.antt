@@ -23,7 +23,7 @@ use Rattle.cfg_recover.specs.declared.local_rules.Located.{Located}
 use Rattle.cfg_recover.specs.LocalFaults.{IsFaultlessShape}
 use Rattle.cfg_recover.specs.Entries.{irq_key, irq_entry, possible_irqs_of, entered_key}
 use Rattle.depth_cert.specs.Exits.{exit_of_state}
-use Rattle.cfg_recover.specs.Duties.{Owed, owed, jump, enter, resume, leave, jumps_to, successor_duties_of, entry_duties_of, misaligned_duties_of, interrupt_duties_of, exit_duties_of, duties_of}
+use Rattle.cfg_recover.specs.Duties.{Owed, owed, jump, enter, resume, leave, jump_duties_to, successor_duties_of, entry_duties_of, misaligned_duties_of, interrupt_duties_of, exit_duties_of, duties_of}
 use Rattle.cfg_recover.specs.FlowDuties.{duties_of_flow_return, duties_of_irqs, duties_of_leaving, flow_leave_of}
 use Rattle.cfg_recover.specs.RulesHoldOrFail.{HasCoveringPoint}
 use Rattle.cfg_recover.proofs.AccessDuties.{owes_no_access}
@@ -48,24 +48,24 @@ duties_append cert node s xs ys a b f g =
 
 -- ---- jumps
 -- duties that are all jumps, of one rule
-jump_part : (cert : CertData) (node : NodeData) (s t : State) (q x : ℕ) (xs : List ℕ) → (4 ≡ q → HasCoveringPoints node t (x ∷ xs)) → DutiesHold cert node s (jumps_to t xs) q → DutiesHold cert node s (jumps_to t (x ∷ xs)) q
+jump_part : (cert : CertData) (node : NodeData) (s t : State) (q x : ℕ) (xs : List ℕ) → (4 ≡ q → HasCoveringPoints node t (x ∷ xs)) → DutiesHold cert node s (jump_duties_to t xs) q → DutiesHold cert node s (jump_duties_to t (x ∷ xs)) q
 jump_part cert node s t q x xs h rest =
-    All-cons (DutyHolds cert node s q) (owed 4 (jump x t)) (jumps_to t xs) (record { met = λ e. All-head (λ y. HasCoveringPoint node y t) x xs (h e); need = λ e. tt }) rest
+    All-cons (DutyHolds cert node s q) (owed 4 (jump x t)) (jump_duties_to t xs) (record { met = λ e. All-head (λ y. HasCoveringPoint node y t) x xs (h e); need = λ e. tt }) rest
 
-jump_to : (cert : CertData) (node : NodeData) (s t : State) (q : ℕ) (xs : List ℕ) → (4 ≡ q → HasCoveringPoints node t xs) → DutiesHold cert node s (jumps_to t xs) q
+jump_to : (cert : CertData) (node : NodeData) (s t : State) (q : ℕ) (xs : List ℕ) → (4 ≡ q → HasCoveringPoints node t xs) → DutiesHold cert node s (jump_duties_to t xs) q
 jump_to cert node s t q [] h = All-nil (DutyHolds cert node s q)
 jump_to cert node s t q (x ∷ xs) h = jump_part cert node s t q x xs h (jump_to cert node s t q xs (λ e. All-tail (λ y. HasCoveringPoint node y t) x xs (h e)))
 
-jump_from : (cert : CertData) (node : NodeData) (s t : State) (q : ℕ) (xs : List ℕ) → 4 ≡ q → DutiesHold cert node s (jumps_to t xs) q → HasCoveringPoints node t xs
+jump_from : (cert : CertData) (node : NodeData) (s t : State) (q : ℕ) (xs : List ℕ) → 4 ≡ q → DutiesHold cert node s (jump_duties_to t xs) q → HasCoveringPoints node t xs
 jump_from cert node s t q [] e h = All-nil (λ y. HasCoveringPoint node y t)
 jump_from cert node s t q (x ∷ xs) e h =
-    All-cons (λ y. HasCoveringPoint node y t) x xs ((All-head (DutyHolds cert node s q) (owed 4 (jump x t)) (jumps_to t xs) h).met e)
-    (jump_from cert node s t q xs e (All-tail (DutyHolds cert node s q) (owed 4 (jump x t)) (jumps_to t xs) h))
+    All-cons (λ y. HasCoveringPoint node y t) x xs ((All-head (DutyHolds cert node s q) (owed 4 (jump x t)) (jump_duties_to t xs) h).met e)
+    (jump_from cert node s t q xs e (All-tail (DutyHolds cert node s q) (owed 4 (jump x t)) (jump_duties_to t xs) h))
 
 -- jumps with one state, from the test of all of them
-pub points_found : (cert : CertData) (node : NodeData) (s t : State) (xs : List ℕ) (b : Bool) → (IsTrue b ↔ HasCoveringPoints node t xs) → FindsLeastBroken (DutiesHold cert node s (jumps_to t xs)) (broken_rule_unless b 4)
+pub points_found : (cert : CertData) (node : NodeData) (s t : State) (xs : List ℕ) (b : Bool) → (IsTrue b ↔ HasCoveringPoints node t xs) → FindsLeastBroken (DutiesHold cert node s (jump_duties_to t xs)) (broken_rule_unless b 4)
 points_found cert node s t xs b d =
-    found_same (λ q. 4 ≡ q → HasCoveringPoints node t xs) (DutiesHold cert node s (jumps_to t xs)) (broken_rule_unless b 4) (λ q h. jump_to cert node s t q xs h) (λ q h e. jump_from cert node s t q xs e h)
+    found_same (λ q. 4 ≡ q → HasCoveringPoints node t xs) (DutiesHold cert node s (jump_duties_to t xs)) (broken_rule_unless b 4) (λ q h. jump_to cert node s t q xs h) (λ q h e. jump_from cert node s t q xs e h)
     (found_by b 4 (HasCoveringPoints node t xs) (omega arith) d)
 
 -- a single jump

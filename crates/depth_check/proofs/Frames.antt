@@ -2,7 +2,7 @@
 use Rattle.std.proofs.Common.{◌≡◌, ◌≢◌, ℕ, suc, ◌+◌, ◌*◌, ◌/◌, ◌^◌, ◌<◌, ◌≤◌, ◌⊎◌, Bool, true, false, List, [], ◌∷◌, ◌++◌, length, get_or, Some, refl, sym, ap, ◌∙◌, subst, arith, length-append}
 use Rattle.std.proofs.lemmas.List.{append-nil}
 use Rattle.csa_chain.specs.MemoryBytes.{Memory}
-use Rattle.csa_chain.specs.Chain.{link_in, is_area, area_word}
+use Rattle.csa_chain.specs.Chain.{link_in, is_area_mapped, area_word}
 use Rattle.csa_chain.specs.ContextWords.{ul_of, pie_of, pcpn_of}
 use Rattle.csa_chain.proofs.ChainLaws.{Links, SameAreas, SameArea, is_area_same, area_word_same}
 use Rattle.csa_chain.proofs.ContextLaws.{upper_regs, lower_regs, global_regs}
@@ -76,7 +76,7 @@ pub record Local (core : Core) (mem : Memory) (pcxi back l : ℕ) (flag : Bool) 
   pub some : l ≢ 0
   pub named : link_in pcxi ≡ l
   pub ul : ul_of core pcxi ≡ false
-  pub area : is_area mem l ≡ true
+  pub area : is_area_mapped mem l ≡ true
   pub a11_is : area_word mem l 1 ≡ back
   pub kept : flag ≡ true → (j : ℕ) → j < 14 → area_word mem l (suc (suc j)) ≡ word0 (get_or lower_regs j 0)
 
@@ -98,7 +98,7 @@ pub record Entry (plan : PlanData) (cert : CertData) (core : Core) (mem : Memory
   pub some : entry ≢ 0
   pub named : link_in pcxi ≡ entry
   pub ul : ul_of core pcxi ≡ true
-  pub area : is_area mem entry ≡ true
+  pub area : is_area_mapped mem entry ≡ true
   pub stands : Stands cert suspended.node
   pub same_back : back ≡ back0
   pub need : 1 + length suspended.locals + node.need ≤ (suspended.node).need

@@ -8,7 +8,7 @@ use Rattle.elf_image.specs.Images.{ImageData}
 use Rattle.tcd_plan.specs.PlanData.{PlanData}
 use Rattle.tc_machine.specs.declared.state.Machine.{Machine}
 use Rattle.tc_machine.specs.Machine.{reg, a10, is_interrupt_stack_used, AreRegisters, IsMachine}
-use Rattle.tc_machine.specs.Handlers.{handler_psw, handler_stack}
+use Rattle.tc_machine.specs.Handlers.{handler_psw, handler_stack_pointer}
 use Rattle.tc_machine.proofs.Words.{register_lt, AreRegisters-set}
 use Rattle.value_domain.specs.declared.states.State.{State}
 use Rattle.value_domain.specs.declared.values.Val.{Val}
@@ -16,7 +16,7 @@ use Rattle.value_domain.specs.Values.{IsMember, any_val, word_val}
 use Rattle.vd_transfer.specs.Registers.{register_slot, with_slot_value}
 use Rattle.depth_cert.specs.Nodes.{NodeData}
 use Rattle.depth_cert.specs.Certs.{CertData, IsCert}
-use Rattle.cfg_recover.specs.Entries.{irq_key, sys_key, aln_key, irq_entry, sys_entry, aln_entry, entry_stack_of, state_with_stack, handler_key}
+use Rattle.cfg_recover.specs.Entries.{irq_key, sys_key, aln_key, irq_entry, sys_entry, aln_entry, handler_entry_sp_of, state_with_only_a10, handler_key}
 use Rattle.depth_cert.specs.Exits.{state_after_return}
 use Rattle.cfg_recover.specs.RulesHoldOrFail.{Accepts}
 use Rattle.cfg_recover.proofs.EntryLaws.{holds_covered, holds_irq, holds_aln, holds_sys, entry_length, aln_length, sys_length, stack_member, holds_after_system}
@@ -35,12 +35,12 @@ set_none : (s : State) (v : Val) (o : Option ℕ) → length (with_slot_value s 
 set_none s v (Some i) = refl
 set_none s v None = refl
 
-pub entry_none : (sp : Val) (ie : Bool) (ccpn : ℕ) (lower : Bool) → length (state_with_stack sp ie ccpn lower).locals.items ≡ 0
+pub entry_none : (sp : Val) (ie : Bool) (ccpn : ℕ) (lower : Bool) → length (state_with_only_a10 sp ie ccpn lower).locals.items ≡ 0
 entry_none sp ie ccpn lower = set_none (record { regs = replicate 27 any_val; ie = ie; ccpn = ccpn; lower = lower; locals = record { items = [] } }) sp (register_slot 26)
 
 -- A0 to A15 at the entry of a handler
 abbrev pub handler_a : Machine → ℕ → List ℕ
-handler_a m back = set (set m.a 11 back) 10 (handler_stack m)
+handler_a m back = set (set m.a 11 back) 10 (handler_stack_pointer m)
 
 module _ (image : ImageData) (plan : PlanData) (cert : CertData) (most : ℕ) (is_cert : IsCert cert) (accepted : Accepts image plan cert) where
   module _ (m : Machine) (words : IsMachine m) (frame : Frame) (below : List Frame) (k : Invariant image plan cert most m frame below) (regs : length ((k.point).state).regs ≡ 27) where
@@ -48,23 +48,23 @@ module _ (image : ImageData) (plan : PlanData) (cert : CertData) (most : ℕ) (i
       handler_back : get_or (handler_a m back) 11 0 ≡ back
       handler_back =
           let long = (words.a).count in
-          get_or-set_other (set m.a 11 back) 10 11 (handler_stack m) 0 (omega arith) ∙ get_or-set_same m.a 11 back 0 (omega arith)
+          get_or-set_other (set m.a 11 back) 10 11 (handler_stack_pointer m) 0 (omega arith) ∙ get_or-set_same m.a 11 back 0 (omega arith)
 
-      handler_sp : reg_of d (handler_a m back) 26 ≡ handler_stack m
-      handler_sp = let long = (words.a).count in get_or-set_same (set m.a 11 back) 10 (handler_stack m) 0 (omega (arith, length-set {A = ℕ}))
+      handler_sp : reg_of d (handler_a m back) 26 ≡ handler_stack_pointer m
+      handler_sp = let long = (words.a).count in get_or-set_same (set m.a 11 back) 10 (handler_stack_pointer m) 0 (omega (arith, length-set {A = ℕ}))
 
       handler_same : (r : ℕ) → r ≢ 15 → r ≢ 26 → r ≢ 27 → reg_of d (handler_a m back) r ≡ reg m r
-      handler_same r n15 n26 n27 = d_same (handler_a m back) r n15 ∙ set_a10 m.d (set m.a 11 back) (handler_stack m) r n26 ∙ set_a11 m.d m.a back r n27
+      handler_same r n15 n26 n27 = d_same (handler_a m back) r n15 ∙ set_a10 m.d (set m.a 11 back) (handler_stack_pointer m) r n26 ∙ set_a11 m.d m.a back r n27
 
       handler_small : (r : ℕ) → reg_of d (handler_a m back) r < 2 ^ 32
       handler_small r =
           reg_of_lt d (handler_a m back) ds
-          (AreRegisters-set (set m.a 11 back) 10 (handler_stack m) (cond_both (is_interrupt_stack_used m.psw) (a10 m) m.isp (λ w. w < 2 ^ 32) (λ _. register_lt m.a words.a 10) (λ _. words.isp)) (AreRegisters-set m.a 11 back small words.a)) r
+          (AreRegisters-set (set m.a 11 back) 10 (handler_stack_pointer m) (cond_both (is_interrupt_stack_used m.psw) (a10 m) m.isp (λ w. w < 2 ^ 32) (λ _. register_lt m.a words.a 10) (λ _. words.isp)) (AreRegisters-set m.a 11 back small words.a)) r
 
       handler_lower : LowerSame (reg m) (reg_of d (handler_a m back))
       handler_lower r low = handler_same r (lower_not r 15 refl low) (lower_not r 26 refl low) (lower_not r 27 refl low)
 
-      handler_member : IsMember (reg_of d (handler_a m back) 26) (entry_stack_of plan (frame.node).key (k.point).state)
+      handler_member : IsMember (reg_of d (handler_a m back) 26) (handler_entry_sp_of plan (frame.node).key (k.point).state)
       handler_member = rw handler_sp (stack_member plan (frame.node).key m (k.point).state m.ie m.ccpn k.is k.isp k.inside)
 
       handler_address : (r : ℕ) → 16 ≤ r → r < 26 → reg_of d (handler_a m back) r ≡ reg m r
@@ -92,10 +92,10 @@ module _ (image : ImageData) (plan : PlanData) (cert : CertData) (most : ℕ) (i
             point = at.point;
             found = rw k.biv at.found;
             inside =
-                holds_covered plan (at.point).state (irq_entry plan (frame.node).key (k.point).state irq) (reg_of m.d (handler_a m m.pc)) false irq at.covers (entry_length (entry_stack_of plan (frame.node).key (k.point).state) false irq true)
+                holds_covered plan (at.point).state (irq_entry plan (frame.node).key (k.point).state irq) (reg_of m.d (handler_a m m.pc)) false irq at.covers (entry_length (handler_entry_sp_of plan (frame.node).key (k.point).state) false irq true)
                 (holds_irq plan (frame.node).key (k.point).state (reg m) (reg_of m.d (handler_a m m.pc)) m.ie m.ccpn k.inside (handler_member m.d words.d same m.pc words.pc) irq (λ r lt. handler_small m.d words.d same m.pc words.pc r)
                 (handler_address m.d words.d same m.pc words.pc));
-            none = implied_length ((at.point).state).locals.items ((irq_entry plan (frame.node).key (k.point).state irq).locals.items) (at.covers).locals ∙ entry_none (entry_stack_of plan (frame.node).key (k.point).state) false irq true;
+            none = implied_length ((at.point).state).locals.items ((irq_entry plan (frame.node).key (k.point).state irq).locals.items) (at.covers).locals ∙ entry_none (handler_entry_sp_of plan (frame.node).key (k.point).state) false irq true;
             is = handler_is m.psw ∙ sym (ap (λ k. k.is) found.key);
             lower = handler_lower m.d words.d same m.pc words.pc;
             goes_on = goes_back node (inl (ap (λ k. k.kind) found.key));
@@ -136,7 +136,7 @@ module _ (image : ImageData) (plan : PlanData) (cert : CertData) (most : ℕ) (i
                 (λ r lt. handler_small (set m.d 15 4) ds same m.pc words.pc r) (handler_address (set m.d 15 4) ds same m.pc words.pc) (trap_tin 4 four m.pc words.pc (handler_a m m.pc)));
             none =
                 implied_length ((at.point).state).locals.items ((aln_entry plan (frame.node).key (k.point).state).locals.items) (at.covers).locals
-                ∙ set_none (state_with_stack (entry_stack_of plan (frame.node).key (k.point).state) false ((k.point).state).ccpn true) (word_val 4) (register_slot 15) ∙ entry_none (entry_stack_of plan (frame.node).key (k.point).state) false ((k.point).state).ccpn true;
+                ∙ set_none (state_with_only_a10 (handler_entry_sp_of plan (frame.node).key (k.point).state) false ((k.point).state).ccpn true) (word_val 4) (register_slot 15) ∙ entry_none (handler_entry_sp_of plan (frame.node).key (k.point).state) false ((k.point).state).ccpn true;
             is = handler_is m.psw ∙ sym (ap (λ k. k.is) found.key);
             lower = handler_lower (set m.d 15 4) ds same m.pc words.pc;
             goes_on = goes_back node (inr (ap (λ k. k.kind) found.key));

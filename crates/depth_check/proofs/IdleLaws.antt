@@ -18,7 +18,7 @@ use Rattle.depth_cert.specs.Certs.{CertData}
 use Rattle.cfg_recover.specs.Code.{IsCode}
 use Rattle.cfg_recover.specs.LocalRules.{direct_target, targets_of, LocalRuleHolds}
 use Rattle.cfg_recover.specs.LocalFaults.{IsFaultless}
-use Rattle.cfg_recover.specs.Duties.{owed, jump, jumps_to, successor_duties_of, entry_duties_of, misaligned_duties_of, interrupt_duties_of, exit_duties_of, duties_of}
+use Rattle.cfg_recover.specs.Duties.{owed, jump, jump_duties_to, successor_duties_of, entry_duties_of, misaligned_duties_of, interrupt_duties_of, exit_duties_of, duties_of}
 use Rattle.cfg_recover.proofs.LocalLaws.{LocalHolds-found}
 use Rattle.depth_check.specs.LeastBroken.{FindsLeastBroken, lesser_broken_rule}
 use Rattle.depth_check.specs.DutiesHold.{DutiesHold}
@@ -81,7 +81,7 @@ found_of b image plan cert node p s Nothing n next on irqs h j i =
     (nothing_found cert node s) (nothing_found cert node s) i (nothing_found cert node s)
 found_of b image plan cert node p s (Jump to) n next on irqs h j i =
     alone_found b image plan cert node p s (Jump to) n on irqs
-    (subst (λ (o : Option (List ℕ)). FindsLeastBroken (DutiesHold cert node s (jumps_to s (unwrap_or o []))) on) (sym (known_target plan s p to next h)) j)
+    (subst (λ (o : Option (List ℕ)). FindsLeastBroken (DutiesHold cert node s (jump_duties_to s (unwrap_or o []))) on) (sym (known_target plan s p to next h)) j)
     (nothing_found cert node s) (nothing_found cert node s) i (nothing_found cert node s)
 found_of b image plan cert node p s shape n next on irqs h j i = absurd h
 

@@ -25,7 +25,7 @@ use Rattle.depth_cert.specs.Points.{find_point}
 use Rattle.depth_cert.specs.Nodes.{NodeData, find_node}
 use Rattle.depth_cert.specs.Certs.{CertData}
 use Rattle.cfg_recover.specs.Code.{HasCode}
-use Rattle.cfg_recover.specs.Entries.{irq_key, irq_entry, state_with_stack, entry_stack_of, possible_irqs_of, entry_stack_from_a10}
+use Rattle.cfg_recover.specs.Entries.{irq_key, irq_entry, state_with_only_a10, handler_entry_sp_of, possible_irqs_of, handler_entry_sp_from_a10}
 use Rattle.cfg_recover.specs.LocalFaults.{IsFaultless}
 use Rattle.cfg_recover.specs.Duties.{Owed, owed, enter, successor_duties_of, entry_duties_of, misaligned_duties_of, interrupt_duties_of, exit_duties_of, duties_of}
 use Rattle.cfg_recover.specs.FlowDuties.{duties_of_irqs}
@@ -36,7 +36,7 @@ use Rattle.depth_check.specs.declared.last_interrupts.InterruptContext.{Interrup
 use Rattle.depth_check.specs.declared.last_interrupts.LastInterrupts.{LastInterrupts}
 use Rattle.depth_check.specs.LeastBroken.{FindsLeastBroken}
 use Rattle.depth_check.specs.DutiesHold.{DutyHolds, DutiesHold}
-use Rattle.depth_check.specs.Interrupts.{IsContextExceptStack, FitsContext, InterruptsHold, InterruptsHoldInContext, AreStacksWellFormed, LastInterruptsHold, InterruptsHoldWithStack}
+use Rattle.depth_check.specs.Interrupts.{IsContextExceptSp, FitsContext, InterruptsHold, InterruptsHoldInContext, HasWellFormedSps, LastInterruptsHold, InterruptsHoldWithSp}
 use Rattle.depth_check.proofs.DutyLaws.{All-left, All-right}
 use Rattle.depth_check.proofs.RuleLaws.{holds_from}
 use Rattle.depth_check.proofs.NarrowLaws.{apart, covers_trans, found_more}
@@ -68,12 +68,12 @@ stacks_below true false v w x e h = absurd (let no : false ≡ true = e in cc)
 stacks_below false true v w x e h = absurd (let no : true ≡ false = e in cc)
 stacks_below false false v w x e h = λ z m. m
 
-stack_below : (plan : PlanData) (key other : Key) (sp : Val) (t : State) → key.is ≡ other.is → (IsTrue key.is → IsBelow (slice_index_or t.regs 22 any_val) sp) → IsBelow (entry_stack_of plan other t) (entry_stack_from_a10 plan key sp)
+stack_below : (plan : PlanData) (key other : Key) (sp : Val) (t : State) → key.is ≡ other.is → (IsTrue key.is → IsBelow (slice_index_or t.regs 22 any_val) sp) → IsBelow (handler_entry_sp_of plan other t) (handler_entry_sp_from_a10 plan key sp)
 unfolding register_slot
 stack_below plan key other sp t e h = stacks_below other.is key.is (slice_index_or t.regs 22 any_val) sp (word_val plan.isp) e h
 
 -- the entries that hold in a state hold with its own A10
-own_stack : (plan : PlanData) (cert : CertData) (node : NodeData) (s : State) → InterruptsHold plan cert node s → InterruptsHoldWithStack plan cert node s (slice_index_or s.regs 22 any_val)
+own_stack : (plan : PlanData) (cert : CertData) (node : NodeData) (s : State) → InterruptsHold plan cert node s → InterruptsHoldWithSp plan cert node s (slice_index_or s.regs 22 any_val)
 unfolding register_slot
 own_stack plan cert node s h = h
 
@@ -86,25 +86,25 @@ pub own_value : (b : Limits) (s t : State) (v w : Val) → s ≡ t → 22 < leng
 own_value b s t v w e lt at same values =
     subst (IsInLattice b) (sym (own_is s.regs t.regs v w (ap (λ (u : State). u.regs) e) lt at same)) (values 22 (subst (λ (u : State). 22 < length u.regs) e lt))
 
-pub own_holds : (plan : PlanData) (cert : CertData) (node : NodeData) (s t : State) (v w : Val) → s ≡ t → 22 < length s.regs → v ≡ get_or s.regs 22 v → w ≡ v → InterruptsHold plan cert node t → InterruptsHoldWithStack plan cert node t w
+pub own_holds : (plan : PlanData) (cert : CertData) (node : NodeData) (s t : State) (v w : Val) → s ≡ t → 22 < length s.regs → v ≡ get_or s.regs 22 v → w ≡ v → InterruptsHold plan cert node t → InterruptsHoldWithSp plan cert node t w
 own_holds plan cert node s t v w e lt at same holds =
-    subst (InterruptsHoldWithStack plan cert node t) (sym (own_is s.regs t.regs v w (ap (λ (u : State). u.regs) e) lt at same)) (own_stack plan cert node t holds)
+    subst (InterruptsHoldWithSp plan cert node t) (sym (own_is s.regs t.regs v w (ap (λ (u : State). u.regs) e) lt at same)) (own_stack plan cert node t holds)
 
 -- the duties of the entries with another A10
-told_stack : (plan : PlanData) (is : Bool) (s entry : State) (sp : Val) (n : ℕ) (irqs : List ℕ) → entry ≡ state_with_stack sp false n true → irqs ≡ possible_irqs_of plan s → IsTrue is
-    → duties_of_irqs plan entry irqs ≡ map (λ p. owed 11 (enter (irq_key plan p) (state_with_stack (if is then sp else word_val plan.isp) false p true))) (possible_irqs_of plan s)
+told_stack : (plan : PlanData) (is : Bool) (s entry : State) (sp : Val) (n : ℕ) (irqs : List ℕ) → entry ≡ state_with_only_a10 sp false n true → irqs ≡ possible_irqs_of plan s → IsTrue is
+    → duties_of_irqs plan entry irqs ≡ map (λ p. owed 11 (enter (irq_key plan p) (state_with_only_a10 (if is then sp else word_val plan.isp) false p true))) (possible_irqs_of plan s)
 unfolding register_slot
-told_stack plan true s entry sp n irqs e f on = ap (λ (t : State). duties_of_irqs plan t irqs) e ∙ ap (λ (l : List ℕ). duties_of_irqs plan (state_with_stack sp false n true) l) f
+told_stack plan true s entry sp n irqs e f on = ap (λ (t : State). duties_of_irqs plan t irqs) e ∙ ap (λ (l : List ℕ). duties_of_irqs plan (state_with_only_a10 sp false n true) l) f
 told_stack plan false s entry sp n irqs e f on = absurd (let no : false ≡ true = on in cc)
 
 -- so the entries hold with it
-pub other_stack : (plan : PlanData) (cert : CertData) (node : NodeData) (s entry : State) (sp : Val) (n : ℕ) (irqs : List ℕ) → entry ≡ state_with_stack sp false n true → irqs ≡ possible_irqs_of plan s → IsTrue (node.key).is
-    → FindsLeastBroken (DutiesHold cert node s (duties_of_irqs plan entry irqs)) None → InterruptsHoldWithStack plan cert node s sp
+pub other_stack : (plan : PlanData) (cert : CertData) (node : NodeData) (s entry : State) (sp : Val) (n : ℕ) (irqs : List ℕ) → entry ≡ state_with_only_a10 sp false n true → irqs ≡ possible_irqs_of plan s → IsTrue (node.key).is
+    → FindsLeastBroken (DutiesHold cert node s (duties_of_irqs plan entry irqs)) None → InterruptsHoldWithSp plan cert node s sp
 other_stack plan cert node s entry sp n irqs e f on h q = subst (λ (l : List Owed). DutiesHold cert node s l q) (told_stack plan (node.key).is s entry sp n irqs e f on) (h q)
 
 -- a change that puts A10 alone, over unknown values, gives the state at an entry
 pub entered_state : (s : State) (sp : Val) (n : ℕ) (p q r : RegisterWrite) (l : ArrayVec Bool) → p ≡ register_write 26 sp → q ≡ no_write → r ≡ no_write → l ≡ record { items = [] }
-    → state_after s (record { base = Any; first = p; second = q; third = r; ie = false; ccpn = n; lower = true; locals = l }) ≡ state_with_stack sp false n true
+    → state_after s (record { base = Any; first = p; second = q; third = r; ie = false; ccpn = n; lower = true; locals = l }) ≡ state_with_only_a10 sp false n true
 entered_state s sp n p q r l e f g h =
     let made : RegisterWrite → RegisterWrite → RegisterWrite → ArrayVec Bool → State = λ a b c d. state_after s (record { base = Any; first = a; second = b; third = c; ie = false; ccpn = n; lower = true; locals = d }) in
     ap (λ (x : RegisterWrite). made x q r l) e
@@ -128,7 +128,7 @@ put_below vs v w i r lt h =
     ]
 
 -- the state at an entry with a greater A10 covers the state with a smaller one
-entry_covers : (v w : Val) (p : ℕ) → IsBelow w v → Covers (state_with_stack v false p true) (state_with_stack w false p true)
+entry_covers : (v w : Val) (p : ℕ) → IsBelow w v → Covers (state_with_only_a10 v false p true) (state_with_only_a10 w false p true)
 unfolding register_slot
 entry_covers v w p h = record {
   regs = λ r lt. put_below (replicate 27 any_val) v w 22 r (omega (arith, length-replicate 27 any_val)) h;
@@ -167,17 +167,17 @@ less_needed cert node other s t q room keys entry less (p ∷ ps) f le more h =
     (less_needed cert node other s t q room keys entry less ps f le more (All-tail (DutyHolds cert node s q) (told p) (map told ps) h))
 
 -- the entries hold in each state below a context in which they hold
-pub below_context : (plan : PlanData) (cert : CertData) (node other : NodeData) (context : InterruptContext) (s t : State) → IsContextExceptStack context node s → FitsContext context other t → InterruptsHoldWithStack plan cert node s context.sp → InterruptsHold plan cert other t
+pub below_context : (plan : PlanData) (cert : CertData) (node other : NodeData) (context : InterruptContext) (s t : State) → IsContextExceptSp context node s → FitsContext context other t → InterruptsHoldWithSp plan cert node s context.sp → InterruptsHold plan cert other t
 below_context plan cert node other context s t a b h q =
     let like = b.like in
     let irqs : possible_irqs_of plan s ≡ possible_irqs_of plan t = ap (λ (x : Bool). taken plan x s.ccpn) (sym a.ie ∙ like.ie) ∙ ap (λ (n : ℕ). taken plan t.ie n) (sym a.ccpn ∙ like.ccpn) in
-    let v = entry_stack_from_a10 plan node.key context.sp in
-    let w = entry_stack_of plan other.key t in
+    let v = handler_entry_sp_from_a10 plan node.key context.sp in
+    let w = handler_entry_sp_of plan other.key t in
     let low : IsBelow w v = stack_below plan node.key other.key context.sp t (sym a.is ∙ like.is) (λ y. b.sp (a.is ∙ y)) in
-    less_needed cert node other s t q context.spare (λ p. irq_key plan p) (λ p. state_with_stack v false p true) (λ p. irq_entry plan other.key t p) (possible_irqs_of plan t)
-    (λ p upper c. covers_trans upper (state_with_stack v false p true) (state_with_stack w false p true) (entry_length w false p true ∙ sym (entry_length v false p true)) c (entry_covers v w p low))
+    less_needed cert node other s t q context.spare (λ p. irq_key plan p) (λ p. state_with_only_a10 v false p true) (λ p. irq_entry plan other.key t p) (possible_irqs_of plan t)
+    (λ p upper c. covers_trans upper (state_with_only_a10 v false p true) (state_with_only_a10 w false p true) (entry_length w false p true ∙ sym (entry_length v false p true)) c (entry_covers v w p low))
     (omega (arith, a.spare)) like.spare
-    (subst (λ (l : List ℕ). DutiesHold cert node s (map (λ p. owed 11 (enter (irq_key plan p) (state_with_stack v false p true))) l) q) irqs (h q))
+    (subst (λ (l : List ℕ). DutiesHold cert node s (map (λ p. owed 11 (enter (irq_key plan p) (state_with_only_a10 v false p true))) l) q) irqs (h q))
 
 -- each of well-formed values is well-formed, and so is what stands for those past the last
 any_well : IsWellFormed any_val
@@ -202,7 +202,7 @@ stack_of_context_well : (plan : PlanData) (cert : CertData) (o : Option Interrup
 stack_of_context_well plan cert None h = tt
 stack_of_context_well plan cert (Some a) h = (h.sp).well
 
-pub stacks_well : (plan : PlanData) (cert : CertData) (kept : LastInterrupts) → LastInterruptsHold plan cert kept → AreStacksWellFormed kept
+pub stacks_well : (plan : PlanData) (cert : CertData) (kept : LastInterrupts) → LastInterruptsHold plan cert kept → HasWellFormedSps kept
 stacks_well plan cert kept h = record { last = stack_of_context_well plan cert kept.last h.last; before = stack_of_context_well plan cert kept.before h.before }
 
 -- so the entries hold in a state below a kept context

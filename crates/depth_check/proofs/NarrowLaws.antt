@@ -13,7 +13,7 @@ use Rattle.tc_isa.specs.declared.shapes.Shape.TheVariants.{Branch}
 use Rattle.value_domain.specs.declared.values.Val.{Val}
 use Rattle.value_domain.specs.declared.states.State.{State}
 use Rattle.value_domain.specs.Limits.{Limits}
-use Rattle.value_domain.specs.Sets.{Within}
+use Rattle.value_domain.specs.Sets.{AreAmong}
 use Rattle.value_domain.specs.Values.{any_val, members, cover, IsInLattice, IsBelow}
 use Rattle.value_domain.specs.State.{AreInLattice, Covers}
 use Rattle.value_domain.proofs.CoverLaws.{cover_mono}
@@ -26,7 +26,7 @@ use Rattle.depth_cert.specs.declared.points.Point.{Point}
 use Rattle.depth_cert.specs.Points.{find_point}
 use Rattle.depth_cert.specs.Nodes.{NodeData}
 use Rattle.depth_cert.specs.Certs.{CertData}
-use Rattle.cfg_recover.specs.Duties.{jump_on}
+use Rattle.cfg_recover.specs.Duties.{branch_duty}
 use Rattle.cfg_recover.specs.RulesHoldOrFail.{HasCoveringPoint}
 use Rattle.depth_check.specs.LeastBroken.{FindsLeastBroken}
 use Rattle.depth_check.specs.DutiesHold.{DutiesHold}
@@ -51,13 +51,13 @@ found_more (Some p) s t f h = f p.state h
 
 -- ---- values
 -- the cover of some members of a value is below the value
-cover_below : (b : Limits) (v z : Val) (xs : List ℕ) → IsInLattice b v → Within xs (members v) → cover_if_any b xs ≡ Some z → IsBelow z v
+cover_below : (b : Limits) (v z : Val) (xs : List ℕ) → IsInLattice b v → AreAmong xs (members v) → cover_if_any b xs ≡ Some z → IsBelow z v
 cover_below b v z [] value there e = absurd (let f : None ≡ Some z = e in cc)
 cover_below b v z (x ∷ xs) value there e =
     let same : cover b (x ∷ xs) ≡ z = (let f : Some (cover b (x ∷ xs)) ≡ Some z = e in cc) in
     subst (λ (u : Val). IsBelow u v) same (subst (λ (u : Val). IsBelow (cover b (x ∷ xs)) u) value.own (cover_mono b (x ∷ xs) (members v) (omega arith) there))
 
-place_below : (b : Limits) (plan : PlanData) (s : State) (r : ℕ) (o : Option ℕ) (z : Val) (xs : List ℕ) → AreInLattice b s.regs → Within xs (members (register_value_at plan s r o)) → cover_if_any b xs ≡ Some z
+place_below : (b : Limits) (plan : PlanData) (s : State) (r : ℕ) (o : Option ℕ) (z : Val) (xs : List ℕ) → AreInLattice b s.regs → AreAmong xs (members (register_value_at plan s r o)) → cover_if_any b xs ≡ Some z
     → IfSome o (λ i. i < length s.regs → IsBelow z (get_or s.regs i any_val))
 place_below b plan s r None z xs values there e = tt
 place_below b plan s r (Some i) z xs values there e = λ lt. cover_below b (get_or s.regs i any_val) z xs (values i lt) there e
@@ -91,11 +91,11 @@ set_covers s t v (Some i) len c h = record {
   locals = c.locals;
 }
 
-one_covers : (b : Limits) (plan : PlanData) (s : State) (x : ℕ) (xs : List ℕ) (o : Option Val) → AreInLattice b s.regs → Within xs (members (reg_of plan s x)) → cover_if_any b xs ≡ o → IfSome (state_with_narrowed_register s x o) (Covers s)
+one_covers : (b : Limits) (plan : PlanData) (s : State) (x : ℕ) (xs : List ℕ) (o : Option Val) → AreInLattice b s.regs → AreAmong xs (members (reg_of plan s x)) → cover_if_any b xs ≡ o → IfSome (state_with_narrowed_register s x o) (Covers s)
 one_covers b plan s x xs None values there e = tt
 one_covers b plan s x xs (Some z) values there e = set_covers s s z (register_slot x) refl (covers_same s) (place_below b plan s x (register_slot x) z xs values there e)
 
-two_covers : (b : Limits) (plan : PlanData) (s : State) (x : ℕ) (y : Arg) (xs ys : List ℕ) (o q : Option Val) → AreInLattice b s.regs → Within xs (members (reg_of plan s x)) → Within ys (members (arg_of plan s y))
+two_covers : (b : Limits) (plan : PlanData) (s : State) (x : ℕ) (y : Arg) (xs ys : List ℕ) (o q : Option Val) → AreInLattice b s.regs → AreAmong xs (members (reg_of plan s x)) → AreAmong ys (members (arg_of plan s y))
     → cover_if_any b xs ≡ o → cover_if_any b ys ≡ q → IfSome (state_with_narrowed_operands s x y o q) (Covers s)
 two_covers b plan s x y xs ys None q values left right e f = tt
 two_covers b plan s x y xs ys (Some v) None values left right e f = tt
@@ -104,15 +104,15 @@ two_covers b plan s x (Reg r) xs ys (Some v) (Some w) values left right e f =
     set_covers s (with_slot_value s v (register_slot x)) w (register_slot r) (length_set_at s v (register_slot x)) (one_covers b plan s x xs (Some v) values left e) (place_below b plan s r (register_slot r) w ys values right f)
 
 -- ---- sides
-left_within : (test : Cond) (side : Bool) (vs ws : List ℕ) → Within (kept_left_words test side vs ws) vs
+left_within : (test : Cond) (side : Bool) (vs ws : List ℕ) → AreAmong (kept_left_words test side vs ws) vs
 unfolding kept_left_words
 left_within test side vs ws z i = (among_filter (λ x. list_any (λ y. is_side_taken test side x y) ws) z vs i).0
 
-right_within : (test : Cond) (side : Bool) (vs ws : List ℕ) → Within (kept_right_words test side vs ws) ws
+right_within : (test : Cond) (side : Bool) (vs ws : List ℕ) → AreAmong (kept_right_words test side vs ws) ws
 unfolding kept_right_words
 right_within test side vs ws z i = (among_filter (λ y. list_any (λ x. is_side_taken test side x y) vs) z ws i).0
 
-both_within : (test : Cond) (side : Bool) (vs : List ℕ) → Within (kept_self_compared_words test side vs) vs
+both_within : (test : Cond) (side : Bool) (vs : List ℕ) → AreAmong (kept_self_compared_words test side vs) vs
 unfolding kept_self_compared_words
 both_within test side vs z i = (among_filter (λ z. is_side_taken test side z z) z vs i).0
 
@@ -137,6 +137,6 @@ branch_covers b plan test x y by false s side e values = unlowered b plan x (sta
 
 -- ---- duties
 -- a jump to a point that covers the state is met
-pub side_found : (cert : CertData) (node : NodeData) (s : State) (to : ℕ) (o : Option State) → IfSome o (λ t. length t.regs ≡ length s.regs) → IfSome o (Covers s) → HasCoveringPoint node to s → FindsLeastBroken (DutiesHold cert node s (jump_on to o)) None
+pub side_found : (cert : CertData) (node : NodeData) (s : State) (to : ℕ) (o : Option State) → IfSome o (λ t. length t.regs ≡ length s.regs) → IfSome o (Covers s) → HasCoveringPoint node to s → FindsLeastBroken (DutiesHold cert node s (branch_duty to o)) None
 side_found cert node s to None len c h = nothing_found cert node s
 side_found cert node s to (Some t) len c h = point_found cert node s t to true (yes _ (found_more (find_point to node.points) s t (λ upper d. covers_trans upper s t len d c) h))

@@ -11,7 +11,7 @@ use Rattle.tc_machine.specs.declared.events.Event.{Event}
 use Rattle.tc_machine.specs.declared.events.End.TheVariants.{Running}
 use Rattle.tc_machine.specs.declared.state.Machine.{Machine}
 use Rattle.tc_machine.specs.Machine.{reg, a11, if_running, with_reg}
-use Rattle.tc_machine.specs.Instructions.{wrapping_sum, with_pc_advanced, misaligned_access_trap, does, access_address, with_base_incremented, target_of, is_trapping_instruction}
+use Rattle.tc_machine.specs.Instructions.{wrapping_sum, with_pc_advanced, misaligned_access_trap, after_instruction, access_address, with_base_incremented, target_address, is_trapping_instruction}
 use Rattle.tc_machine.specs.Handlers.{handler_psw, after_trap, after_interrupt}
 use Rattle.tc_machine.specs.SavesAndRestores.{with_context_saved, save, with_context_restored, restore}
 use Rattle.csa_chain.specs.MemoryBytes.{loaded_number, with_bytes, load_result}
@@ -69,37 +69,37 @@ module _ (m : Machine) (running : m.end ≡ Running) where
   pub trap-is : save m true ≡ with_context_saved m true → (class tin back : ℕ) → after_trap m class tin back ≡ record (begun m (set m.d 15 tin) (handler_a m back) (bit_or m.btv (class * 2 ^ 5)) (handler_psw m.psw) false m.ccpn) { end = Running }
   trap-is is class tin back = saved_then m true _ is running
 
-  pub call-is : save m true ≡ with_context_saved m true → (e : Event) (to : Target) (n : ℕ) → does m e (Call to) n ≡ record (begun m m.d (set m.a 11 (wrapping_sum m.pc n)) (target_of m to) m.psw m.ie m.ccpn) { end = Running }
-  unfolding does
+  pub call-is : save m true ≡ with_context_saved m true → (e : Event) (to : Target) (n : ℕ) → after_instruction m e (Call to) n ≡ record (begun m m.d (set m.a 11 (wrapping_sum m.pc n)) (target_address m to) m.psw m.ie m.ccpn) { end = Running }
+  unfolding after_instruction
   call-is is e to n = saved_then m true _ is running
 
-  pub syscall-is : (e : Event) (tin n : ℕ) → does m e (Syscall tin) n ≡ after_trap m 6 tin (wrapping_sum m.pc n)
-  unfolding does
+  pub syscall-is : (e : Event) (tin n : ℕ) → after_instruction m e (Syscall tin) n ≡ after_trap m 6 tin (wrapping_sum m.pc n)
+  unfolding after_instruction
   syscall-is e tin n = refl
 
-  pub ret-is : restore m true ≡ with_context_restored m true → (e : Event) (n : ℕ) → does m e Ret n ≡ record (with_context_restored m true) { pc = a11 m / 2 * 2; ie = m.ie; ccpn = m.ccpn; end = Running }
-  unfolding does
+  pub ret-is : restore m true ≡ with_context_restored m true → (e : Event) (n : ℕ) → after_instruction m e Ret n ≡ record (with_context_restored m true) { pc = a11 m / 2 * 2; ie = m.ie; ccpn = m.ccpn; end = Running }
+  unfolding after_instruction
   ret-is is e n = restored_then m true _ is running
 
-  pub rfe-is : restore m true ≡ with_context_restored m true → (e : Event) (n : ℕ) → does m e Rfe n ≡ record (with_context_restored m true) { pc = a11 m / 2 * 2; ie = pie_of m.core m.pcxi; ccpn = pcpn_of m.core m.pcxi; end = Running }
-  unfolding does
+  pub rfe-is : restore m true ≡ with_context_restored m true → (e : Event) (n : ℕ) → after_instruction m e Rfe n ≡ record (with_context_restored m true) { pc = a11 m / 2 * 2; ie = pie_of m.core m.pcxi; ccpn = pcpn_of m.core m.pcxi; end = Running }
+  unfolding after_instruction
   rfe-is is e n = restored_then m true _ is running
 
-  pub svlcx-is : save m false ≡ with_context_saved m false → (e : Event) (n : ℕ) → does m e Svlcx n ≡ record (with_context_saved m false) { pc = wrapping_sum m.pc n; ie = m.ie; ccpn = m.ccpn; end = Running }
-  unfolding does
+  pub svlcx-is : save m false ≡ with_context_saved m false → (e : Event) (n : ℕ) → after_instruction m e Svlcx n ≡ record (with_context_saved m false) { pc = wrapping_sum m.pc n; ie = m.ie; ccpn = m.ccpn; end = Running }
+  unfolding after_instruction
   svlcx-is is e n = saved_then m false _ is running
 
-  pub bisr-is : save m false ≡ with_context_saved m false → (e : Event) (c n : ℕ) → does m e (Bisr c) n ≡ record (with_context_saved m false) { pc = wrapping_sum m.pc n; ie = true; ccpn = c; end = Running }
-  unfolding does
+  pub bisr-is : save m false ≡ with_context_saved m false → (e : Event) (c n : ℕ) → after_instruction m e (Bisr c) n ≡ record (with_context_saved m false) { pc = wrapping_sum m.pc n; ie = true; ccpn = c; end = Running }
+  unfolding after_instruction
   bisr-is is e c n = saved_then m false _ is running
 
-  pub rslcx-is : restore m false ≡ with_context_restored m false → (e : Event) (n : ℕ) → does m e Rslcx n ≡ record (with_context_restored m false) { pc = wrapping_sum m.pc n; end = Running }
-  unfolding does
+  pub rslcx-is : restore m false ≡ with_context_restored m false → (e : Event) (n : ℕ) → after_instruction m e Rslcx n ≡ record (with_context_restored m false) { pc = wrapping_sum m.pc n; end = Running }
+  unfolding after_instruction
   rslcx-is is e n = restored_then m false _ is running
 
 -- an access that traps
-pub traps-is : (m : Machine) (e : Event) (shape : Shape) (n : ℕ) → is_trapping_instruction m e shape ≡ true → does m e shape n ≡ misaligned_access_trap m
-unfolding does
+pub traps-is : (m : Machine) (e : Event) (shape : Shape) (n : ℕ) → is_trapping_instruction m e shape ≡ true → after_instruction m e shape n ≡ misaligned_access_trap m
+unfolding after_instruction
 traps-is m e (Load dst base offset size signed after) n h =
     ap (λ t. cond t (misaligned_access_trap m) (with_pc_advanced n (with_reg (with_base_incremented m base offset after) dst (load_result signed size (loaded_number m.mem e.input (access_address m base offset after) size))))) h
 traps-is m e (Store src base offset size after) n h =

@@ -19,7 +19,7 @@ use Rattle.cfg_recover.specs.Duties.{Owed, duties_of}
 use Rattle.cfg_recover.specs.RulesHoldOrFail.{IsLocallyFaultless, limits_of_cert, RuleHolds, EntryNeedRuleHolds}
 use Rattle.cfg_recover.proofs.CodeLaws.{IsCode-one}
 use Rattle.depth_check.specs.LeastBroken.{FindsLeastBroken, lesser_broken_rule, broken_rule_unless}
-use Rattle.depth_check.specs.DutiesHold.{DutyHolds, DutiesHold, HasNeedForPoint}
+use Rattle.depth_check.specs.DutiesHold.{DutyHolds, DutiesHold, IsNeedSufficient}
 use Rattle.depth_check.proofs.LeastLaws.{found_by, found_both, found_same}
 
 -- a property of each element that a list contains
@@ -86,7 +86,7 @@ module _ (image : ImageData) (plan : PlanData) (cert : CertData) (node : NodeDat
         ap (λ (x : Shape). duties_of (limits_of_cert plan cert) image plan node.key point.addr point.state x size) one.0
         ∙ ap (λ m. duties_of (limits_of_cert plan cert) image plan node.key point.addr point.state other m) one.1
 
-    holds_to : (q : ℕ) → DutiesHold cert node point.state (duties_of (limits_of_cert plan cert) image plan node.key point.addr point.state shape size) q × (14 ≡ q → HasNeedForPoint image plan node point) → RuleHolds image plan cert node point q
+    holds_to : (q : ℕ) → DutiesHold cert node point.state (duties_of (limits_of_cert plan cert) image plan node.key point.addr point.state shape size) q × (14 ≡ q → IsNeedSufficient image plan node point) → RuleHolds image plan cert node point q
     holds_to q h = record {
       values = λ e. values;
       own = λ v. faultless q;
@@ -103,7 +103,7 @@ module _ (image : ImageData) (plan : PlanData) (cert : CertData) (node : NodeDat
           };
     }
 
-    pub holds_from : (q : ℕ) → RuleHolds image plan cert node point q → DutiesHold cert node point.state (duties_of (limits_of_cert plan cert) image plan node.key point.addr point.state shape size) q × (14 ≡ q → HasNeedForPoint image plan node point)
+    pub holds_from : (q : ℕ) → RuleHolds image plan cert node point q → DutiesHold cert node point.state (duties_of (limits_of_cert plan cert) image plan node.key point.addr point.state shape size) q × (14 ≡ q → IsNeedSufficient image plan node point)
     holds_from q h = (
       All-from_contains (DutyHolds cert node point.state q) (duties_of (limits_of_cert plan cert) image plan node.key point.addr point.state shape size)
           (λ d c. record {
@@ -115,9 +115,9 @@ module _ (image : ImageData) (plan : PlanData) (cert : CertData) (node : NodeDat
       (λ e. let need = h.needs shape size (sym e) alone in record { locals = need.locals; start = need.start }),
     )
 
-    pub duties_found : (duties : Option ℕ) (own : Bool) → FindsLeastBroken (DutiesHold cert node point.state (duties_of (limits_of_cert plan cert) image plan node.key point.addr point.state shape size)) duties → (IsTrue own ↔ HasNeedForPoint image plan node point)
+    pub duties_found : (duties : Option ℕ) (own : Bool) → FindsLeastBroken (DutiesHold cert node point.state (duties_of (limits_of_cert plan cert) image plan node.key point.addr point.state shape size)) duties → (IsTrue own ↔ IsNeedSufficient image plan node point)
         → FindsLeastBroken (RuleHolds image plan cert node point) (lesser_broken_rule duties (broken_rule_unless own 14))
     duties_found duties own f d =
-        found_same (λ q. DutiesHold cert node point.state (duties_of (limits_of_cert plan cert) image plan node.key point.addr point.state shape size) q × (14 ≡ q → HasNeedForPoint image plan node point)) (RuleHolds image plan cert node point) (lesser_broken_rule duties (broken_rule_unless own 14)) holds_to holds_from
-        (found_both (DutiesHold cert node point.state (duties_of (limits_of_cert plan cert) image plan node.key point.addr point.state shape size)) (λ q. 14 ≡ q → HasNeedForPoint image plan node point) duties (broken_rule_unless own 14) f
-        (found_by own 14 (HasNeedForPoint image plan node point) (omega arith) d))
+        found_same (λ q. DutiesHold cert node point.state (duties_of (limits_of_cert plan cert) image plan node.key point.addr point.state shape size) q × (14 ≡ q → IsNeedSufficient image plan node point)) (RuleHolds image plan cert node point) (lesser_broken_rule duties (broken_rule_unless own 14)) holds_to holds_from
+        (found_both (DutiesHold cert node point.state (duties_of (limits_of_cert plan cert) image plan node.key point.addr point.state shape size)) (λ q. 14 ≡ q → IsNeedSufficient image plan node point) duties (broken_rule_unless own 14) f
+        (found_by own 14 (IsNeedSufficient image plan node point) (omega arith) d))

@@ -20,7 +20,7 @@ use Rattle.depth_cert.specs.Points.{find_point}
 use Rattle.depth_cert.specs.Nodes.{NodeData, need_or_zero, find_node}
 use Rattle.depth_cert.specs.Certs.{CertData, IsCert}
 use Rattle.cfg_recover.specs.Entries.{start_key, start_state}
-use Rattle.cfg_recover.specs.Frames.{RunFrame, frames_after, frames_from, frames}
+use Rattle.cfg_recover.specs.Frames.{RunFrame, frames_after_step, frames_from, frames}
 use Rattle.cfg_recover.specs.RulesHoldOrFail.{limits_of_cert, HasCoveringPoint, Accepts, certified_need}
 use Rattle.cfg_recover.proofs.MoveLaws.{stores_held}
 use Rattle.cfg_recover.proofs.EntryLaws.{holds_covered, holds_start, entry_length}
@@ -85,7 +85,7 @@ module _ (image : ImageData) (plan : PlanData) (ok : IsPlan plan) (cert : CertDa
     run-kept : (m : Machine) (es : List Event) → IsMachine m → (now : List RunFrame) → Goes image plan cert most m now → AllFit plan m es → Goes image plan cert most (run m es) (frames_from m es now)
     run-kept m [] words now g fits = g
     run-kept m (e ∷ es) words now g fits =
-        run-kept (step m e) es (stays_step m e words (irq_lt ok m e fits.0) (fits.0).input (fits.0).status) (frames_after m e now)
+        run-kept (step m e) es (stays_step m e words (irq_lt ok m e fits.0) (fits.0).input (fits.0).status) (frames_after_step m e now)
         (step-kept image plan ok cert most few is_cert accepted m words e fits.0 now g) fits.1
 
     -- the state is safe by the invariant

@@ -16,7 +16,7 @@ use Rattle.tc_machine.specs.declared.events.Event.{Event}
 use Rattle.tc_machine.specs.declared.events.End.TheVariants.{Running}
 use Rattle.tc_machine.specs.declared.state.Machine.{Machine}
 use Rattle.tc_machine.specs.Machine.{reg, a11, is_interrupt_stack_used, psw_with_status, IsMachine}
-use Rattle.tc_machine.specs.Instructions.{wrapping_sum, target_of, does, is_trapping_instruction}
+use Rattle.tc_machine.specs.Instructions.{wrapping_sum, target_address, after_instruction, is_trapping_instruction}
 use Rattle.tc_machine.specs.Handlers.{handler_psw, after_interrupt}
 use Rattle.tc_machine.specs.Stepping.{is_interrupt_taken, after_fetch_result, machine_after_event, step}
 use Rattle.tc_machine.specs.SavesAndRestores.{with_context_saved, save, with_context_restored, restore}
@@ -40,7 +40,7 @@ use Rattle.cfg_recover.specs.Entries.{call_key, irq_key, sys_key, aln_key, call_
 use Rattle.depth_cert.specs.Exits.{exit_of_state, state_after_return, ExitCovers}
 use Rattle.cfg_recover.specs.Duties.{Owed, jump, enter, resume, leave, owed}
 use Rattle.cfg_recover.specs.EdgesAreOwed.{OwesEntry, IsEdgeWayOwed}
-use Rattle.cfg_recover.specs.Frames.{IsReturnTo, RunFrame, frames_after_jump, frames_after_entry, frames_after_return, frames_after_edge, frames_after}
+use Rattle.cfg_recover.specs.Frames.{IsReturnTo, RunFrame, frames_after_jump, frames_after_entry, frames_after_return, frames_after_edge, frames_after_step}
 use Rattle.cfg_recover.specs.RulesHoldOrFail.{limits_of_cert, HasCoveringPoint, Accepts}
 use Rattle.cfg_recover.specs.StepEdges.{EdgeWay, to, call, irq, sys, aln, edge_way_of_shape, edge_way_by_trap, edge_way_in_fetch}
 use Rattle.cfg_recover.specs.MovesAreOwed.{IsAtPoint, KeepsFrameAndContexts}
@@ -119,7 +119,7 @@ pub fetched_at : (image : ImageData) (plan : PlanData) → IsPlan plan → (m : 
 fetched_at image plan ok m rom shape n code =
     fetched-is image ok m rom code.even code.bytes code.inst code.spells ∙ ap (λ s. Ok (s, length code.bytes)) code.shaped ∙ ap (λ l. Ok (shape, l)) code.sized
 
-target_lt : (m : Machine) → IsMachine m → (to : Target) → IsTarget to → target_of m to < 2 ^ 32
+target_lt : (m : Machine) → IsMachine m → (to : Target) → IsTarget to → target_address m to < 2 ^ 32
 target_lt m words (target.Rel by) h = moved-lt m.pc by
 target_lt m words (target.Abs x) h = h
 target_lt m words (target.Reg r) h = let small = reg_lt m words r in omega arith
@@ -230,27 +230,27 @@ module _ (image : ImageData) (plan : PlanData) (ok : IsPlan plan) (cert : CertDa
       jumping q t owes = point_for frame.node q t (find_point q (frame.node).points) refl (h.met (owed 4 (jump q t)) owes)
 
       -- ---- inside the frame
-      plain : (e : Event) → Fits plan m e → is_interrupt_taken m e ≡ false → KeepsFrameAndContexts shape → is_trapping_instruction m e shape ≡ false → Steps image plan cert most m frame below (duties_at image plan cert frame.node m.pc (k.point).state shape n) e n (edge_way_by_trap m e shape (does m e shape n).pc) (does m e shape n)
+      plain : (e : Event) → Fits plan m e → is_interrupt_taken m e ≡ false → KeepsFrameAndContexts shape → is_trapping_instruction m e shape ≡ false → Steps image plan cert most m frame below (duties_at image plan cert frame.node m.pc (k.point).state shape n) e n (edge_way_by_trap m e shape (after_instruction m e shape n).pc) (after_instruction m e shape n)
       plain e fits none stays free =
           let mv = moves_in_frame (limits_of_cert plan cert) image plan (frame.node).key m e (k.point).state shape n at_point fits none stays free in
-          let at = jumping (does m e shape n).pc mv.state mv.owes in
-          let way : edge_way_by_trap m e shape (does m e shape n).pc ≡ to (does m e shape n).pc =
-          ap (λ t. cond t (aln (does m e shape n).pc) (edge_way_of_shape shape (does m e shape n).pc)) free ∙ stays_to shape stays (does m e shape n).pc
+          let at = jumping (after_instruction m e shape n).pc mv.state mv.owes in
+          let way : edge_way_by_trap m e shape (after_instruction m e shape n).pc ≡ to (after_instruction m e shape n).pc =
+          ap (λ t. cond t (aln (after_instruction m e shape n).pc) (edge_way_of_shape shape (after_instruction m e shape n).pc)) free ∙ stays_to shape stays (after_instruction m e shape n).pc
           in
           Steps-as way
           (record {
             goes = record {
               frame = frame;
               below = below;
-              kept = Invariant-moved image plan ok cert most m (does m e shape n) frame below k mv.state mv.moves
-                  (jump_long (limits_of_cert plan cert) image plan (frame.node).key m.pc (k.point).state n h.regs shape (does m e shape n).pc mv.state mv.owes) at.point at.found at.covers;
-              stands = at_standing (does m e shape n).pc m.pc frame below;
+              kept = Invariant-moved image plan ok cert most m (after_instruction m e shape n) frame below k mv.state mv.moves
+                  (jump_long (limits_of_cert plan cert) image plan (frame.node).key m.pc (k.point).state n h.regs shape (after_instruction m e shape n).pc mv.state mv.owes) at.point at.found at.covers;
+              stands = at_standing (after_instruction m e shape n).pc m.pc frame below;
             };
             owes = (mv.state, mv.owes);
           })
 
       -- ---- a misaligned access
-      trapped : (e : Event) → is_trapping_instruction m e shape ≡ true → Steps image plan cert most m frame below (duties_at image plan cert frame.node m.pc (k.point).state shape n) e n (edge_way_by_trap m e shape (does m e shape n).pc) (does m e shape n)
+      trapped : (e : Event) → is_trapping_instruction m e shape ≡ true → Steps image plan cert most m frame below (duties_at image plan cert frame.node m.pc (k.point).state shape n) e n (edge_way_by_trap m e shape (after_instruction m e shape n).pc) (after_instruction m e shape n)
       trapped e t =
           let small : IsKey (aln_key plan (frame.node).key) = record { kind = omega arith; entry = or_lt 32 plan.btv (2 * 2 ^ 5) (ok.words).btv (omega arith); prio = key_small.prio } in
           let owes = traps_owed (limits_of_cert plan cert) image plan (frame.node).key m e (k.point).state shape n at_point t in
@@ -280,22 +280,22 @@ module _ (image : ImageData) (plan : PlanData) (ok : IsPlan plan) (cert : CertDa
           })
 
     -- ---- a call
-    calls : (e : Event) (x : Target) (n : ℕ) → PointHolds image plan cert frame.node m.pc (k.point).state (Call x) n → Steps image plan cert most m frame below (duties_at image plan cert frame.node m.pc (k.point).state (Call x) n) e n (call (does m e (Call x) n).pc) (does m e (Call x) n)
+    calls : (e : Event) (x : Target) (n : ℕ) → PointHolds image plan cert frame.node m.pc (k.point).state (Call x) n → Steps image plan cert most m frame below (duties_at image plan cert frame.node m.pc (k.point).state (Call x) n) e n (call (after_instruction m e (Call x) n).pc) (after_instruction m e (Call x) n)
     calls e x n h =
-        let small : IsKey (call_key (frame.node).key (target_of m x)) = record { kind = omega arith; entry = target_lt m words x (shape_is image plan m.pc (Call x) n h.code); prio = key_small.prio } in
+        let small : IsKey (call_key (frame.node).key (target_address m x)) = record { kind = omega arith; entry = target_lt m words x (shape_is image plan m.pc (Call x) n h.code); prio = key_small.prio } in
         let owes = calls_owed (limits_of_cert plan cert) image plan (frame.node).key m (k.point).state x n (at_point (Call x) n h) in
-        let f = entering (Call x) n h 5 (call_key (frame.node).key (target_of m x)) (call_entry (k.point).state) small owes.entered in
-        let exits = resuming (Call x) n h 4 (call_key (frame.node).key (target_of m x)) (call_entry (k.point).state) (wrapping_sum m.pc n) f owes.back in
-        let b = began m.d (set m.a 11 (wrapping_sum m.pc n)) (target_of m x) m.psw m.ie m.ccpn (wrapping_sum m.pc n) (call_key (frame.node).key (target_of m x))
-        (call_begins image plan cert most is_cert accepted m words frame below k h.regs (target_of m x) (wrapping_sum m.pc n) (moved-lt m.pc n) f.node f.found f.at exits f.room) in
+        let f = entering (Call x) n h 5 (call_key (frame.node).key (target_address m x)) (call_entry (k.point).state) small owes.entered in
+        let exits = resuming (Call x) n h 4 (call_key (frame.node).key (target_address m x)) (call_entry (k.point).state) (wrapping_sum m.pc n) f owes.back in
+        let b = began m.d (set m.a 11 (wrapping_sum m.pc n)) (target_address m x) m.psw m.ie m.ccpn (wrapping_sum m.pc n) (call_key (frame.node).key (target_address m x))
+        (call_begins image plan cert most is_cert accepted m words frame below k h.regs (target_address m x) (wrapping_sum m.pc n) (moved-lt m.pc n) f.node f.found f.at exits f.room) in
         subst (λ y. Steps image plan cert most m frame below (duties_at image plan cert frame.node m.pc (k.point).state (Call x) n) e n (call y.pc) y) (sym (call-is m k.running b.saves e x n))
         (record {
-          goes = Goes-as (entered_standing (λ j. call_key j (target_of m x)) (wrapping_sum m.pc n) (target_of m x) m.pc frame below) b.goes;
+          goes = Goes-as (entered_standing (λ j. call_key j (target_address m x)) (wrapping_sum m.pc n) (target_address m x) m.pc frame below) b.goes;
           owes = (call_entry (k.point).state, owes.entered);
         })
 
     -- ---- a system call
-    system : (e : Event) (tin n : ℕ) → PointHolds image plan cert frame.node m.pc (k.point).state (Syscall tin) n → Steps image plan cert most m frame below (duties_at image plan cert frame.node m.pc (k.point).state (Syscall tin) n) e n (sys (does m e (Syscall tin) n).pc) (does m e (Syscall tin) n)
+    system : (e : Event) (tin n : ℕ) → PointHolds image plan cert frame.node m.pc (k.point).state (Syscall tin) n → Steps image plan cert most m frame below (duties_at image plan cert frame.node m.pc (k.point).state (Syscall tin) n) e n (sys (after_instruction m e (Syscall tin) n).pc) (after_instruction m e (Syscall tin) n)
     system e tin n h =
         let small : IsKey (sys_key plan (frame.node).key) = record { kind = omega arith; entry = or_lt 32 plan.btv (6 * 2 ^ 5) (ok.words).btv (omega arith); prio = key_small.prio } in
         let tin_small : tin < 2 ^ 32 = shape_is image plan m.pc (Syscall tin) n h.code in
@@ -335,24 +335,24 @@ module _ (image : ImageData) (plan : PlanData) (ok : IsPlan plan) (cert : CertDa
     leaving : (rule n : ℕ) (shape : Shape) → (h : PointHolds image plan cert frame.node m.pc (k.point).state shape n) → Contains (duties_at image plan cert frame.node m.pc (k.point).state shape n) (owed rule (leave (exit_of_state (k.point).state))) → ExitFor frame.node (exit_of_state (k.point).state)
     leaving rule n shape h owes = exit_for frame.node (exit_of_state (k.point).state) (frame.node).exit refl (h.met (owed rule (leave (exit_of_state (k.point).state))) owes)
 
-    returns : (e : Event) (n : ℕ) → PointHolds image plan cert frame.node m.pc (k.point).state Ret n → Left m frame below (does m e Ret n)
+    returns : (e : Event) (n : ℕ) → PointHolds image plan cert frame.node m.pc (k.point).state Ret n → Left m frame below (after_instruction m e Ret n)
     returns e n h =
         let own = (h.own 6).returns refl in
         let x = leaving 6 n Ret h (owes-ret (limits_of_cert plan cert) image plan (frame.node).key m.pc (k.point).state n) in
         left_to m words frame below k own.1 (λ z. let one = own.0 in omega arith) m.ie m.ccpn
-        (by_return x.exit x.is own.0 (holds_exit plan (k.point).state (reg m) m.ie m.ccpn x.exit h.regs x.covers k.inside)) (does m e Ret n) (λ is. ret-is m k.running is e n)
+        (by_return x.exit x.is own.0 (holds_exit plan (k.point).state (reg m) m.ie m.ccpn x.exit h.regs x.covers k.inside)) (after_instruction m e Ret n) (λ is. ret-is m k.running is e n)
 
-    comes_from : (e : Event) (n : ℕ) → PointHolds image plan cert frame.node m.pc (k.point).state Rfe n → Left m frame below (does m e Rfe n)
+    comes_from : (e : Event) (n : ℕ) → PointHolds image plan cert frame.node m.pc (k.point).state Rfe n → Left m frame below (after_instruction m e Rfe n)
     comes_from e n h =
         let own = (h.own 7).exceptions refl in
         elim own.1 [
           | inl handler ↦
               left_to m words frame below k own.0 (λ z. elim handler.0 [ inl two ↦ omega arith | inr four ↦ omega arith ]) (pie_of m.core m.pcxi) (pcpn_of m.core m.pcxi) (from_handler handler.0 (k.lower_kept handler.1) refl refl)
-              (does m e Rfe n) (λ is. rfe-is m k.running is e n)
+              (after_instruction m e Rfe n) (λ is. rfe-is m k.running is e n)
           | inr three ↦
               let x = leaving 7 n Rfe h (owes-rfe (limits_of_cert plan cert) image plan (frame.node).key m.pc (k.point).state n three) in
               left_to m words frame below k own.0 (λ z. omega arith) (pie_of m.core m.pcxi) (pcpn_of m.core m.pcxi)
-              (from_system x.exit m.ie m.ccpn x.is three (holds_exit plan (k.point).state (reg m) m.ie m.ccpn x.exit h.regs x.covers k.inside) refl refl) (does m e Rfe n) (λ is. rfe-is m k.running is e n)
+              (from_system x.exit m.ie m.ccpn x.is three (holds_exit plan (k.point).state (reg m) m.ie m.ccpn x.exit h.regs x.covers k.inside) refl refl) (after_instruction m e Rfe n) (λ is. rfe-is m k.running is e n)
         ]
 
     -- ---- lower contexts
@@ -377,7 +377,7 @@ module _ (image : ImageData) (plan : PlanData) (ok : IsPlan plan) (cert : CertDa
           owes = (record (state_after_lower_save (k.point).state) { ie = ie; ccpn = ccpn }, owes);
         })
 
-    restores_lower : (e : Event) (n : ℕ) → PointHolds image plan cert frame.node m.pc (k.point).state Rslcx n → Steps image plan cert most m frame below (duties_at image plan cert frame.node m.pc (k.point).state Rslcx n) e n (to (does m e Rslcx n).pc) (does m e Rslcx n)
+    restores_lower : (e : Event) (n : ℕ) → PointHolds image plan cert frame.node m.pc (k.point).state Rslcx n → Steps image plan cert most m frame below (duties_at image plan cert frame.node m.pc (k.point).state Rslcx n) e n (to (after_instruction m e Rslcx n).pc) (after_instruction m e Rslcx n)
     restores_lower e n h =
         let at = jumping m words frame below k Rslcx n h (wrapping_sum m.pc n) (state_after_lower_restore (k.point).state) (owes-rslcx (limits_of_cert plan cert) image plan (frame.node).key m.pc (k.point).state n) in
         let p = lower_popped image plan ok cert most few m words frame below k (wrapping_sum m.pc n) ((h.own 8).room refl) h.regs at in
@@ -389,24 +389,24 @@ module _ (image : ImageData) (plan : PlanData) (ok : IsPlan plan) (cert : CertDa
 
     -- ---- what the instruction at pc does
     module _ (e : Event) (fits : Fits plan m e) (none : is_interrupt_taken m e ≡ false) where
-      accesses : (shape : Shape) (n : ℕ) (h : PointHolds image plan cert frame.node m.pc (k.point).state shape n) → KeepsFrameAndContexts shape → Steps image plan cert most m frame below (duties_at image plan cert frame.node m.pc (k.point).state shape n) e n (edge_way_by_trap m e shape (does m e shape n).pc) (does m e shape n)
+      accesses : (shape : Shape) (n : ℕ) (h : PointHolds image plan cert frame.node m.pc (k.point).state shape n) → KeepsFrameAndContexts shape → Steps image plan cert most m frame below (duties_at image plan cert frame.node m.pc (k.point).state shape n) e n (edge_way_by_trap m e shape (after_instruction m e shape n).pc) (after_instruction m e shape n)
       accesses shape n h stays =
           elim (cases_Bool (is_trapping_instruction m e shape)) [
             | inl t ↦ trapped m words frame below k shape n h e t
             | inr f ↦ plain m words frame below k shape n h e fits none stays f
           ]
 
-      pub follows : (shape : Shape) (n : ℕ) → PointHolds image plan cert frame.node m.pc (k.point).state shape n → Steps image plan cert most m frame below (duties_at image plan cert frame.node m.pc (k.point).state shape n) e n (edge_way_by_trap m e shape (does m e shape n).pc) (does m e shape n)
+      pub follows : (shape : Shape) (n : ℕ) → PointHolds image plan cert frame.node m.pc (k.point).state shape n → Steps image plan cert most m frame below (duties_at image plan cert frame.node m.pc (k.point).state shape n) e n (edge_way_by_trap m e shape (after_instruction m e shape n).pc) (after_instruction m e shape n)
       follows (Call x) n h = calls m words frame below k e x n h
       follows Ret n h = let l = returns e n h in record { goes = l.goes; owes = l.owes }
       follows Rfe n h = let l = comes_from e n h in record { goes = l.goes; owes = l.owes }
       follows Svlcx n h =
           saves_lower e Svlcx n h (wrapping_sum m.pc n) ((k.point).state).ie ((k.point).state).ccpn (owes-svlcx (limits_of_cert plan cert) image plan (frame.node).key m.pc (k.point).state n) m.ie m.ccpn
-          (k.inside).enabled (k.inside).priority (does m e Svlcx n) (λ is. svlcx-is m k.running is e n)
+          (k.inside).enabled (k.inside).priority (after_instruction m e Svlcx n) (λ is. svlcx-is m k.running is e n)
       follows Rslcx n h = restores_lower e n h
       follows (Bisr c) n h =
           saves_lower e (Bisr c) n h (wrapping_sum m.pc n) true c (owes-bisr (limits_of_cert plan cert) image plan (frame.node).key m.pc (k.point).state n c) true c
-          (λ t. t) (omega arith) (does m e (Bisr c) n) (λ is. bisr-is m k.running is e c n)
+          (λ t. t) (omega arith) (after_instruction m e (Bisr c) n) (λ is. bisr-is m k.running is e c n)
       follows (Syscall tin) n h = system m words frame below k e tin n h
       follows (Mtcr src number) n h = absurd ((h.own 13).writes refl)
       follows shape n h = accesses shape n h tt
@@ -447,9 +447,9 @@ module _ (image : ImageData) (plan : PlanData) (ok : IsPlan plan) (cert : CertDa
               shape = r.shape;
               size = r.size;
               code = (r.holds).code;
-              goes = Goes-as (ap (λ t. by m e t (Ok (r.shape, r.size)) (does m e r.shape r.size).pc (standing m.pc frame below)) (sym none) ∙ ap (λ f. by m e (is_interrupt_taken m e) f (does m e r.shape r.size).pc (standing m.pc frame below)) (sym at)) s.goes;
-              owes = subst (λ w. IsEdgeWayOwed (duties_at image plan cert frame.node m.pc (k.point).state r.shape r.size) (frame.node).key e.irq (standing m.pc frame below) (does m e r.shape r.size).pc w)
-                  (ap (λ t. cond t (irq (does m e r.shape r.size).pc) (edge_way_in_fetch m e (Ok (r.shape, r.size)) (does m e r.shape r.size).pc)) (sym none) ∙ ap (λ f. cond (is_interrupt_taken m e) (irq (does m e r.shape r.size).pc) (edge_way_in_fetch m e f (does m e r.shape r.size).pc)) (sym at)) s.owes;
+              goes = Goes-as (ap (λ t. by m e t (Ok (r.shape, r.size)) (after_instruction m e r.shape r.size).pc (standing m.pc frame below)) (sym none) ∙ ap (λ f. by m e (is_interrupt_taken m e) f (after_instruction m e r.shape r.size).pc (standing m.pc frame below)) (sym at)) s.goes;
+              owes = subst (λ w. IsEdgeWayOwed (duties_at image plan cert frame.node m.pc (k.point).state r.shape r.size) (frame.node).key e.irq (standing m.pc frame below) (after_instruction m e r.shape r.size).pc w)
+                  (ap (λ t. cond t (irq (after_instruction m e r.shape r.size).pc) (edge_way_in_fetch m e (Ok (r.shape, r.size)) (after_instruction m e r.shape r.size).pc)) (sym none) ∙ ap (λ f. cond (is_interrupt_taken m e) (irq (after_instruction m e r.shape r.size).pc) (edge_way_in_fetch m e f (after_instruction m e r.shape r.size).pc)) (sym at)) s.owes;
             })
       ]
 
@@ -466,6 +466,6 @@ module _ (image : ImageData) (plan : PlanData) (ok : IsPlan plan) (cert : CertDa
         owes = d.owes;
       })
 
-  pub step-kept : (m : Machine) → IsMachine m → (e : Event) → Fits plan m e → (now : List RunFrame) → Goes image plan cert most m now → Goes image plan cert most (step m e) (frames_after m e now)
+  pub step-kept : (m : Machine) → IsMachine m → (e : Event) → Fits plan m e → (now : List RunFrame) → Goes image plan cert most m now → Goes image plan cert most (step m e) (frames_after_step m e now)
   step-kept m words e fits now g =
       Goes-as (ap (by m e (is_interrupt_taken m e) (fetched_instruction m) (step m e).pc) g.stands) (step-done m words e fits g.frame g.below g.kept).goes

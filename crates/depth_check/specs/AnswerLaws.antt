@@ -28,11 +28,11 @@ pub record AnswerSays (image : ImageData) (plan : PlanData) (cert : CertData) : 
   pub no : (r : ℕ) (k : Key) (p : ℕ) → IsCheckAnswer image plan cert (No r k p) → FirstFaultNamesFirstFailure image plan cert r k p
 
 -- what the checker's answers say holds for every image, plan and certificate
-abbrev pub AllAnswersSay : Type 0
-AllAnswersSay =
+abbrev pub AnswersSayNeedOrFirstFault : Type 0
+AnswersSayNeedOrFirstFault =
     (image : ImageData) (plan : PlanData) (cert : CertData) → image.entry < 2 ^ 32 → IsPlan plan → IsCert cert → AnswerSays image plan cert
 
 -- the law that a check's answers are exact both ways: a certificate with a first fault isn't
 -- accepted
-abbrev pub AnswersAreExact : Type 0
-AnswersAreExact = (image : ImageData) (plan : PlanData) (cert : CertData) (r : ℕ) (k : Key) (p : ℕ) → IsFirstFault image plan cert r k p → Accepts image plan cert → ⊥
+abbrev pub FirstFaultExcludesAcceptance : Type 0
+FirstFaultExcludesAcceptance = (image : ImageData) (plan : PlanData) (cert : CertData) (r : ℕ) (k : Key) (p : ℕ) → IsFirstFault image plan cert r k p → Accepts image plan cert → ⊥

@@ -9,7 +9,7 @@ use Rattle.cfg_recover.specs.declared.local_rules.Located.{Located}
 use Rattle.cfg_recover.specs.LocalFaults.{IsFaultlessShape}
 use Rattle.cfg_recover.specs.LocalRules.{targets_of}
 use Rattle.cfg_recover.specs.Entries.{call_key, sys_key, sys_entry}
-use Rattle.cfg_recover.specs.Duties.{Owed, duties_of, entry_and_return, entry_duties_of, interrupt_duties_of, jump_on, misaligned_duties_of, misaligned_entry, next_duty_of, successor_duties_of}
+use Rattle.cfg_recover.specs.Duties.{Owed, duties_of, entry_and_return, entry_duties_of, interrupt_duties_of, branch_duty, misaligned_duties_of, misaligned_entry, next_duty_of, successor_duties_of}
 use Rattle.depth_check.specs.PointCheckData.{PointCheckData}
 
 -- the located instruction stands at the checked point, and breaks no rule with the point's state
@@ -31,7 +31,7 @@ next_duties_at at found = next_duty_of at.bounds at.image at.plan at.point.addr 
 -- the checked branch's duty on one side: to jump to q with the state refined for that side, if the
 -- side is possible
 abbrev pub branch_duties_at : PointCheckData → ℕ → Shape → Bool → List Owed
-branch_duties_at at q shape taken = jump_on q (refine_of at.bounds at.plan shape at.point.state taken)
+branch_duties_at at q shape taken = branch_duty q (refine_of at.bounds at.plan shape at.point.state taken)
 
 -- the checked point's duties by a call or SYSCALL: to enter frames, and to go on after their
 -- returns

@@ -5,7 +5,7 @@ ghost use Rattle.depth_check.specs.DutiesHold.{IsReturnMet, LeavingHolds};
 ghost use Rattle.depth_cert.specs.Keys.{call_kind};
 ghost use Rattle.value_domain.specs.State.{AreWellFormed};
 ghost use Rattle.vd_transfer.specs.Changes.{state_after};
-ghost use Rattle.tc_isa.specs.InBounds.{IsShape, IsTarget};
+ghost use Rattle.tc_isa.specs.InBounds.{IsShapeInBounds, IsTargetInBounds};
 ghost use Rattle.cfg_recover.specs.Entries.{call_entry, possible_irqs_of};
 ghost use Rattle.cfg_recover.specs.Duties.{enter_duty, entry_and_return};
 ghost use Rattle.depth_check.specs.PointDuties.{IsFaultlessInstructionAt, all_duties_at, call_duties_at, entry_duties_at, interrupt_duties_at, misaligned_duties_at, misaligned_duty_at, possible_targets_at, system_call_duties_at};
@@ -110,7 +110,7 @@ fn rule_broken_by_call_or_syscall(
     size: u32,
     called: &mut Option<u8>,
 ) -> Option<u8>
-    requires shape { IsShape shape }
+    requires shape { IsShapeInBounds shape }
     requires called { RegisterCallsHoldAt at.now called.old }
     ensures found { FindsLeastBrokenByDuties at.now (entry_duties_at at.now shape size) result }
     ensures called { RegisterCallsHoldAt at.now called.new }
@@ -167,7 +167,7 @@ fn rule_broken_by_call_unless_known(
     back: u32,
     called: &mut Option<u8>,
 ) -> Option<u8>
-    requires target { IsTarget to }
+    requires target { IsTargetInBounds to }
     requires called { RegisterCallsHoldAt at.now called.old }
     ensures found { FindsLeastBrokenByDuties at.now (call_duties_at at.now
         (call_entry at.now.point.state) back (possible_targets_at at.now to)) result }
@@ -206,7 +206,7 @@ fn rule_broken_by_system_call(at: &PointCheck<'_, '_>, tin: u8, back: u32) -> Op
 /// or the point at `back`, where execution resumes.
 #[inline(never)]
 fn rule_broken_by_call(at: &PointCheck<'_, '_>, to: Target, back: u32) -> Option<u8>
-    requires { IsTarget to }
+    requires { IsTargetInBounds to }
     ensures { FindsLeastBrokenByDuties at.now (call_duties_at at.now
         (call_entry at.now.point.state) back (possible_targets_at at.now to)) result }
 {
@@ -280,7 +280,7 @@ fn rule_broken_by_calli(
     to: Target,
     back: u32,
 ) -> Option<u8>
-    requires target { IsTarget to }
+    requires target { IsTargetInBounds to }
     requires entry { AreWellFormed (state_after at.now.point.state entry.now).regs }
     ensures { FindsLeastBrokenByDuties at.now (call_duties_at at.now
         (state_after at.now.point.state entry.now) back (possible_targets_at at.now to)) result }

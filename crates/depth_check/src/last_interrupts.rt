@@ -5,7 +5,7 @@ ghost use Rattle.value_domain.specs.State.{AreInLattice};
 ghost use Rattle.value_domain.specs.Values.{IsWellFormed, IsInLattice};
 ghost use Rattle.vd_transfer.specs.Registers.{a10_of};
 ghost use Rattle.tcd_plan.specs.PlanData.{PlanData};
-ghost use Rattle.depth_check.specs.Interrupts.{IsContextExceptStack, FitsContextExceptStack, FitsContext, InterruptsHold, AreStacksWellFormed, LastInterruptsHold, InterruptsHoldWithStack};
+ghost use Rattle.depth_check.specs.Interrupts.{IsContextExceptSp, FitsContextExceptSp, FitsContext, InterruptsHold, HasWellFormedSps, LastInterruptsHold, InterruptsHoldWithSp};
 
 use crate::duty_rules::rule_broken_by_irqs;
 use crate::points::PointCheck;
@@ -37,7 +37,7 @@ impl LastInterrupts {
     /// Returns true only if a kept context shows that the handlers' entries hold in a state of the
     /// node; false with interrupts off.
     pub(crate) fn covers(&self, node: &Node<'_>, s: &State) -> bool
-        requires stacks { AreStacksWellFormed self.now }
+        requires stacks { HasWellFormedSps self.now }
         requires stack { IsWellFormed (a10_of s.now) }
         ensures { IsTrue result → (plan : PlanData) (cert : CertData)
             → LastInterruptsHold plan cert self.now → InterruptsHold plan cert node.now s.now }
@@ -102,7 +102,7 @@ impl InterruptContext {
     /// Returns the interrupt context of a state of the node, with the stack pointer `sp` instead of
     /// its A10.
     fn of_state(node: &Node<'_>, s: &State, sp: Val) -> InterruptContext
-        ensures same { IsContextExceptStack result node.now s.now }
+        ensures same { IsContextExceptSp result node.now s.now }
         ensures sp { result.sp ≡ sp }
     {
         InterruptContext {
@@ -117,7 +117,7 @@ impl InterruptContext {
     /// Returns true only if a state of the node has this context's stack in use, IE and CCPN, and
     /// leaves at least as many areas. A10 isn't compared.
     fn fits_except_sp(&self, node: &Node<'_>, s: &State) -> bool
-        ensures { IsTrue result → FitsContextExceptStack self.now node.now s.now }
+        ensures { IsTrue result → FitsContextExceptSp self.now node.now s.now }
     {
         self.ie == s.ie
             && self.ccpn == s.ccpn
@@ -150,7 +150,7 @@ fn sp_to_keep(at: &PointCheck<'_, '_>, kept: &LastInterrupts) -> Val
     requires holds { InterruptsHold at.now.plan at.now.cert at.now.node at.now.point.state }
     requires interrupts { LastInterruptsHold at.now.plan at.now.cert kept.now }
     ensures value { IsInLattice at.now.bounds result }
-    ensures holds { InterruptsHoldWithStack at.now.plan at.now.cert at.now.node
+    ensures holds { InterruptsHoldWithSp at.now.plan at.now.cert at.now.node
         at.now.point.state result }
 {
     let s = at.point.state;

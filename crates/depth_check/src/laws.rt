@@ -1,5 +1,5 @@
 // The laws of accepted certificates and of answers.
-ghost use Rattle.depth_check.specs.AnswerLaws.{AnswersAreExact, AllAnswersSay};
+ghost use Rattle.depth_check.specs.AnswerLaws.{FirstFaultExcludesAcceptance, AnswersSayNeedOrFirstFault};
 ghost use Rattle.depth_check.specs.AcceptedPromises.{AcceptedHoldsFrames, AcceptedIsSafe, AcceptedOwesEdges};
 
 /// If the rules accept a certificate, every run of the image under the plan is safe with its need,
@@ -19,11 +19,11 @@ pub fn accepted_holds_frames()
 /// What the checker's answers say: a yes has the start's need, and no rule fails; a no has the
 /// first fault, and where.
 pub fn answer_laws()
-    ensures { AllAnswersSay }
+    ensures { AnswersSayNeedOrFirstFault }
 {}
 
 /// States the law that the checker's answers are exact both ways: a certificate in which a check
 /// finds a first fault isn't one that the rules accept.
 pub fn first_fault_laws()
-    ensures { AnswersAreExact }
+    ensures { FirstFaultExcludesAcceptance }
 {}

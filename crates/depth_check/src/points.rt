@@ -6,7 +6,7 @@ ghost use Rattle.value_domain.specs.State.{AreInLattice};
 ghost use Rattle.vd_transfer.specs.Registers.{a10_of};
 ghost use Rattle.cfg_recover.specs.SetOperations.{IsCorrectCache};
 ghost use Rattle.depth_check.specs.CheckedRegisters.{CheckedRegistersHoldAt};
-ghost use Rattle.depth_check.specs.Interrupts.{InterruptsHold, AreStacksWellFormed, LastInterruptsHold};
+ghost use Rattle.depth_check.specs.Interrupts.{InterruptsHold, HasWellFormedSps, LastInterruptsHold};
 ghost use Rattle.vd_transfer.specs.Changes.{state_after};
 ghost use Rattle.vd_transfer.specs.EffectsOnStates.{transfer_of};
 ghost use Rattle.depth_check.specs.PointDuties.{IsFaultlessInstructionAt};
@@ -167,7 +167,7 @@ pub(crate) fn point_of_walk<'b>(
     interrupts: &LastInterrupts,
     walk: &'b PointWalk<'b>,
 ) -> CurrentPoint<'b>
-    requires stacks { AreStacksWellFormed interrupts.now }
+    requires stacks { HasWellFormedSps interrupts.now }
     requires stack { IsWellFormed (a10_of walk.now.current) }
     ensures addr { result.addr ≡ addr }
     ensures state { result.state.now ≡ walk.now.current }

@@ -1,7 +1,7 @@
 // The rules that are tested here, by what fails. `check_decoded` of cfg_recover tests the others.
 ghost use Rattle.std.specs.Prelude.{◌≡◌, ◌↔◌, IsTrue};
 ghost use Rattle.depth_check.specs.LeastBroken as finding;
-ghost use Rattle.depth_check.specs.DutiesHold.{HasNeedForPoint};
+ghost use Rattle.depth_check.specs.DutiesHold.{IsNeedSufficient};
 
 use crate::points::PointCheck;
 use cfg_recover::start_key;
@@ -50,7 +50,7 @@ pub(crate) fn lesser_broken_rule(a: Option<u8>, b: Option<u8>) -> Option<u8>
 /// Returns true if K14's own part holds: the node's need covers the checked point's locals and, at
 /// the start's entry, leaves the reserve free.
 pub(crate) fn is_need_sufficient(at: &PointCheck<'_, '_>) -> bool
-    ensures { IsTrue result ↔ HasNeedForPoint at.now.image at.now.plan at.now.node at.now.point }
+    ensures { IsTrue result ↔ IsNeedSufficient at.now.image at.now.plan at.now.node at.now.point }
 {
     let image = at.image;
     let plan = at.plan;

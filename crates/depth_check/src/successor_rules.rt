@@ -1,8 +1,8 @@
 // K4 for the successors of a point in its frame.
 ghost use Rattle.std.specs.Prelude.{◌≡◌, ◌+◌, ◌<◌, ◌++◌, false, true};
 ghost use Rattle.depth_check.specs.LeastBroken.{FindsLeastBrokenByDuties};
-ghost use Rattle.tc_isa.specs.InBounds.{IsShape, IsTarget};
-ghost use Rattle.cfg_recover.specs.Duties.{jumps_to};
+ghost use Rattle.tc_isa.specs.InBounds.{IsShapeInBounds, IsTargetInBounds};
+ghost use Rattle.cfg_recover.specs.Duties.{jump_duties_to};
 ghost use Rattle.depth_check.specs.PointDuties.{IsFaultlessInstructionAt, branch_duties_at, next_duties_at, possible_targets_at, successor_duties_at};
 ghost use Rattle.cfg_recover.specs.SetOperations.{IsCorrectCache};
 ghost use Rattle.depth_check.specs.CheckedRegisters.{CheckedRegistersHoldAt, RegisterJumpsHoldAt};
@@ -56,7 +56,7 @@ fn rule_broken_by_branch(
     to: u32,
     c: &mut Change,
 ) -> Option<u8>
-    requires { IsShape shape }
+    requires { IsShapeInBounds shape }
     ensures { FindsLeastBrokenByDuties at.now (branch_duties_at at.now next shape false
         ++ branch_duties_at at.now to shape true) result }
 {
@@ -68,10 +68,10 @@ fn rule_broken_by_branch(
 /// Returns K4 if the node doesn't cover a target of the checked jump. Targets are listed only for a
 /// jump by a register.
 fn rule_broken_by_jump(at: &PointCheck<'_, '_>, to: Target, jumped: &mut Option<u8>) -> Option<u8>
-    requires target { IsTarget to }
+    requires target { IsTargetInBounds to }
     requires jumped { RegisterJumpsHoldAt at.now jumped.old }
     ensures found { FindsLeastBrokenByDuties at.now
-        (jumps_to at.now.point.state (possible_targets_at at.now to)) result }
+        (jump_duties_to at.now.point.state (possible_targets_at at.now to)) result }
     ensures jumped { RegisterJumpsHoldAt at.now jumped.new }
 {
     match to {
@@ -109,7 +109,7 @@ fn rule_broken_by_branch_side(
     to: u32,
     c: &mut Change,
 ) -> Option<u8>
-    requires { IsShape shape }
+    requires { IsShapeInBounds shape }
     ensures { FindsLeastBrokenByDuties at.now (branch_duties_at at.now to shape taken) result }
 {
     let _bounds = at.bounds;
@@ -131,7 +131,7 @@ fn rule_broken_by_refined_side(
     to: u32,
     c: &mut Change,
 ) -> Option<u8>
-    requires { IsShape shape }
+    requires { IsShapeInBounds shape }
     ensures { FindsLeastBrokenByDuties at.now (branch_duties_at at.now to shape taken) result }
 {
     if !write_branch_change(at.bounds, at.plan, shape, at.point.state, taken, c) {
@@ -147,7 +147,7 @@ fn rule_broken_by_ji(at: &PointCheck<'_, '_>, r: u8, jumped: &mut Option<u8>) ->
     requires register { r < 32 }
     requires jumped { RegisterJumpsHoldAt at.now jumped.old }
     ensures found { FindsLeastBrokenByDuties at.now
-        (jumps_to at.now.point.state (possible_targets_at at.now (Reg r))) result }
+        (jump_duties_to at.now.point.state (possible_targets_at at.now (Reg r))) result }
     ensures jumped { RegisterJumpsHoldAt at.now jumped.new }
 {
     if *jumped == Some(r) {

@@ -26,7 +26,7 @@ use Rattle.frame_places.specs.declared.refusals.Refusal.TheVariants.{Fault, NoMe
 use Rattle.frame_places.specs.Marks.{value_of_place}
 use Rattle.frame_places.specs.declared.places.Marked.{Marked}
 use Rattle.depth_maker.specs.SpotsAsPlaces.{spot_of, place_of_spot}
-use Rattle.frame_places.specs.Counting.{points_after_flow, frames_after_flow, IsRule15Refusal}
+use Rattle.frame_places.specs.Counting.{points_after_recording, frames_after_recording, IsLimitRefusal}
 use Rattle.depth_maker.specs.Answers.{RefusalNamesFault}
 
 -- few spots are few places
@@ -85,7 +85,7 @@ none_of (Some v) e = cc
 module _ {S T : Type 0} (b : Limits) (image : ImageData) (plan : PlanData) (cells : IndexMap Spot (Marked Known) S) (after : IndexMap Spot (Marked Known) T) where
   at_spot : (t : Bool) (y : Spot) (ps : List Spot) (ks : List Key) → Joins b image plan (λ q. value_of_place cells (spot_of q)) (λ q. value_of_place after (spot_of q)) (place_of_spot y)
       → ListsPointsAndFrames (λ q. value_of_place cells (spot_of q)) (map place_of_spot ps) ks → is_some (value_of_place cells y) ≡ t
-      → ListsPointsAndFrames (λ q. value_of_place after (spot_of q)) (map place_of_spot (points_after_flow t ps y)) (frames_after_flow t ks y)
+      → ListsPointsAndFrames (λ q. value_of_place after (spot_of q)) (map place_of_spot (points_after_recording t ps y)) (frames_after_recording t ks y)
   at_spot true (Point k p) ps ks j c e = counted_rises b image plan (λ q. value_of_place cells (spot_of q)) (λ q. value_of_place after (spot_of q)) (point k p) j (map place_of_spot ps) ks c e
   at_spot true (Exit k) ps ks j c e = counted_rises b image plan (λ q. value_of_place cells (spot_of q)) (λ q. value_of_place after (spot_of q)) (exit k) j (map place_of_spot ps) ks c e
   at_spot false (Exit k) ps ks j c e = counted_exit b image plan (λ q. value_of_place cells (spot_of q)) (λ q. value_of_place after (spot_of q)) (exit k) j (map place_of_spot ps) ks k c refl
@@ -94,11 +94,11 @@ module _ {S T : Type 0} (b : Limits) (image : ImageData) (plan : PlanData) (cell
       (counted_more b image plan (λ q. value_of_place cells (spot_of q)) (λ q. value_of_place after (spot_of q)) k p j (map place_of_spot ps) ks c (none_of (value_of_place cells (Point k p)) e))
 
 pub counted_after : {S T : Type 0} (b : Limits) (image : ImageData) (plan : PlanData) (cells : IndexMap Spot (Marked Known) S) (after : IndexMap Spot (Marked Known) T) (ps qs : List Spot) (ks js : List Key) (y : Spot)
-    → Joins b image plan (λ q. value_of_place cells (spot_of q)) (λ q. value_of_place after (spot_of q)) (place_of_spot y) → qs ≡ points_after_flow (is_some (value_of_place cells y)) ps y
-    → js ≡ frames_after_flow (is_some (value_of_place cells y)) ks y → AreWithinCertLimits (map place_of_spot qs) js → ListsTablePlaces cells ps ks → ListsTablePlaces after qs js
+    → Joins b image plan (λ q. value_of_place cells (spot_of q)) (λ q. value_of_place after (spot_of q)) (place_of_spot y) → qs ≡ points_after_recording (is_some (value_of_place cells y)) ps y
+    → js ≡ frames_after_recording (is_some (value_of_place cells y)) ks y → AreWithinCertLimits (map place_of_spot qs) js → ListsTablePlaces cells ps ks → ListsTablePlaces after qs js
 counted_after b image plan cells after ps qs ks js y j p k few c = record {
   each = subst (λ (l : List Spot). ListsPointsAndFrames (λ q. value_of_place after (spot_of q)) (map place_of_spot l) js) (sym p)
-      (subst (λ (l : List Key). ListsPointsAndFrames (λ q. value_of_place after (spot_of q)) (map place_of_spot (points_after_flow (is_some (value_of_place cells y)) ps y)) l) (sym k)
+      (subst (λ (l : List Key). ListsPointsAndFrames (λ q. value_of_place after (spot_of q)) (map place_of_spot (points_after_recording (is_some (value_of_place cells y)) ps y)) l) (sym k)
       (at_spot b image plan cells after (is_some (value_of_place cells y)) y ps ks j c.each refl));
   few = few;
 }
@@ -110,7 +110,7 @@ full_places ps n P (inr h) = inr h
 -- a limit is passed
 pub limit_passed : {S : Type 0} (b : Limits) (image : ImageData) (plan : PlanData) (cells : IndexMap Spot (Marked Known) S) (ps : List Spot) (ks : List Key) (y : Spot) (v : Known)
     → Derived b image plan (λ q. value_of_place cells (spot_of q)) → AsksFor b image plan (λ q. value_of_place cells (spot_of q)) (place_of_spot y) v → ListsTablePlaces cells ps ks
-    → (e : Refusal) → IsRule15Refusal (is_some (value_of_place cells y)) ps ks y e → RefusalNamesFault b image plan e
+    → (e : Refusal) → IsLimitRefusal (is_some (value_of_place cells y)) ps ks y e → RefusalNamesFault b image plan e
 limit_passed b image plan cells ps ks y v d asks c NoMemory h = tt
 limit_passed b image plan cells ps ks (Exit k) v d asks c (Fault rule x) h = absurd h.3
 limit_passed b image plan cells ps ks (Point k p) v d asks c (Fault rule x) h =

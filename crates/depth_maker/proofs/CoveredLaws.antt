@@ -15,7 +15,7 @@ use Rattle.cfg_recover.specs.Assignments.{Assignment, AssignmentCovers, Joins, P
 use Rattle.cfg_recover.specs.Duties.{Owed, enter, owed}
 use Rattle.cfg_recover.specs.Entries.{call_key}
 use Rattle.cfg_recover.proofs.Members.{contains_map}
-use Rattle.depth_maker.specs.Covered.{AreCallsCovered, AreNotedEntriesCovered, AreLastCallsCovered, IsCallOf, called_key}
+use Rattle.depth_maker.specs.Covered.{AreCallsCovered, AreCachedEntriesCovered, AreLastCallsCovered, IsCallOf, called_key}
 use Rattle.depth_maker.specs.WellFormedAssignments.{AllWellFormed}
 use Rattle.depth_maker.specs.MakerLaws.{AreMakerLaws}
 use Rattle.depth_maker.specs.TableView.{TableView}
@@ -36,7 +36,7 @@ call_stays b image plan laws a after y well_formed j x h = record {
 }
 
 pub covered_stay : (b : Limits) (image : ImageData) (plan : PlanData) (laws : AreMakerLaws b image plan) (a after : Assignment) (y : Place) (well_formed : AllWellFormed b a) (j : Joins b image plan a after y) (covered : CoveredEntries)
-    → AreNotedEntriesCovered b plan a covered → AreNotedEntriesCovered b plan after covered
+    → AreCachedEntriesCovered b plan a covered → AreCachedEntriesCovered b plan after covered
 covered_stay b image plan laws a after y well_formed j covered h = (interrupts_stay b image plan laws a after y well_formed j covered.interrupts h.0, λ x c. call_stays b image plan laws a after y well_formed j x (h.1 x c))
 
 -- the same values
@@ -48,7 +48,7 @@ call_again b a after same x h = record {
       record { known = e.known; at = same (point (called_key x t) t) ∙ e.at; covers = e.covers };
 }
 
-pub covered_again : (b : Limits) (plan : PlanData) (a after : Assignment) → ((q : Place) → after q ≡ a q) → (covered : CoveredEntries) → AreNotedEntriesCovered b plan a covered → AreNotedEntriesCovered b plan after covered
+pub covered_again : (b : Limits) (plan : PlanData) (a after : Assignment) → ((q : Place) → after q ≡ a q) → (covered : CoveredEntries) → AreCachedEntriesCovered b plan a covered → AreCachedEntriesCovered b plan after covered
 covered_again b plan a after same covered h = (interrupts_again b plan a after same covered.interrupts h.0, λ x c. call_again b a after same x (h.1 x c))
 
 -- ---- calls

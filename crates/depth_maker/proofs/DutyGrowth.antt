@@ -9,7 +9,7 @@ use Rattle.tc_isa.specs.declared.shapes.Arg.{Arg}
 use Rattle.tc_isa.specs.declared.shapes.Cond.{Cond}
 use Rattle.tc_isa.specs.declared.shapes.Shape.{Shape}
 use Rattle.tc_isa.specs.declared.shapes.Shape.TheVariants.{Compute, Load, Store, Branch, Jump, Call, Ret, Rfe, Syscall}
-use Rattle.tc_isa.specs.InBounds.{IsShape}
+use Rattle.tc_isa.specs.InBounds.{IsShapeInBounds}
 use Rattle.tc_machine.specs.Instructions.{wrapping_sum}
 use Rattle.value_domain.specs.declared.values.Val.{Val}
 use Rattle.value_domain.specs.declared.states.State.{State}
@@ -24,7 +24,7 @@ use Rattle.vd_transfer.proofs.HoldLaws.{same_length}
 use Rattle.store_ranges.proofs.Growth.{loads_grow}
 use Rattle.depth_cert.specs.declared.keys.Key.{Key}
 use Rattle.cfg_recover.specs.Code.{IsCode}
-use Rattle.cfg_recover.specs.Entries.{entry_stack_of, state_with_stack, call_entry, aln_entry, sys_entry}
+use Rattle.cfg_recover.specs.Entries.{handler_entry_sp_of, state_with_only_a10, call_entry, aln_entry, sys_entry}
 use Rattle.depth_cert.specs.Exits.{lower_values, exit_of_state, values_after_return_from, ExitCovers}
 use Rattle.store_ranges.specs.Accesses.{are_aligned}
 use Rattle.cfg_recover.specs.LocalFaults.{IsFaultless}
@@ -102,14 +102,14 @@ after_grows b s t x y kind ps pt px py c d = record {
 }
 
 -- ---- entries
-pub entry_covers : (v w : Val) (ie : Bool) (m n : ℕ) (lower : Bool) → IsBelow v w → n ≤ m → Covers (state_with_stack w ie n lower) (state_with_stack v ie m lower)
+pub entry_covers : (v w : Val) (ie : Bool) (m n : ℕ) (lower : Bool) → IsBelow v w → n ≤ m → Covers (state_with_only_a10 w ie n lower) (state_with_only_a10 v ie m lower)
 entry_covers v w ie m n lower below le =
     set_covers (record { regs = replicate 27 any_val; ie = ie; ccpn = m; lower = lower; locals = record { items = [] } })
     (record { regs = replicate 27 any_val; ie = ie; ccpn = n; lower = lower; locals = record { items = [] } }) 26 v w (length-replicate 27 any_val) (length-replicate 27 any_val)
     (record { regs = λ r lt x i. i; context = ((λ e. e), le, (λ e. e)); locals = tt }) below
 
 module _ (b : Limits) (image : ImageData) (plan : PlanData) (key : Key) (p : ℕ) (s t : State) (whole : IsImage image) (low : MeetSoundnessPremises b plan s) (high : MeetSoundnessPremises b plan t) (c : Covers t s) where
-  stack_grows : IsBelow (entry_stack_of plan key s) (entry_stack_of plan key t)
+  stack_grows : IsBelow (handler_entry_sp_of plan key s) (handler_entry_sp_of plan key t)
   stack_grows = elim (cases_Bool key.is) [ inl e ↦ rw e (reg_grows plan s t low.regs high.regs c.regs 26) | inr e ↦ rw e (λ x m. m) ]
 
   call_covers : Covers (call_entry t) (call_entry s)
@@ -117,21 +117,21 @@ module _ (b : Limits) (image : ImageData) (plan : PlanData) (key : Key) (p : ℕ
 
   sys_covers : (tin : ℕ) → Covers (sys_entry plan key t tin) (sys_entry plan key s tin)
   sys_covers tin =
-      let v = entry_stack_of plan key s in
-      let w = entry_stack_of plan key t in
+      let v = handler_entry_sp_of plan key s in
+      let w = handler_entry_sp_of plan key t in
       let c1 = set_covers s t 26 v w low.regs high.regs c stack_grows in
       let c2 = set_covers (with_reg_value s 26 v) (with_reg_value t 26 w) 15 (word_val tin) (word_val tin) (same_length s v _ ∙ low.regs) (same_length t w _ ∙ high.regs) c1 (λ x m. m) in
       record { regs = c2.regs; context = ((λ e. e), c2.context.1, (λ e. e)); locals = tt }
 
   aln_covers : Covers (aln_entry plan key t) (aln_entry plan key s)
   aln_covers =
-      let v = entry_stack_of plan key s in
-      let w = entry_stack_of plan key t in
-      set_covers (state_with_stack v false s.ccpn true) (state_with_stack w false t.ccpn true) 15 (word_val 4) (word_val 4)
+      let v = handler_entry_sp_of plan key s in
+      let w = handler_entry_sp_of plan key t in
+      set_covers (state_with_only_a10 v false s.ccpn true) (state_with_only_a10 w false t.ccpn true) 15 (word_val 4) (word_val 4)
       (entry_length v false s.ccpn true) (entry_length w false t.ccpn true) (entry_covers v w false s.ccpn t.ccpn true stack_grows c.context.1) (λ x m. m)
 
   -- ---- the parts
-  loaded_grows : (shape : Shape) → IsShape shape → IsBelow (value_loaded_by_shape b image plan s shape) (value_loaded_by_shape b image plan t shape)
+  loaded_grows : (shape : Shape) → IsShapeInBounds shape → IsBelow (value_loaded_by_shape b image plan s shape) (value_loaded_by_shape b image plan t shape)
   loaded_grows (Compute op dst x y) is = λ x m. m
   loaded_grows (Load dst base offset size signed after) is = loads_grow b image plan (address_of_access b plan (Load dst base offset size signed after) s) (address_of_access b plan (Load dst base offset size signed after) t) size signed low.plan whole is.3 (address_value b plan (Load dst base offset size signed after) s low is) (address_value b plan (Load dst base offset size signed after) t high is) (address_grows b plan s t low high c (Load dst base offset size signed after) is)
   loaded_grows (Branch test x y by lowers) is = λ x m. m
@@ -152,17 +152,17 @@ module _ (b : Limits) (image : ImageData) (plan : PlanData) (key : Key) (p : ℕ
     above : (shape : Shape) (d e : Owed) → DutyAt b image plan key p t n shape e → d.rule ≡ e.rule → IsDutyBelow d.duty e.duty → Above shape d
     above shape d e at rule below = (e, duty_listed b image plan key p t n shape e at, record { rule = rule; duty = below })
 
-    side_above : (test : Cond) (x : ℕ) (y : Arg) (by : ℕ) (lowers side : Bool) (q : ℕ) (u : State) → IsShape (Branch test x y by lowers) → refine_of b plan (Branch test x y by lowers) s side ≡ Some u
+    side_above : (test : Cond) (x : ℕ) (y : Arg) (by : ℕ) (lowers side : Bool) (q : ℕ) (u : State) → IsShapeInBounds (Branch test x y by lowers) → refine_of b plan (Branch test x y by lowers) s side ≡ Some u
         → ((v : State) → refine_of b plan (Branch test x y by lowers) t side ≡ Some v → DutyAt b image plan key p t n (Branch test x y by lowers) (owed 4 (jump q v))) → Above (Branch test x y by lowers) (owed 4 (jump q u))
     side_above test x y by lowers side q u is e at =
         let k = (branch_grows b plan s t test x y by lowers side low high c is u e).1 in
         above (Branch test x y by lowers) (owed 4 (jump q u)) (owed 4 (jump q k.0)) (at k.0 k.1) refl (refl, k.3)
 
-    not_aligned : (shape : Shape) (size : ℕ) → IsShape shape → not (are_aligned (address_of_access b plan shape s) size) ≡ true → not (are_aligned (address_of_access b plan shape t) size) ≡ true
+    not_aligned : (shape : Shape) (size : ℕ) → IsShapeInBounds shape → not (are_aligned (address_of_access b plan shape s) size) ≡ true → not (are_aligned (address_of_access b plan shape t) size) ≡ true
     not_aligned shape size is =
         not_falls _ _ (aligned_falls b plan s t low high c (address_of_access b plan shape s) (address_of_access b plan shape t) size (address_value b plan shape s low is) (address_value b plan shape t high is) (address_grows b plan s t low high c shape is))
 
-    misaligned_grows : (shape : Shape) → IsShape shape → may_be_misaligned b plan s shape ≡ true → may_be_misaligned b plan t shape ≡ true
+    misaligned_grows : (shape : Shape) → IsShapeInBounds shape → may_be_misaligned b plan s shape ≡ true → may_be_misaligned b plan t shape ≡ true
     misaligned_grows (Load dst base offset size signed after) is e = not_aligned (Load dst base offset size signed after) size is e
     misaligned_grows (Store src base offset size after) is e = not_aligned (Store src base offset size after) size is e
     misaligned_grows _ is e = e
@@ -180,7 +180,7 @@ module _ (b : Limits) (image : ImageData) (plan : PlanData) (key : Key) (p : ℕ
     above_by _ d code (system_back tin) = above (Syscall tin) d d (system_back tin) refl (refl, refl)
     above_by _ d code (misaligned shape e) = above shape d _ (misaligned shape (misaligned_grows shape (IsCode-bounded image plan p shape n code) e)) refl (refl, aln_covers)
     above_by _ d code (interrupt shape q i) =
-        above shape d _ (interrupt shape q (irqs_at s.ie t.ie q c.context.0 i)) refl (refl, entry_covers (entry_stack_of plan key s) (entry_stack_of plan key t) false q q true stack_grows (omega arith))
+        above shape d _ (interrupt shape q (irqs_at s.ie t.ie q c.context.0 i)) refl (refl, entry_covers (handler_entry_sp_of plan key s) (handler_entry_sp_of plan key t) false q q true stack_grows (omega arith))
     above_by _ d code returns = above Ret d _ returns refl (exit_covers s t low.regs high.regs c)
     above_by _ d code (resumes e) = above Rfe d _ (resumes e) refl (exit_covers s t low.regs high.regs c)
 

@@ -10,11 +10,11 @@ use Rattle.tc_isa.specs.declared.shapes.Op.{Op}
 use Rattle.tc_isa.specs.declared.shapes.Op.TheVariants.{Add, Sub, Sh}
 use Rattle.tc_isa.specs.declared.shapes.Shape.{Shape}
 use Rattle.tc_isa.specs.declared.shapes.Shape.TheVariants.{Compute, Scaled, Load, Store, Branch, Svlcx, Rslcx, Bisr, Enable, Disable, Mfcr}
-use Rattle.tc_isa.specs.InBounds.{IsArg, IsShape}
+use Rattle.tc_isa.specs.InBounds.{IsArgInBounds, IsShapeInBounds}
 use Rattle.value_domain.specs.declared.values.Val.{Val}
 use Rattle.value_domain.specs.declared.states.State.{State}
 use Rattle.value_domain.specs.Limits.{Limits, AreLimits}
-use Rattle.value_domain.specs.Sets.{Among, Within}
+use Rattle.value_domain.specs.Sets.{Among, AreAmong}
 use Rattle.value_domain.specs.Values.{IsInLattice, IsBelow, any_val, members, cover, word_val}
 use Rattle.value_domain.specs.State.{Covers, AreBelow, is_lower_slot}
 use Rattle.value_domain.proofs.CoverLaws.{cover_mono}
@@ -23,7 +23,7 @@ use Rattle.vd_transfer.specs.Operations.{operation_value}
 use Rattle.vd_transfer.specs.Refinement.{kept_left_words, kept_right_words, kept_self_compared_words, is_side_taken}
 use Rattle.value_domain.specs.Meets.{cover_if_any}
 use Rattle.vd_transfer.specs.Registers.{reg_of, arg_of, with_reg_value, state_after_reg_write, with_arg_value, is_same_register}
-use Rattle.vd_transfer.specs.EffectsOnStates.{state_with_increased_base, access_of, with_lower_unknown_from, transfer_of, address_of_access, state_after_lower_save, state_after_lower_restore}
+use Rattle.vd_transfer.specs.EffectsOnStates.{state_with_increased_base, address_by_mode, with_lower_unknown_from, transfer_of, address_of_access, state_after_lower_save, state_after_lower_restore}
 use Rattle.vd_transfer.specs.Branches.{state_with_narrowed_register, state_with_narrowed_operands, state_on_side, with_decremented_counter, refine_of}
 use Rattle.vd_transfer.specs.Soundness.{MeetSoundnessPremises}
 use Rattle.vd_transfer.proofs.HoldLaws.{reg_value, arg_value}
@@ -45,7 +45,7 @@ forgotten_below vs ws same below r lt =
 
 module _ (b : Limits) (p : PlanData) (s t : State) (low : MeetSoundnessPremises b p s) (high : MeetSoundnessPremises b p t) (c : Covers t s) where
   -- ---- operations
-  op_grows : (op : Op) (x y : Arg) → IsArg x → IsArg y → IsBelow (operation_value b op (arg_of p s x) (arg_of p s y)) (operation_value b op (arg_of p t x) (arg_of p t y))
+  op_grows : (op : Op) (x y : Arg) → IsArgInBounds x → IsArgInBounds y → IsBelow (operation_value b op (arg_of p s x) (arg_of p s y)) (operation_value b op (arg_of p t x) (arg_of p t y))
   op_grows op x y ix iy =
       monotone b op (arg_of p s x) (arg_of p s y) (arg_of p t x) (arg_of p t y) low.limits (arg_value b p s x low ix) (arg_value b p s y low iy) (arg_value b p t x high ix) (arg_value b p t y high iy)
       (arg_grows p s t low.regs high.regs c.regs x) (arg_grows p s t low.regs high.regs c.regs y)
@@ -62,22 +62,22 @@ module _ (b : Limits) (p : PlanData) (s t : State) (low : MeetSoundnessPremises 
       (reg_value b p s base low) vs (reg_value b p t base high) vt (reg_grows p s t low.regs high.regs c.regs base) inner
 
   -- ---- accesses
-  pub base_covers : (base : Arg) (offset : ℕ) (after : Bool) → IsArg base → offset < 2 ^ 32 → Covers (state_with_increased_base b p t base offset after) (state_with_increased_base b p s base offset after)
+  pub base_covers : (base : Arg) (offset : ℕ) (after : Bool) → IsArgInBounds base → offset < 2 ^ 32 → Covers (state_with_increased_base b p t base offset after) (state_with_increased_base b p s base offset after)
   base_covers (Word w) offset after is small = c
   base_covers (Reg r) offset false is small = c
   base_covers (Reg r) offset true is small = write_covers s t r _ _ low.regs high.regs c (op_grows Add (Reg r) (Word offset) is small)
 
-  pub access_grows : (base : Arg) (offset : ℕ) (after : Bool) → IsArg base → offset < 2 ^ 32 → IsBelow (access_of b p s base offset after) (access_of b p t base offset after)
+  pub access_grows : (base : Arg) (offset : ℕ) (after : Bool) → IsArgInBounds base → offset < 2 ^ 32 → IsBelow (address_by_mode b p s base offset after) (address_by_mode b p t base offset after)
   access_grows base offset true is small = arg_grows p s t low.regs high.regs c.regs base
   access_grows base offset false is small = op_grows Add base (Word offset) is small
 
 -- the base register that is increased leaves a setting
-pub base_setting : (b : Limits) (p : PlanData) (s : State) (base : Arg) (offset : ℕ) (after : Bool) → MeetSoundnessPremises b p s → IsArg base → offset < 2 ^ 32 → MeetSoundnessPremises b p (state_with_increased_base b p s base offset after)
+pub base_setting : (b : Limits) (p : PlanData) (s : State) (base : Arg) (offset : ℕ) (after : Bool) → MeetSoundnessPremises b p s → IsArgInBounds base → offset < 2 ^ 32 → MeetSoundnessPremises b p (state_with_increased_base b p s base offset after)
 base_setting b p s (Word w) offset after h is small = h
 base_setting b p s (Reg r) offset false h is small = h
 base_setting b p s (Reg r) offset true h is small = setting_write b p s r _ h (value_of_value b Add (reg_of p s r) (word_val offset) h.limits (reg_value b p s r h) (word_value b offset h.limits small))
 
-pub access_value : (b : Limits) (p : PlanData) (s : State) (base : Arg) (offset : ℕ) (after : Bool) → MeetSoundnessPremises b p s → IsArg base → offset < 2 ^ 32 → IsInLattice b (access_of b p s base offset after)
+pub access_value : (b : Limits) (p : PlanData) (s : State) (base : Arg) (offset : ℕ) (after : Bool) → MeetSoundnessPremises b p s → IsArgInBounds base → offset < 2 ^ 32 → IsInLattice b (address_by_mode b p s base offset after)
 access_value b p s base offset true h is small = arg_value b p s base h is
 access_value b p s base offset false h is small = value_of_value b Add (arg_of p s base) (word_val offset) h.limits (arg_value b p s base h is) (word_value b offset h.limits small)
 
@@ -96,7 +96,7 @@ module _ (b : Limits) (p : PlanData) (s t : State) (low : MeetSoundnessPremises 
     locals = rw (same_locals t s c) (implied_take t.locals.items s.locals.items (length s.locals.items - 1) c.locals);
   }
 
-  pub transfer_covers : (shape : Shape) (v w : Val) → IsShape shape → IsBelow v w → Covers (transfer_of b p shape t w) (transfer_of b p shape s v)
+  pub transfer_covers : (shape : Shape) (v w : Val) → IsShapeInBounds shape → IsBelow v w → Covers (transfer_of b p shape t w) (transfer_of b p shape s v)
   unfolding transfer_of
   transfer_covers (Compute op dst x y) v w is here = write_covers s t dst _ _ low.regs high.regs c (op_grows b p s t low high c op x y is.1 is.2)
   transfer_covers (Scaled dst base index n) v w is here = write_covers s t dst _ _ low.regs high.regs c (scaled_grows b p s t low high c base index n is.1 is.2 is.3)
@@ -112,7 +112,7 @@ module _ (b : Limits) (p : PlanData) (s t : State) (low : MeetSoundnessPremises 
   transfer_covers (Mfcr dst number) v w is here = write_covers s t dst any_val any_val low.regs high.regs c (λ x m. m)
   transfer_covers _ v w is here = c
 
-  pub address_grows : (shape : Shape) → IsShape shape → IsBelow (address_of_access b p shape s) (address_of_access b p shape t)
+  pub address_grows : (shape : Shape) → IsShapeInBounds shape → IsBelow (address_of_access b p shape s) (address_of_access b p shape t)
   unfolding address_of_access
   address_grows (Compute op dst x y) is = λ x m. m
   address_grows (Load dst base offset size signed after) is = access_grows b p s t low high c base offset after is.1 is.2
@@ -120,7 +120,7 @@ module _ (b : Limits) (p : PlanData) (s t : State) (low : MeetSoundnessPremises 
   address_grows (Branch test x y by lowers) is = λ x m. m
   address_grows _ is = λ x m. m
 
-pub address_value : (b : Limits) (p : PlanData) (shape : Shape) (s : State) → MeetSoundnessPremises b p s → IsShape shape → IsInLattice b (address_of_access b p shape s)
+pub address_value : (b : Limits) (p : PlanData) (shape : Shape) (s : State) → MeetSoundnessPremises b p s → IsShapeInBounds shape → IsInLattice b (address_of_access b p shape s)
 unfolding address_of_access
 address_value b p (Load dst base offset size signed after) s h is = access_value b p s base offset after h is.1 is.2
 address_value b p (Store src base offset size after) s h is = access_value b p s base offset after h is.1 is.2
@@ -128,7 +128,7 @@ address_value b p _ s h is = any_value b h.limits
 
 -- ---- refinement
 -- the members that are kept of a larger set have a larger cover
-kept_more : (b : Limits) (xs ys : List ℕ) (v : Val) → Within xs ys → cover_if_any b xs ≡ Some v → (w : Val) × (cover_if_any b ys ≡ Some w) × IsBelow v w
+kept_more : (b : Limits) (xs ys : List ℕ) (v : Val) → AreAmong xs ys → cover_if_any b xs ≡ Some v → (w : Val) × (cover_if_any b ys ≡ Some w) × IsBelow v w
 kept_more b [] ys v there e = absurd (let f : None ≡ Some v = e in cc)
 kept_more b (x ∷ xs) [] v there e = absurd (there x (inl refl))
 kept_more b (x ∷ xs) (y ∷ ys) v there e =
@@ -138,21 +138,21 @@ kept_value : (b : Limits) (xs : List ℕ) (v : Val) → AreLimits b → ((z : �
 kept_value b [] v limits below e = absurd (let f : None ≡ Some v = e in cc)
 kept_value b (x ∷ xs) v limits below e = subst (λ (u : Val). IsInLattice b u) (let f : Some (cover b (x ∷ xs)) ≡ Some v = e in cc) (cover_value b (x ∷ xs) x limits (inl refl) below)
 
-left_more : (cond : Cond) (side : Bool) (vs ws vs2 ws2 : List ℕ) → Within vs vs2 → Within ws ws2 → Within (kept_left_words cond side vs ws) (kept_left_words cond side vs2 ws2)
+left_more : (cond : Cond) (side : Bool) (vs ws vs2 ws2 : List ℕ) → AreAmong vs vs2 → AreAmong ws ws2 → AreAmong (kept_left_words cond side vs ws) (kept_left_words cond side vs2 ws2)
 unfolding kept_left_words
 left_more cond side vs ws vs2 ws2 there here z i =
     let k = among_filter (λ x. list_any (λ y. is_side_taken cond side x y) ws) z vs i in
     let a = any_among (λ y. is_side_taken cond side z y) ws k.1 in
     filter_has (λ x. list_any (λ y. is_side_taken cond side x y) ws2) z vs2 (there z k.0) (among_any (λ y. is_side_taken cond side z y) a.0 ws2 (here a.0 a.1) a.2)
 
-right_more : (cond : Cond) (side : Bool) (vs ws vs2 ws2 : List ℕ) → Within vs vs2 → Within ws ws2 → Within (kept_right_words cond side vs ws) (kept_right_words cond side vs2 ws2)
+right_more : (cond : Cond) (side : Bool) (vs ws vs2 ws2 : List ℕ) → AreAmong vs vs2 → AreAmong ws ws2 → AreAmong (kept_right_words cond side vs ws) (kept_right_words cond side vs2 ws2)
 unfolding kept_right_words
 right_more cond side vs ws vs2 ws2 there here z i =
     let k = among_filter (λ y. list_any (λ x. is_side_taken cond side x y) vs) z ws i in
     let a = any_among (λ x. is_side_taken cond side x z) vs k.1 in
     filter_has (λ y. list_any (λ x. is_side_taken cond side x y) vs2) z ws2 (here z k.0) (among_any (λ x. is_side_taken cond side x z) a.0 vs2 (there a.0 a.1) a.2)
 
-both_more : (cond : Cond) (side : Bool) (vs vs2 : List ℕ) → Within vs vs2 → Within (kept_self_compared_words cond side vs) (kept_self_compared_words cond side vs2)
+both_more : (cond : Cond) (side : Bool) (vs vs2 : List ℕ) → AreAmong vs vs2 → AreAmong (kept_self_compared_words cond side vs) (kept_self_compared_words cond side vs2)
 unfolding kept_self_compared_words
 both_more cond side vs vs2 there z i = let k = among_filter (λ z. is_side_taken cond side z z) z vs i in filter_has (λ z. is_side_taken cond side z z) z vs2 (there z k.0) k.1
 
@@ -215,14 +215,14 @@ module _ (b : Limits) (p : PlanData) (s t : State) (low : MeetSoundnessPremises 
         ),
       )
 
-  refined_grows : (test : Cond) (x : ℕ) (y : Arg) (side : Bool) → x < 32 → IsArg y → GrowsTo b p (state_on_side b p test x y s side) (state_on_side b p test x y t side)
+  refined_grows : (test : Cond) (x : ℕ) (y : Arg) (side : Bool) → x < 32 → IsArgInBounds y → GrowsTo b p (state_on_side b p test x y s side) (state_on_side b p test x y t side)
   refined_grows test x y side small is =
       let vx = reg_value b p s x low in
       let wx = reg_value b p t x high in
       let vy = arg_value b p s y low is in
       let wy = arg_value b p t y high is in
-      let there : Within (members (reg_of p s x)) (members (reg_of p t x)) = within_members b (reg_of p s x) (reg_of p t x) vx wx (reg_grows p s t low.regs high.regs c.regs x) in
-      let here : Within (members (arg_of p s y)) (members (arg_of p t y)) = within_members b (arg_of p s y) (arg_of p t y) vy wy (arg_grows p s t low.regs high.regs c.regs y) in
+      let there : AreAmong (members (reg_of p s x)) (members (reg_of p t x)) = within_members b (reg_of p s x) (reg_of p t x) vx wx (reg_grows p s t low.regs high.regs c.regs x) in
+      let here : AreAmong (members (arg_of p s y)) (members (arg_of p t y)) = within_members b (arg_of p s y) (arg_of p t y) vy wy (arg_grows p s t low.regs high.regs c.regs y) in
       elim (cases_Bool (is_same_register x y)) [
         | inl one ↦ rw one (one_grows x _ _ (λ v e.
             let m = kept_more b _ _ v (both_more test side _ _ there) e in (
@@ -265,7 +265,7 @@ lowered_grows b p x true (Some s) o2 small h u e =
     )
 
 -- a side of a branch that is possible is possible with a larger state, and leads to a larger state
-pub branch_grows : (b : Limits) (p : PlanData) (s t : State) (test : Cond) (x : ℕ) (y : Arg) (by : ℕ) (lowers side : Bool) → MeetSoundnessPremises b p s → MeetSoundnessPremises b p t → Covers t s → IsShape (Branch test x y by lowers)
+pub branch_grows : (b : Limits) (p : PlanData) (s t : State) (test : Cond) (x : ℕ) (y : Arg) (by : ℕ) (lowers side : Bool) → MeetSoundnessPremises b p s → MeetSoundnessPremises b p t → Covers t s → IsShapeInBounds (Branch test x y by lowers)
     → GrowsTo b p (refine_of b p (Branch test x y by lowers) s side) (refine_of b p (Branch test x y by lowers) t side)
 unfolding refine_of
 branch_grows b p s t test x y by lowers side low high c is = lowered_grows b p x lowers (state_on_side b p test x y s side) (state_on_side b p test x y t side) is.0 (refined_grows b p s t low high c test x y side is.0 is.1)

@@ -11,7 +11,7 @@ use Rattle.cfg_recover.specs.Duties.{interrupt_duties_of, entered_keys}
 use Rattle.cfg_recover.specs.Entries.{possible_irqs_of, irq_key}
 use Rattle.cfg_recover.proofs.Members.{contains_first, contains_map}
 use Rattle.frame_places.specs.Numbers.{frame_number_in}
-use Rattle.depth_maker.specs.InterruptHandlers.{AreHandlersOfIrqs, handler_nodes_above, taken_handlers}
+use Rattle.depth_maker.specs.InterruptHandlers.{AreHandlersOfIrqs, handler_nodes_above, handler_nodes_if_enabled}
 use Rattle.depth_maker.specs.declared.interrupt_handlers.Handler.{Handler}
 use Rattle.depth_maker.proofs.EnteredLemmas.{entered_irqs}
 use Rattle.depth_maker.proofs.InterruptLaws.{takes}
@@ -77,7 +77,7 @@ taken_by true m number hs irqs is agree = numbers_above m number hs (λ h c lt. 
 taken_by false m number hs irqs is agree = refl
 
 pub nodes_taken-is : (plan : PlanData) (frames : List Key) (key : Key) (s : State) (hs : List Handler) → AreHandlersOfIrqs plan frames plan.irqs hs → ((k : Key) → Contains (entered_keys (interrupt_duties_of plan key s)) k → Contains frames k)
-    → taken_handlers s.ie s.ccpn hs ≡ map (frame_number_in frames) (entered_keys (interrupt_duties_of plan key s))
+    → handler_nodes_if_enabled s.ie s.ccpn hs ≡ map (frame_number_in frames) (entered_keys (interrupt_duties_of plan key s))
 nodes_taken-is plan frames key s hs are known =
     let keys = entered_irqs plan key s (possible_irqs_of plan s) in
     let member : (h : Handler) → Contains hs h → IsTrue s.ie → nat_lt s.ccpn h.prio ≡ true → Contains frames (irq_key plan h.prio) =

@@ -16,12 +16,12 @@ use Rattle.depth_cert.specs.Known.{CoversKnown, Known, leaving, state}
 use Rattle.depth_cert.specs.WellFormed.{IsWellFormedState}
 use Rattle.cfg_recover.specs.Assignments.{Assignment, AssignmentCovers, Joins, Place, point}
 use Rattle.cfg_recover.specs.Duties.{Owed, enter, interrupt_duties_of, owed}
-use Rattle.cfg_recover.specs.Entries.{possible_irqs_of, state_with_stack, irq_entry, irq_key, entry_stack_of}
+use Rattle.cfg_recover.specs.Entries.{possible_irqs_of, state_with_only_a10, irq_entry, irq_key, handler_entry_sp_of}
 use Rattle.cfg_recover.proofs.EntryLaws.{entry_length}
 use Rattle.cfg_recover.proofs.Members.{contains_filter, contains_map}
 use Rattle.depth_maker.specs.WellFormedAssignments.{IsWellFormedDuty, AllWellFormed}
 use Rattle.depth_maker.specs.MakerLaws.{AreMakerLaws}
-use Rattle.depth_maker.specs.InterruptHandlers.{AreHandlersCovered, IsWithinContext, AreContextsCovered, IsContextOf, IsContextCovered, context_stack}
+use Rattle.depth_maker.specs.InterruptHandlers.{AreHandlersCovered, IsWithinContext, AreContextsCovered, IsContextOf, IsContextCovered, context_sp}
 use Rattle.depth_maker.specs.TableView.{TableView}
 use Rattle.depth_maker.specs.TableInvariant.{IsDutySettled}
 use Rattle.depth_maker.specs.declared.interrupt_contexts.InterruptContext.{InterruptContext}
@@ -41,7 +41,7 @@ one_stays b image plan laws a after y well_formed j (Some x) h = record {
       let e = h.each p c lt in
       record {
         well_formed = e.well_formed;
-        covers = covers_stays b image plan laws a after y well_formed j (point (irq_key plan p) (irq_key plan p).entry) (state (state_with_stack (context_stack plan x) false p true)) e.well_formed e.covers;
+        covers = covers_stays b image plan laws a after y well_formed j (point (irq_key plan p) (irq_key plan p).entry) (state (state_with_only_a10 (context_sp plan x) false p true)) e.well_formed e.covers;
       };
 }
 
@@ -82,11 +82,11 @@ stacks_below true false v w x e h = absurd (let no : false ≡ true = e in cc)
 stacks_below false true v w x e h = absurd (let no : true ≡ false = e in cc)
 stacks_below false false v w x e h = λ z m. m
 
-stack_below : (plan : PlanData) (k : Key) (s : State) (h : InterruptContext) → IsWithinContext h k.is s → IsBelow (entry_stack_of plan k s) (context_stack plan h)
+stack_below : (plan : PlanData) (k : Key) (s : State) (h : InterruptContext) → IsWithinContext h k.is s → IsBelow (handler_entry_sp_of plan k s) (context_sp plan h)
 unfolding register_slot
 stack_below plan k s h asks = stacks_below k.is h.is (slice_index_or s.regs 22 any_val) h.sp (word_val plan.isp) asks.same asks.below
 
-stack_same : (plan : PlanData) (k : Key) (s : State) (h : InterruptContext) → IsContextOf h k.is s → context_stack plan h ≡ entry_stack_of plan k s
+stack_same : (plan : PlanData) (k : Key) (s : State) (h : InterruptContext) → IsContextOf h k.is s → context_sp plan h ≡ handler_entry_sp_of plan k s
 unfolding register_slot
 stack_same plan k s h from =
     ap (λ (t : Bool). if t then h.sp else word_val plan.isp) from.same ∙ ap (λ (v : Val). if k.is then v else word_val plan.isp) from.sp
@@ -104,14 +104,14 @@ interrupts_settle b plan t k p s h entered asks d c =
     let q = r.0 in
     let i = taken s.ie s.ccpn plan.irqs q r.1 in
     let e = entered.each q i.0 (omega (arith, i.1, asks.above)) in
-    let v = context_stack plan h in
-    let w = entry_stack_of plan k s in
-    let less : Covers (state_with_stack v false q true) (state_with_stack w false q true) = entry_covers w v false q q true (stack_below plan k s h asks) (omega arith) in
+    let v = context_sp plan h in
+    let w = handler_entry_sp_of plan k s in
+    let less : Covers (state_with_only_a10 v false q true) (state_with_only_a10 w false q true) = entry_covers w v false q q true (stack_below plan k s h asks) (omega arith) in
     let covered : AssignmentCovers t.cells (point (irq_key plan q) (irq_key plan q).entry) (state (irq_entry plan k s q)) =
     record {
       known = (e.covers).known;
       at = (e.covers).at;
-      covers = covers_less (e.covers).known (state_with_stack v false q true) (state_with_stack w false q true) (entry_length w false q true ∙ sym (entry_length v false q true)) (e.covers).covers less;
+      covers = covers_less (e.covers).known (state_with_only_a10 v false q true) (state_with_only_a10 w false q true) (entry_length w false q true ∙ sym (entry_length v false q true)) (e.covers).covers less;
     } in
     subst (λ (o : Owed). IsDutySettled t k p s o.duty) r.2 covered
 
@@ -125,8 +125,8 @@ interrupts_new b plan t k p s h from ps on well_formed settled = record {
       let i = contains_map f (possible_irqs_of plan s) q (takes s.ie s.ccpn plan.irqs q on c (omega (arith, lt, from.ccpn))) in
       let e = sym (stack_same plan k s h from) in
       record {
-        well_formed = subst (λ (v : Val). IsWellFormedState b (state_with_stack v false q true)) e (well_formed (f q) i);
-        covers = subst (λ (v : Val). AssignmentCovers t.cells (point (irq_key plan q) (irq_key plan q).entry) (state (state_with_stack v false q true))) e (settled (f q) i);
+        well_formed = subst (λ (v : Val). IsWellFormedState b (state_with_only_a10 v false q true)) e (well_formed (f q) i);
+        covers = subst (λ (v : Val). AssignmentCovers t.cells (point (irq_key plan q) (irq_key plan q).entry) (state (state_with_only_a10 v false q true))) e (settled (f q) i);
       };
 }
 

@@ -29,7 +29,7 @@ use Rattle.depth_maker.proofs.Below.{asks_well_formed}
 use Rattle.depth_maker.proofs.CountedLemmas.{counted_after}
 use Rattle.depth_maker.proofs.LevelLaws.{rank_rises}
 use Rattle.depth_maker.proofs.LevelSteps.{level_rises}
-use Rattle.depth_maker.specs.Covered.{AreNotedEntriesCovered}
+use Rattle.depth_maker.specs.Covered.{AreCachedEntriesCovered}
 use Rattle.depth_maker.specs.TableLevels.{level_of_place}
 use Rattle.depth_maker.proofs.CoveredLaws.{covered_stay}
 use Rattle.frame_places.proofs.SpotLemmas.{equal_spots_are_same}
@@ -160,10 +160,10 @@ module _ (b : Limits) (image : ImageData) (plan : PlanData) (laws : AreMakerLaws
     numbers = λ n q h. tells.numbers n q ((rose.puts).numbers n q h);
   }
 
-  the_covered : AreNotedEntriesCovered b plan (view_of_table t).cells t.covered
+  the_covered : AreCachedEntriesCovered b plan (view_of_table t).cells t.covered
   the_covered =
       covered_stay b image plan laws (view_of_table s).cells (view_of_table t).cells (place_of_spot y) (derived_well_formed b image plan laws (view_of_table s).cells (fine.table).derived) the_joining t.covered
-      (subst (AreNotedEntriesCovered b plan (view_of_table s).cells) (sym (covered ∙ rose.covered)) fine.covered)
+      (subst (AreCachedEntriesCovered b plan (view_of_table s).cells) (sym (covered ∙ rose.covered)) fine.covered)
 
   pub the_joined : IsJoinedAt b image plan s t y v
   unfolding view_of_table the_joining

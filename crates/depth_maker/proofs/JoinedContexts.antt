@@ -16,7 +16,7 @@ use Rattle.vd_transfer.specs.Registers.{register_slot}
 use Rattle.depth_cert.specs.Known.{CoversKnown, Known, leaving, state}
 use Rattle.depth_cert.specs.WellFormed.{IsWellFormedState}
 use Rattle.cfg_recover.specs.Assignments.{Assignment, AssignmentCovers, Place, point}
-use Rattle.cfg_recover.specs.Entries.{state_with_stack, irq_key}
+use Rattle.cfg_recover.specs.Entries.{state_with_only_a10, irq_key}
 use Rattle.cfg_recover.proofs.EntryLaws.{entry_length}
 use Rattle.cfg_recover.proofs.FlowStates.{entry_values}
 use Rattle.depth_maker.specs.InterruptHandlers.{AreHandlersCovered, joined_context}
@@ -38,12 +38,12 @@ value_covered vs ws i v at below =
     subst (λ (u : Val). IsBelow u (get_or ws i any_val)) (get_or-set_same vs i v any_val at) (below i (omega (arith, at, length-set vs i v)))
 
 -- A10 of an entry is covered
-stack_here : (x : State) (v : Val) (p : ℕ) → Covers x (state_with_stack v false p true) → IsBelow v (get_or x.regs 22 any_val)
+stack_here : (x : State) (v : Val) (p : ℕ) → Covers x (state_with_only_a10 v false p true) → IsBelow v (get_or x.regs 22 any_val)
 unfolding register_slot
 stack_here x v p c = value_covered (replicate 27 any_val) x.regs 22 v (omega (arith, length-replicate 27 any_val)) c.regs
 
 -- so is another A10
-stack_covered : (x : State) (v w : Val) (p : ℕ) → Covers x (state_with_stack v false p true) → IsBelow w (get_or x.regs 22 any_val) → Covers x (state_with_stack w false p true)
+stack_covered : (x : State) (v w : Val) (p : ℕ) → Covers x (state_with_only_a10 v false p true) → IsBelow w (get_or x.regs 22 any_val) → Covers x (state_with_only_a10 w false p true)
 unfolding register_slot
 stack_covered x v w p c below = record {
   regs = set_covered (replicate 27 any_val) x.regs 22 v w (omega (arith, length-replicate 27 any_val)) c.regs below;
@@ -54,24 +54,24 @@ stack_covered x v w p c below = record {
 module _ (b : Limits) (a : Assignment) (limits : AreLimits b) (well_formed : AllWellFormed b a) where
   -- ---- one entry
   module _ (v w : Val) (vv : IsInLattice b v) (vw : IsInLattice b w) (y : Place) (p : ℕ) where
-    known_joined : (u : Known) → a y ≡ Some u → CoversKnown u (state (state_with_stack v false p true)) → CoversKnown u (state (state_with_stack w false p true)) → CoversKnown u (state (state_with_stack (join_of b v w) false p true))
+    known_joined : (u : Known) → a y ≡ Some u → CoversKnown u (state (state_with_only_a10 v false p true)) → CoversKnown u (state (state_with_only_a10 w false p true)) → CoversKnown u (state (state_with_only_a10 (join_of b v w) false p true))
     known_joined (state x) e h k =
         let px : IsWellFormedState b x = well_formed y (state x) e in
         stack_covered x v (join_of b v w) p h ((join_least b v w limits vv vw).least (get_or x.regs 22 any_val) (px.values 22 (omega (arith, px.regs))) (stack_here x v p h) (stack_here x w p k))
     known_joined (leaving x) e h k = absurd h
 
-    entry_joined : AssignmentCovers a y (state (state_with_stack v false p true)) → AssignmentCovers a y (state (state_with_stack w false p true)) → AssignmentCovers a y (state (state_with_stack (join_of b v w) false p true))
+    entry_joined : AssignmentCovers a y (state (state_with_only_a10 v false p true)) → AssignmentCovers a y (state (state_with_only_a10 w false p true)) → AssignmentCovers a y (state (state_with_only_a10 (join_of b v w) false p true))
     entry_joined c d =
         let e : d.known ≡ c.known = (let f : Some d.known ≡ Some c.known = sym d.at ∙ c.at in cc) in
-        record { known = c.known; at = c.at; covers = known_joined c.known c.at c.covers (subst (λ (u : Known). CoversKnown u (state (state_with_stack w false p true))) e d.covers) }
+        record { known = c.known; at = c.at; covers = known_joined c.known c.at c.covers (subst (λ (u : Known). CoversKnown u (state (state_with_only_a10 w false p true))) e d.covers) }
 
     -- on the interrupt stack A10 is joined; another stack begins at ISP
-    stack_joined : (inner : Bool) (x : Val) → AssignmentCovers a y (state (state_with_stack (if inner then v else x) false p true)) → AssignmentCovers a y (state (state_with_stack (if inner then w else x) false p true))
-        → AssignmentCovers a y (state (state_with_stack (if inner then join_of b v w else x) false p true))
+    stack_joined : (inner : Bool) (x : Val) → AssignmentCovers a y (state (state_with_only_a10 (if inner then v else x) false p true)) → AssignmentCovers a y (state (state_with_only_a10 (if inner then w else x) false p true))
+        → AssignmentCovers a y (state (state_with_only_a10 (if inner then join_of b v w else x) false p true))
     stack_joined true x c d = entry_joined c d
     stack_joined false x c d = c
 
-    stack_well_formed : (inner : Bool) (x : Val) → IsWellFormedState b (state_with_stack (if inner then v else x) false p true) → IsWellFormedState b (state_with_stack (if inner then join_of b v w else x) false p true)
+    stack_well_formed : (inner : Bool) (x : Val) → IsWellFormedState b (state_with_only_a10 (if inner then v else x) false p true) → IsWellFormedState b (state_with_only_a10 (if inner then join_of b v w else x) false p true)
     unfolding register_slot
     stack_well_formed true x c = record {
       regs = entry_length (join_of b v w) false p true;
@@ -89,7 +89,7 @@ module _ (b : Limits) (a : Assignment) (limits : AreLimits b) (well_formed : All
         let y : Place = point (irq_key plan p) (irq_key plan p).entry in
         let i = eh.each p c lt in
         let j = eg.each p c (omega (arith, level, lt)) in
-        let other : AssignmentCovers a y (state (state_with_stack (if h.is then g.sp else x) false p true)) = subst (λ (t : Bool). AssignmentCovers a y (state (state_with_stack (if t then g.sp else x) false p true))) same j.covers in
+        let other : AssignmentCovers a y (state (state_with_only_a10 (if h.is then g.sp else x) false p true)) = subst (λ (t : Bool). AssignmentCovers a y (state (state_with_only_a10 (if t then g.sp else x) false p true))) same j.covers in
         record {
           well_formed = stack_well_formed h.sp g.sp eh.stack eg.stack y p h.is x i.well_formed;
           covers = stack_joined h.sp g.sp eh.stack eg.stack y p h.is x i.covers other;

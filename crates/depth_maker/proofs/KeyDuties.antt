@@ -9,7 +9,7 @@ use Rattle.tcd_plan.specs.PlanData.{PlanData}
 use Rattle.tc_isa.specs.declared.shapes.Target.{Target}
 use Rattle.tc_isa.specs.declared.shapes.Target.TheVariants as target
 use Rattle.tc_isa.specs.declared.shapes.Shape.{Shape}
-use Rattle.tc_isa.specs.InBounds.{IsShape, IsTarget}
+use Rattle.tc_isa.specs.InBounds.{IsShapeInBounds, IsTargetInBounds}
 use Rattle.tc_machine.specs.Instructions.{wrapping_sum}
 use Rattle.value_domain.specs.declared.values.Val.{Val}
 use Rattle.value_domain.specs.declared.values.Val.TheVariants.{Set, Span}
@@ -58,7 +58,7 @@ irqs_among plan s false q c = absurd (omega (arith, c.1))
 irqs_among plan s true q c = (contained_filter (λ p. ltb s.ccpn p) plan.irqs q c).0
 
 module _ (b : Limits) (image : ImageData) (plan : PlanData) (key : Key) (p : ℕ) (s : State) (set : MeetSoundnessPremises b plan s) (is_key : IsKey key) where
-  pub target_small : (to : Target) → IsTarget to → (x : ℕ) → Contains (unwrap_or (targets_of plan s p to) []) x → x < 2 ^ 32
+  pub target_small : (to : Target) → IsTargetInBounds to → (x : ℕ) → Contains (unwrap_or (targets_of plan s p to) []) x → x < 2 ^ 32
   target_small (target.Rel by) is x c = elim (among_contained (wrapping_sum p by ∷ []) x c) [ inl e ↦ (let f : x ≡ (p + by) % 2 ^ 32 = e in omega arith) | inr n ↦ absurd n ]
   target_small (target.Abs y) is x c = elim (among_contained (y ∷ []) x c) [ inl e ↦ (let f : x ≡ y = e in omega (arith, is)) | inr n ↦ absurd n ]
   target_small (target.Reg r) is x c = named_small (reg_of plan s r) (reg_value b plan s r set).well x (among_contained (unwrap_or (targets_of_value (reg_of plan s r)) []) x c)
@@ -78,7 +78,7 @@ module _ (b : Limits) (image : ImageData) (plan : PlanData) (key : Key) (p : ℕ
   irq_is : (q : ℕ) → q < 2 ^ 8 → IsKey (irq_key plan q)
   irq_is q lt = record { kind = omega arith; entry = or_of_32 plan.biv (q * 2 ^ 5) ((set.plan).words.biv) (omega arith); prio = lt }
 
-  key_by : (shape : Shape) (n : ℕ) (d : Owed) → IsShape shape → DutyAt b image plan key p s n shape d → HasKey d.duty
+  key_by : (shape : Shape) (n : ℕ) (d : Owed) → IsShapeInBounds shape → DutyAt b image plan key p s n shape d → HasKey d.duty
   key_by _ n _ is (called to q c) = call_is q (target_small to is q c)
   key_by _ n _ is (called_back to q c) = call_is q (target_small to is q c)
   key_by _ n _ is (system tin) = sys_is
@@ -87,5 +87,5 @@ module _ (b : Limits) (image : ImageData) (plan : PlanData) (key : Key) (p : ℕ
   key_by _ n _ is (interrupt shape q c) = irq_is q (irq_small plan.irqs q (set.plan).irqs.each (irqs_among plan s s.ie q c))
   key_by _ n _ is _ = tt
 
-  pub duties_keys : (shape : Shape) (n : ℕ) → IsShape shape → (d : Owed) → Contains (duties_of b image plan key p s shape n) d → HasKey d.duty
+  pub duties_keys : (shape : Shape) (n : ℕ) → IsShapeInBounds shape → (d : Owed) → Contains (duties_of b image plan key p s shape n) d → HasKey d.duty
   duties_keys shape n is d c = key_by shape n d is (duty_at b image plan key p s n shape d c)

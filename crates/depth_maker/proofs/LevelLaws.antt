@@ -9,7 +9,7 @@ use Rattle.value_domain.specs.declared.values.Val.{Val}
 use Rattle.value_domain.specs.declared.values.Val.TheVariants.{Set, Span}
 use Rattle.value_domain.specs.declared.states.State.{State}
 use Rattle.value_domain.specs.Limits.{Limits, AreLimits}
-use Rattle.value_domain.specs.Sets.{Among, Within, IsAscending}
+use Rattle.value_domain.specs.Sets.{Among, AreAmong, IsAscending}
 use Rattle.value_domain.specs.Values.{IsBelow, IsWellFormed, span_len, first_member_quotient, members}
 use Rattle.value_domain.specs.State.{AreBelow, AreWellFormed, Covers, FlagsImply}
 use Rattle.value_domain.proofs.CoverLaws.{among_member, has_step, length-multiples, member_among, step_cases}
@@ -26,7 +26,7 @@ use Rattle.small_states.proofs.IncomingLemmas.{values_well}
 
 -- ---- values
 -- an ascending list within another that is no longer has all that the other has
-within_back : (xs ys : List ℕ) → IsAscending xs → IsAscending ys → Within xs ys → length ys ≤ length xs → Within ys xs
+within_back : (xs ys : List ℕ) → IsAscending xs → IsAscending ys → AreAmong xs ys → length ys ≤ length xs → AreAmong ys xs
 within_back xs [] rx ry w le z i = absurd i
 within_back [] (y ∷ ys) rx ry w le z i = absurd (omega arith)
 within_back (x ∷ xs) (y ∷ ys) rx ry w le z i =
@@ -34,17 +34,17 @@ within_back (x ∷ xs) (y ∷ ys) rx ry w le z i =
       | inl e ↦ elim i [ inl f ↦ inl (f ∙ sym e) | inr j ↦ inr (within_back xs ys rx.1 ry.1 (rest e) (omega arith) z j) ]
       | inr j ↦ absurd (omega (arith, length_within (x ∷ xs) ys rx ry.1 (later j)))
     ] where
-      rest : x ≡ y → Within xs ys
+      rest : x ≡ y → AreAmong xs ys
       rest e u h = elim (w u (inr h)) [ inl f ↦ absurd (let lt = rx.0 u h in omega arith) | inr k ↦ k ]
 
-      later : Among x ys → Within (x ∷ xs) ys
+      later : Among x ys → AreAmong (x ∷ xs) ys
       later j u h =
           elim h [
             | inl f ↦ subst (λ (n : ℕ). Among n ys) (sym f) j
             | inr k ↦ elim (w u (inr k)) [ inl f ↦ absurd (let a = rx.0 u k in let c = ry.0 x j in omega arith) | inr m ↦ m ]
           ]
 
-members_within : (v w : Val) → IsWellFormed v → IsWellFormed w → IsBelow v w → Within (members v) (members w)
+members_within : (v w : Val) → IsWellFormed v → IsWellFormed w → IsBelow v w → AreAmong (members v) (members w)
 members_within v w wv ww h z i = among_member w z (has_step w ww) (h z (member_among v z (has_step v wv) i))
 
 size_below : (v w : Val) → IsWellFormed v → IsWellFormed w → IsBelow v w → length (members v) ≤ length (members w)

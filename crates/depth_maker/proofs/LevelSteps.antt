@@ -20,7 +20,7 @@ use Rattle.depth_maker.specs.TableLevels.{level_of_table, level_of_place, LevelR
 use Rattle.frame_places.specs.Spots.{spot_eq}
 use Rattle.depth_maker.specs.TableInvariant.{AreKnownWellFormed}
 use Rattle.depth_maker.specs.AssignmentCounts.{ListsTablePlaces}
-use Rattle.frame_places.specs.Counting.{frames_after_flow, points_after_flow}
+use Rattle.frame_places.specs.Counting.{frames_after_recording, points_after_recording}
 use Rattle.depth_maker.proofs.CountedLemmas.{few_spots}
 use Rattle.depth_maker.proofs.LevelLaws.{at_most, most_rank}
 use Rattle.frame_places.proofs.MarkLemmas.{sides}
@@ -39,12 +39,12 @@ sum_higher {X} f g (x ∷ xs) y le c lt =
       | inr i ↦ omega (arith, le x, sum_by-cons f x xs, sum_by-cons g x xs, sum_higher f g xs y le i lt)
     ]
 
-points_more : (f : Spot → ℕ) (known : Bool) (ps : List Spot) (y : Spot) → sum_by f ps ≤ sum_by f (points_after_flow known ps y)
+points_more : (f : Spot → ℕ) (known : Bool) (ps : List Spot) (y : Spot) → sum_by f ps ≤ sum_by f (points_after_recording known ps y)
 points_more f true ps y = omega arith
 points_more f false ps (Point k p) = omega (arith, sum_by_push f ps (Point k p))
 points_more f false ps (Exit k) = omega arith
 
-frames_more : (f : Key → ℕ) (known : Bool) (ks : List Key) (y : Spot) → sum_by f ks ≤ sum_by f (frames_after_flow known ks y)
+frames_more : (f : Key → ℕ) (known : Bool) (ks : List Key) (y : Spot) → sum_by f ks ≤ sum_by f (frames_after_recording known ks y)
 frames_more f true ks y = omega arith
 frames_more f false ks (Exit k) = omega arith
 frames_more f false ks (Point k p) = at (p == k.entry) where
@@ -54,7 +54,7 @@ frames_more f false ks (Point k p) = at (p == k.entry) where
 
 -- ---- a join
 module _ (s t : made.Table) (y : Spot) (u : Known) (known : Bool) (after : (q : Spot) → value_of_place t.places q ≡ (if spot_eq y q then Some u else value_of_place s.places q))
-    (points : t.points.items ≡ points_after_flow known s.points.items y) (frames : t.frames.items ≡ frames_after_flow known s.frames.items y) (counted : ListsTablePlaces t.places t.points.items t.frames.items)
+    (points : t.points.items ≡ points_after_recording known s.points.items y) (frames : t.frames.items ≡ frames_after_recording known s.frames.items y) (counted : ListsTablePlaces t.places t.points.items t.frames.items)
     (higher : level_of_place (value_of_place s.places y) < level_of_place (Some u)) where
   abbrev old : Spot → ℕ
   old q = level_of_place (value_of_place s.places q)

@@ -15,8 +15,8 @@ use Rattle.cfg_recover.specs.Assignments.{Place, point, exit, Assignment, key_of
 use Rattle.depth_cert.specs.Known.{Known, state, leaving, CoversKnown}
 use Rattle.cfg_recover.specs.CertRefusals.{AreSufficientNeeds, IsRefusal}
 use Rattle.depth_maker.specs.DutiesMonotone.{AreMakerInputs}
-use Rattle.depth_maker.specs.MakerLaws.{IsMakerSolution, MakeErrExcludesCerts, LeastClosedIsLeastCert, RefusalMeansNoCertAccepted, LeastCertIsLeastAccepted}
-use Rattle.depth_maker.specs.LeastCertMade.{need_in_cert, IsNoWorse, IsLeastCert, IsLeastClosedCert}
+use Rattle.depth_maker.specs.MakerLaws.{IsMakerSolution, MakeErrExcludesCerts, LeastFixpointIsLeastCert, RefusalMeansNoCertAccepted, LeastCertIsLeastAccepted}
+use Rattle.depth_maker.specs.LeastCertMade.{need_in_cert, IsNoWorse, IsLeastCert, IsLeastFixpointCert}
 use Rattle.depth_maker.proofs.Lawful.{lawful}
 use Rattle.depth_maker.proofs.Below.{derived_below}
 use Rattle.depth_maker.proofs.TableLaws.{derived_well_formed}
@@ -46,7 +46,7 @@ meets_alike b image plan a f g closed same m = record {
 numbers_agree : (cert : CertData) → IsCert cert → (k : Key) → IsKey k → need_or_zero (find_node k cert.nodes) ≡ need_in_cert cert k
 numbers_agree cert is_cert k key = ap need_or_zero (sym (find_agrees cert.version k cert.nodes key is_cert.nodes))
 
-module _ (image : ImageData) (plan : PlanData) (cert : CertData) (ground : AreMakerInputs (limits_of_cert plan cert) image plan) (entry : image.entry < 2 ^ 32) (w : IsLeastClosedCert image plan cert.version cert) where
+module _ (image : ImageData) (plan : PlanData) (cert : CertData) (ground : AreMakerInputs (limits_of_cert plan cert) image plan) (entry : image.entry < 2 ^ 32) (w : IsLeastFixpointCert image plan cert.version cert) where
   -- needs of any certificate, by numbers and by keys
   by_keys : (other : CertData) → IsCert other → AreSufficientNeeds (limits_of_cert plan cert) image plan (assignment_of_cert cert) (λ k. need_or_zero (find_node k other.nodes)) → AreSufficientNeeds (limits_of_cert plan cert) image plan (assignment_of_cert cert) (need_in_cert other)
   by_keys other is_other m =
@@ -122,11 +122,11 @@ made_is_least image plan version cert m = record {
 pub none_accepted : MakeErrExcludesCerts
 none_accepted image plan version rule key addr cert r is v a = r.1 cert is v a
 
-pub made : LeastClosedIsLeastCert
+pub made : LeastFixpointIsLeastCert
 made image plan version cert ground entry w =
     subst (λ n. IsLeastCert image plan n cert) w.of_version
     (written_made image plan cert (subst (λ n. AreMakerInputs (limits_for plan n) image plan) (sym w.of_version) ground) entry
-    (subst (λ n. IsLeastClosedCert image plan n cert) (sym w.of_version) w))
+    (subst (λ n. IsLeastFixpointCert image plan n cert) (sym w.of_version) w))
 
 pub refused : RefusalMeansNoCertAccepted
 refused image plan version r k p ground entry refusal cert is_cert same accepted =

@@ -16,12 +16,12 @@ use Rattle.cfg_recover.specs.Entries.{start_key}
 use Rattle.cfg_recover.specs.Assignments.{point, exit}
 use Rattle.cfg_recover.specs.CertRefusals.{IsRefusalFault, IsLeastAssignment, IsRefusal, IsRefusalWithLimits, fault, recursion, need}
 use Rattle.depth_maker.specs.DutiesMonotone.{AreMakerInputs}
-use Rattle.depth_maker.specs.Answers.{HasLimitsOfFormat, IsRightMakeErr, MakeErrHolds, RefusalIsRight}
+use Rattle.depth_maker.specs.Answers.{HasLimitsOfFormat, IsRightMakeErr, MakeErrNamesRefusal, NamesDerivedFault}
 use Rattle.depth_maker.specs.LeastCertMade.{AreLeastCertBytes, IsLeastCert}
-use Rattle.depth_maker.specs.SpelledCert.{AreClosedCertBytesForInputs}
+use Rattle.depth_maker.specs.SpelledCert.{AreFixpointCertBytesForInputs}
 use Rattle.depth_maker.specs.Needs.{AreLeastNeedsOrTooMany, AreLeastTableNeeds}
 use Rattle.depth_maker.specs.Recursing.{IsFirstRecursion}
-use Rattle.depth_maker.specs.Rows.{IsRowSource}
+use Rattle.depth_maker.specs.Rows.{HasFinishedTable}
 use Rattle.depth_maker.specs.SpotsAsPlaces.{place_of_spot}
 use Rattle.depth_maker.specs.TableView.{view_of_table}
 use Rattle.depth_maker.specs.declared.inputs_and_limits.Ground.{Ground}
@@ -36,33 +36,33 @@ use Rattle.depth_maker.proofs.LeastStands.{least_stands}
 use Rattle.depth_maker.proofs.MadeLaws.{made, refused}
 
 -- ---- refusals
-pub fault_refuses : (g : Ground) (rule : ℕ) (k : Key) (p : ℕ) → RefusalIsRight g (Fault rule (Point k p)) → MakeErrHolds g (Refused rule k p)
+pub fault_refuses : (g : Ground) (rule : ℕ) (k : Key) (p : ℕ) → NamesDerivedFault g (Fault rule (Point k p)) → MakeErrNamesRefusal g (Refused rule k p)
 fault_refuses g rule k p a =
     let e : point k p ≡ point a.0 a.1 = a.2 in
     let key : a.0 ≡ k = cc in
     let addr : a.1 ≡ p = cc in
     fault rule k p (subst (λ (n : ℕ). IsRefusalFault g.bounds.now g.image.now g.plan.now rule k n) addr (subst (λ (z : Key). IsRefusalFault g.bounds.now g.image.now g.plan.now rule z a.1) key a.3))
 
-pub no_exit_refuses : (g : Ground) (rule : ℕ) (k : Key) → RefusalIsRight g (Fault rule (Exit k)) → ⊥
+pub no_exit_refuses : (g : Ground) (rule : ℕ) (k : Key) → NamesDerivedFault g (Fault rule (Exit k)) → ⊥
 no_exit_refuses g rule k a = absurd (let e : exit k ≡ point a.0 a.1 = a.2 in cc)
 
 -- the table's assignment is the least
-pub least_of : (s : Source) → IsRowSource s → IsLeastAssignment (s.ground.now).bounds.now (s.ground.now).image.now (s.ground.now).plan.now (view_of_table s.table.now).cells
+pub least_of : (s : Source) → HasFinishedTable s → IsLeastAssignment (s.ground.now).bounds.now (s.ground.now).image.now (s.ground.now).plan.now (view_of_table s.table.now).cells
 unfolding view_of_table
 least_of s source =
     let done = source.done in
     least_stands _ _ _ (lawful _ _ _ (s.ground.now).sound) (view_of_table s.table.now).cells done.derived done.closed done.faultless
     (counted_within (view_of_table s.table.now).cells (map place_of_spot (s.table.now).points.items) (s.table.now).frames.items (done.counted).each (done.counted).few)
 
-pub recursion_refuses : (s : Source) (k : Key) (p : ℕ) → IsRowSource s → IsFirstRecursion s (Some (k, p)) → MakeErrHolds s.ground.now (Refused 14 k p)
+pub recursion_refuses : (s : Source) (k : Key) (p : ℕ) → HasFinishedTable s → IsFirstRecursion s (Some (k, p)) → MakeErrNamesRefusal s.ground.now (Refused 14 k p)
 recursion_refuses s k p source first = recursion (view_of_table s.table.now).cells k p (least_of s source) first
 
-pub need_refuses : (s : Source) (k : Key) → k ≡ start_key (s.ground.now).image.now (s.ground.now).plan.now → IsRowSource s → IsFirstRecursion s None → AreLeastNeedsOrTooMany s None → MakeErrHolds s.ground.now (Refused 14 k k.entry)
+pub need_refuses : (s : Source) (k : Key) → k ≡ start_key (s.ground.now).image.now (s.ground.now).plan.now → HasFinishedTable s → IsFirstRecursion s None → AreLeastNeedsOrTooMany s None → MakeErrNamesRefusal s.ground.now (Refused 14 k k.entry)
 need_refuses s k is source ends above =
-    subst (λ (z : Key). MakeErrHolds s.ground.now (Refused 14 z z.entry)) (sym is) (need (view_of_table s.table.now).cells (least_of s source) (record { ends = ends; above = above }))
+    subst (λ (z : Key). MakeErrNamesRefusal s.ground.now (Refused 14 z z.entry)) (sym is) (need (view_of_table s.table.now).cells (least_of s source) (record { ends = ends; above = above }))
 
 -- ---- what is made
-pub are_made : (g : Ground) (version : ℕ) (bytes : List ℕ) → HasLimitsOfFormat g version → AreClosedCertBytesForInputs g version bytes → AreLeastCertBytes g.image.now g.plan.now version bytes
+pub are_made : (g : Ground) (version : ℕ) (bytes : List ℕ) → HasLimitsOfFormat g version → AreFixpointCertBytesForInputs g version bytes → AreLeastCertBytes g.image.now g.plan.now version bytes
 are_made g version bytes limits w = record {
   cert = w.0;
   spell = w.1;
@@ -70,7 +70,7 @@ are_made g version bytes limits w = record {
   made = made g.image.now g.plan.now version w.0 (subst (λ (b : Limits). AreMakerInputs b g.image.now g.plan.now) limits g.sound) ((g.sound).is_image).entry w.2;
 }
 
-pub is_refused : (g : Ground) (version : ℕ) (e : MakeErr) → HasLimitsOfFormat g version → MakeErrHolds g e → IsRightMakeErr g.image.now g.plan.now version e
+pub is_refused : (g : Ground) (version : ℕ) (e : MakeErr) → HasLimitsOfFormat g version → MakeErrNamesRefusal g e → IsRightMakeErr g.image.now g.plan.now version e
 is_refused g version (Refused rule key addr) limits r =
     let is : IsRefusal g.image.now g.plan.now version rule key addr = subst (λ (b : Limits). IsRefusalWithLimits b g.image.now g.plan.now rule key addr) limits r in
     (is, refused g.image.now g.plan.now version rule key addr (subst (λ (b : Limits). AreMakerInputs b g.image.now g.plan.now) limits g.sound) ((g.sound).is_image).entry is)

@@ -9,7 +9,7 @@ use Rattle.cfg_recover.specs.CertRefusals.{AreSufficientNeeds}
 use Rattle.frame_places.specs.Numbers.{frame_number_in}
 use Rattle.depth_maker.specs.WellFormedAssignments.{AllWellFormed}
 use Rattle.frame_places.specs.RowNeeds.{AreRowsWithin, IsLeastNeedsResult}
-use Rattle.depth_maker.specs.Rows.{IsRowSource, RowsOn}
+use Rattle.depth_maker.specs.Rows.{HasFinishedTable, AreRowsOfTable}
 use Rattle.depth_maker.specs.Needs.{AreLeastNeedsOrTooMany}
 use Rattle.depth_maker.specs.Recursing.{IsFirstRecursion}
 use Rattle.depth_maker.specs.SpotsAsPlaces.{place_of_spot}
@@ -21,16 +21,16 @@ use Rattle.depth_maker.proofs.RowLaws.{above_by, least_by, rows_within}
 use Rattle.frame_places.specs.declared.needs.row.NeedRow.{NeedRow}
 use Rattle.depth_maker.specs.declared.rows.Source.{Source}
 
-all_well_formed : (s : Source) → IsRowSource s → AllWellFormed (s.ground.now).bounds.now (view_of_table s.table.now).cells
+all_well_formed : (s : Source) → HasFinishedTable s → AllWellFormed (s.ground.now).bounds.now (view_of_table s.table.now).cells
 all_well_formed s source = derived_well_formed _ _ _ (lawful _ _ _ (s.ground.now).sound) (view_of_table s.table.now).cells (source.done).derived
 
-pub source_within : (s : Source) (frames : List Key) (rows : List NeedRow) → IsRowSource s → frames ≡ (s.table.now).frames.items → RowsOn s.ground.now s.table.now rows → AreRowsWithin rows (length frames)
+pub source_within : (s : Source) (frames : List Key) (rows : List NeedRow) → HasFinishedTable s → frames ≡ (s.table.now).frames.items → AreRowsOfTable s.ground.now s.table.now rows → AreRowsWithin rows (length frames)
 unfolding view_of_table
 source_within s frames rows source same are =
     subst (λ (l : List Key). AreRowsWithin rows (length l)) (sym same)
     (rows_within _ _ _ (view_of_table s.table.now).cells (source.done).closed (map place_of_spot (s.table.now).points.items) (s.table.now).frames.items ((source.done).counted).each rows are (all_well_formed s source) ((s.ground.now).sound).limits)
 
-pub source_needs : (s : Source) (frames : List Key) (rows : List NeedRow) (cap : ℕ) → IsRowSource s → frames ≡ (s.table.now).frames.items → RowsOn s.ground.now s.table.now rows
+pub source_needs : (s : Source) (frames : List Key) (rows : List NeedRow) (cap : ℕ) → HasFinishedTable s → frames ≡ (s.table.now).frames.items → AreRowsOfTable s.ground.now s.table.now rows
     → cap ≡ ((s.ground.now).plan.now).areas - ((s.ground.now).plan.now).reserve → (o : Option (Vec ℕ Global)) → IsLeastNeedsResult (length frames) rows cap (Ok o) → AreLeastNeedsOrTooMany s o
 unfolding view_of_table
 source_needs s frames rows cap source same are is o h = at o (subst (λ (l : List Key). IsLeastNeedsResult (length l) rows cap (Ok o)) same h) where

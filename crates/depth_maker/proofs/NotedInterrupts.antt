@@ -10,7 +10,7 @@ use Rattle.depth_cert.specs.WellFormed.{IsWellFormedState}
 use Rattle.cfg_recover.specs.Assignments.{point}
 use Rattle.cfg_recover.specs.Duties.{Owed, interrupt_duties_of}
 use Rattle.frame_places.specs.Marks.{is_queued, mark_of_place}
-use Rattle.depth_maker.specs.InterruptHandlers.{AreHandlersCovered, AreContextsCovered, IsEqualExceptStack, IsContextCovered, IsContextOf, IsWithinContext, joined_context}
+use Rattle.depth_maker.specs.InterruptHandlers.{AreHandlersCovered, AreContextsCovered, IsEqualExceptSp, IsContextCovered, IsContextOf, IsWithinContext, joined_context}
 use Rattle.vd_transfer.specs.Registers.{a10_of}
 use Rattle.depth_maker.specs.TableLevels.{level_of_table}
 use Rattle.depth_maker.specs.MakerLaws.{AreMakerLaws}
@@ -73,7 +73,7 @@ module _ (b : Limits) (image : ImageData) (plan : PlanData) (k : Key) (p : ℕ) 
     joined_and_noted h from = contexts_noted s m (record { last = Some h; before = (m.covered).interrupts.last }) (point_entered h from, (paid.fine).covered.0.0) paid
 
     -- it is joined with the last one
-    pub joined_with_last : (h : InterruptContext) → AreLimits b → IsEqualExceptStack h k.is u → (m.covered).interrupts.last ≡ Some h
+    pub joined_with_last : (h : InterruptContext) → AreLimits b → IsEqualExceptSp h k.is u → (m.covered).interrupts.last ≡ Some h
         → AreDutiesJoined b image plan s (record m { covered = record { interrupts = record { last = Some (joined_context b h (a10_of u)); before = (m.covered).interrupts.before }; calls = (m.covered).calls } }) k p u (interrupt_duties_of plan k u)
     joined_with_last h limits alike last =
         let g : InterruptContext = record { is = k.is; sp = a10_of u; ccpn = u.ccpn } in

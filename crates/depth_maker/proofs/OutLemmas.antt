@@ -22,8 +22,8 @@ use Rattle.cfg_recover.specs.Assignments.{point, exit}
 use Rattle.depth_cert.specs.Known.{Known, state, leaving, IsNotExit, exit_if_known}
 use Rattle.depth_cert.specs.WellFormed.{IsWellFormedExit}
 use Rattle.depth_maker.specs.Needs.{need_of_frame}
-use Rattle.depth_maker.specs.Rows.{IsRowSource}
-use Rattle.depth_maker.specs.SpelledCert.{AreTableFrames, AreTablePointEntries, IsTableFrame, HasByteCcpns, SourceHasLimitsOfFormat, IsOrderedCertSource, AreClosedCertBytesFromSource, AppendsTablePoint, AppendsTablePoints, AppendsTableExit, AppendsTableNode, AppendsTableNodes, cert_from_table, exit_from_table, known_from_table, node_from_table, point_from_table, state_or_blank}
+use Rattle.depth_maker.specs.Rows.{HasFinishedTable}
+use Rattle.depth_maker.specs.SpelledCert.{AreTableFrames, AreTablePointEntries, IsTableFrame, HasByteCcpns, SourceHasLimitsOfFormat, IsOrderedCertSource, AreFixpointCertBytesFromSource, AppendsTablePoint, AppendsTablePoints, AppendsTableExit, AppendsTableNode, AppendsTableNodes, cert_from_table, exit_from_table, known_from_table, node_from_table, point_from_table, state_or_blank}
 use Rattle.depth_maker.specs.SpotsAsPlaces.{spots_in_order, spots_of_entries, place_of_spot, spot_of}
 use Rattle.frame_places.specs.Spots.{ArePointsInRange, is_point_of, spot_address}
 use Rattle.frame_places.specs.PointEntries.{is_in_frame, place_of_entry, points_in}
@@ -79,14 +79,14 @@ pub exit_there : (s : Source) (k : Key) (w : Known) (x : exits.Exit) → value_o
 unfolding view_of_table
 exit_there s k w x at is = at ∙ ap (λ (v : Known). Some v) is
 
-pub no_exit_there : (s : Source) → IsRowSource s → (k : Key) (w : Known) → value_of_place (s.table.now).places (Exit k) ≡ Some w → IsNotExit w → ⊥
+pub no_exit_there : (s : Source) → HasFinishedTable s → (k : Key) (w : Known) → value_of_place (s.table.now).places (Exit k) ≡ Some w → IsNotExit w → ⊥
 unfolding view_of_table
 no_exit_there s source k w at none = of_kind w (derived_kinds _ _ _ (view_of_table s.table.now).cells (source.done).derived (exit k) w at) none where
   of_kind : (v : Known) → IsOfKind (exit k) v → IsNotExit v → ⊥
   of_kind (leaving y) h n = n
   of_kind (state u) h n = h
 
-pub exit_well : (s : Source) → IsRowSource s → (k : Key) (x : exits.Exit) → known_from_table s (exit k) ≡ Some (leaving x) → All IsWellFormed x.lower
+pub exit_well : (s : Source) → HasFinishedTable s → (k : Key) (x : exits.Exit) → known_from_table s (exit k) ≡ Some (leaving x) → All IsWellFormed x.lower
 unfolding view_of_table
 exit_well s source k x at =
     let good : IsWellFormedExit (s.ground.now).bounds.now x = done_well_formed s.ground.now s.table.now source.done (Exit k) (leaving x) at in
@@ -213,7 +213,7 @@ writes_cert o version count ks out a b c new empty is one two three so =
     ∙ ap (λ (l : List ℕ). bytes_of_word 1128547156 ++ (bytes_of_half version ++ (bytes_of_half (length (map (node_from_table o.source.now o.needs.now (spots_in_order o)) ks)) ++ l))) (sym (flat_twice bytes_of_node (node_from_table o.source.now o.needs.now (spots_in_order o)) ks))
 
 pub spelled_is : (o : Ordered) (version : ℕ) (ks : List Key) (c out : List ℕ) → IsOrderedCertSource o → AreTableFrames o ks → IsNonDecreasingBy (λ (k : Key). number_of_key k) ks → (version ≡ 1) ⊎ (version ≡ 2) → SourceHasLimitsOfFormat o.source.now version
-    → out ≡ bytes_of_cert (cert_from_table o.source.now version o.needs.now ks (spots_in_order o)) → AppendsTableNodes o ks c out → AreClosedCertBytesFromSource o.source.now version out
+    → out ≡ bytes_of_cert (cert_from_table o.source.now version o.needs.now ks (spots_in_order o)) → AppendsTableNodes o ks c out → AreFixpointCertBytesFromSource o.source.now version out
 unfolding view_of_table
 spelled_is o version ks c out ordered frames rising known limits bytes so =
     let s = o.source.now in

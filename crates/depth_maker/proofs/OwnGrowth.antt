@@ -7,12 +7,12 @@ use Rattle.tc_isa.specs.declared.shapes.Target.{Target}
 use Rattle.tc_isa.specs.declared.shapes.Target.TheVariants as target
 use Rattle.tc_isa.specs.declared.shapes.Shape.{Shape}
 use Rattle.tc_isa.specs.declared.shapes.Shape.TheVariants.{Load, Store, Jump, Call, Ret, Rfe, Svlcx, Rslcx, Bisr}
-use Rattle.tc_isa.specs.InBounds.{IsShape}
+use Rattle.tc_isa.specs.InBounds.{IsShapeInBounds}
 use Rattle.value_domain.specs.declared.values.Val.{Val}
 use Rattle.value_domain.specs.declared.values.Val.TheVariants.{Set, Span}
 use Rattle.value_domain.specs.declared.states.State.{State}
 use Rattle.value_domain.specs.Limits.{Limits}
-use Rattle.value_domain.specs.Sets.{Among, Within, sorted_set_of}
+use Rattle.value_domain.specs.Sets.{Among, AreAmong, sorted_set_of}
 use Rattle.value_domain.specs.Values.{IsInLattice, IsBelow}
 use Rattle.value_domain.specs.State.{Covers}
 use Rattle.value_domain.proofs.SetLaws.{among_distinct, distinct_has}
@@ -23,7 +23,7 @@ use Rattle.vd_transfer.proofs.HoldLaws.{reg_value}
 use Rattle.vd_transfer.proofs.OpLaws.{span_not_below}
 use Rattle.store_ranges.proofs.Covers.{map_has, among_map}
 use Rattle.depth_cert.specs.declared.keys.Key.{Key}
-use Rattle.cfg_recover.specs.LocalRules.{targets_of_value, targets_of, HasKnownTargets, MayReturn, MayReturnFromException, StoresInRange, MayAccess, LocalRuleHolds}
+use Rattle.cfg_recover.specs.LocalRules.{targets_of_value, targets_of, HasKnownTargets, IsReturnAllowed, IsExceptionReturnAllowed, StoresInRange, IsAccessAllowed, LocalRuleHolds}
 use Rattle.store_ranges.specs.Accesses.{are_aligned}
 use Rattle.cfg_recover.proofs.CodeLaws.{IsCode-bounded}
 use Rattle.cfg_recover.proofs.Members.{contains_among}
@@ -41,7 +41,7 @@ among_contained xs x c = at xs c.0 c.1 c.2 where
   at (y ∷ ys) zero lt e = inl (sym e)
   at (y ∷ ys) (suc k) lt e = inr (at ys k (omega arith) e)
 
-evens_within : (vs ws : List ℕ) → Within vs ws → Within (sorted_set_of (map (λ w. w / 2 * 2) vs)) (sorted_set_of (map (λ w. w / 2 * 2) ws))
+evens_within : (vs ws : List ℕ) → AreAmong vs ws → AreAmong (sorted_set_of (map (λ w. w / 2 * 2) vs)) (sorted_set_of (map (λ w. w / 2 * 2) ws))
 evens_within vs ws there z i =
     let m = among_map (λ w. w / 2 * 2) z vs (among_distinct z (map (λ w. w / 2 * 2) vs) i) in
     distinct_has z (map (λ w. w / 2 * 2) ws) (subst (λ (n : ℕ). Among n (map (λ w. w / 2 * 2) ws)) (sym m.2) (map_has (λ w. w / 2 * 2) m.0 ws (there m.0 m.1)))
@@ -52,7 +52,7 @@ named_falls b (Set vs) w vv vw below h = refl
 named_falls b (Span lo last step) (Set ws) vv vw below h = absurd (span_not_below b lo last step ws vv vw below)
 named_falls b (Span lo last step) (Span lo2 last2 step2) vv vw below h = h
 
-named_within : (b : Limits) (v w : Val) → IsInLattice b v → IsInLattice b w → IsBelow v w → IsSome (targets_of_value w) → Within (unwrap_or (targets_of_value v) []) (unwrap_or (targets_of_value w) [])
+named_within : (b : Limits) (v w : Val) → IsInLattice b v → IsInLattice b w → IsBelow v w → IsSome (targets_of_value w) → AreAmong (unwrap_or (targets_of_value v) []) (unwrap_or (targets_of_value w) [])
 named_within b (Set vs) (Set ws) vv vw below h = evens_within vs ws below
 named_within b (Set vs) (Span lo last step) vv vw below h = absurd (let f : false ≡ true = h in cc)
 named_within b (Span lo last step) w vv vw below h = λ z i. absurd i
@@ -84,11 +84,11 @@ module _ (b : Limits) (plan : PlanData) (s t : State) (low : MeetSoundnessPremis
   targets_known p (Call to) h = targets_fall p to h
   targets_known p _ h = h
 
-  returns : (key : Key) (shape : Shape) → MayReturn key t shape → MayReturn key s shape
+  returns : (key : Key) (shape : Shape) → IsReturnAllowed key t shape → IsReturnAllowed key s shape
   returns key Ret h = (h.0, sym (same_locals t s c) ∙ h.1)
   returns key _ h = h
 
-  returns_from_exception : (key : Key) (shape : Shape) → MayReturnFromException key t shape → MayReturnFromException key s shape
+  returns_from_exception : (key : Key) (shape : Shape) → IsExceptionReturnAllowed key t shape → IsExceptionReturnAllowed key s shape
   returns_from_exception key Rfe h = (sym (same_locals t s c) ∙ h.0, elim h.1 [ inl e ↦ inl (e.0, c.context.2 e.1) | inr e ↦ inr e ])
   returns_from_exception key _ h = h
 
@@ -98,16 +98,16 @@ module _ (b : Limits) (plan : PlanData) (s t : State) (low : MeetSoundnessPremis
   has_room (Bisr mask) h = omega (arith, same_locals t s c, h)
   has_room _ h = h
 
-  stores : (shape : Shape) → IsShape shape → StoresInRange b plan t shape → StoresInRange b plan s shape
+  stores : (shape : Shape) → IsShapeInBounds shape → StoresInRange b plan t shape → StoresInRange b plan s shape
   stores (Store src base offset size after) is h = λ x m. h x (address_grows b plan s t low high c (Store src base offset size after) is x m)
   stores _ is h = h
 
-  accesses : (shape : Shape) → IsShape shape → MayAccess b plan t shape → MayAccess b plan s shape
+  accesses : (shape : Shape) → IsShapeInBounds shape → IsAccessAllowed b plan t shape → IsAccessAllowed b plan s shape
   accesses (Load dst base offset size signed after) is h = may_access (address_of_access b plan (Load dst base offset size signed after) s) (address_of_access b plan (Load dst base offset size signed after) t) size plan.aln (address_value b plan (Load dst base offset size signed after) s low is) (address_value b plan (Load dst base offset size signed after) t high is) (address_grows b plan s t low high c (Load dst base offset size signed after) is) h
   accesses (Store src base offset size after) is h = may_access (address_of_access b plan (Store src base offset size after) s) (address_of_access b plan (Store src base offset size after) t) size plan.aln (address_value b plan (Store src base offset size after) s low is) (address_value b plan (Store src base offset size after) t high is) (address_grows b plan s t low high c (Store src base offset size after) is) h
   accesses _ is h = h
 
-  pub own_falls : (key : Key) (p : ℕ) (shape : Shape) (r : ℕ) → IsShape shape → LocalRuleHolds b plan key p t shape r → LocalRuleHolds b plan key p s shape r
+  pub own_falls : (key : Key) (p : ℕ) (shape : Shape) (r : ℕ) → IsShapeInBounds shape → LocalRuleHolds b plan key p t shape r → LocalRuleHolds b plan key p s shape r
   own_falls key p shape r is h = record {
     targets = λ e. targets_known p shape (h.targets e);
     returns = λ e. returns key shape (h.returns e);

@@ -25,7 +25,7 @@ use Rattle.depth_cert.specs.WellFormed.{IsWellFormedState}
 use Rattle.cfg_recover.proofs.CodeLaws.{IsCode-one}
 use Rattle.depth_maker.specs.WellFormedAssignments.{IsWellFormedDuty}
 use Rattle.depth_maker.specs.MakerLaws.{AreMakerLaws}
-use Rattle.depth_maker.specs.Covered.{AreNotedEntriesCovered}
+use Rattle.depth_maker.specs.Covered.{AreCachedEntriesCovered}
 use Rattle.depth_maker.specs.TableView.{view_of_table}
 use Rattle.depth_maker.specs.TableInvariant.{IsDutySettled, IsReturnCovered, OnlyExitsHaveReaders, TableInvariantHoldsForInputs, TableInvariantHolds}
 use Rattle.depth_maker.proofs.PlaceLaws.{one_state}
@@ -35,7 +35,7 @@ use Rattle.frame_places.specs.declared.places.Spot.TheVariants as spots
 use Rattle.frame_places.specs.declared.places.Mark.{Mark}
 use Rattle.frame_places.specs.declared.places.Mark.TheVariants.{Queued}
 use Rattle.frame_places.specs.declared.places.Marked.{Marked}
-use Rattle.frame_places.specs.Counting.{frames_after_flow, points_after_flow}
+use Rattle.frame_places.specs.Counting.{frames_after_recording, points_after_recording}
 use Rattle.frame_places.proofs.MarkLemmas.{same_mark, same_number, same_value}
 use Rattle.depth_maker.specs.declared.inputs_and_limits.Ground.{Ground}
 use Rattle.frame_places.specs.Numbers.{PlaceHasNumber}
@@ -52,7 +52,7 @@ use Rattle.depth_maker.proofs.LevelSteps.{rises_then, same_level}
 use Rattle.depth_maker.specs.VisitDuties.{AreDutiesJoined, VisitedPointOwes, AllDutiesSettled}
 use Rattle.depth_maker.specs.Visits.{VisitJoinsDuties, IsVisitedWithState}
 use Rattle.depth_maker.specs.Joins.{JoinsNothing, JoinKeepsPlaces, IsJoinedAt, RaisesOnlyPlace, JoinsWithoutRequeuing}
-use Rattle.frame_places.specs.Marks.{is_idle, is_queued, IsAmongReaders, RegistersReader, mark_of_place, value_of_place, AreKnownPlaces}
+use Rattle.frame_places.specs.Marks.{is_idle, is_queued, IsAmongReaders, AddsReader, mark_of_place, value_of_place, AreKnownPlaces}
 use Rattle.frame_places.specs.Work.{all_work}
 
 pub keeps_all : (b : Limits) (image : ImageData) (plan : PlanData) (s : made.Table) → JoinKeepsPlaces b image plan s s
@@ -301,7 +301,7 @@ module _ (b : Limits) (image : ImageData) (plan : PlanData) (k : Key) (p : ℕ) 
 
 -- ---- one more reader
 -- only exits are read still
-pub exits_registered : {S : Type 0} (a b : IndexMap Spot (Vec Spot Global) S) (k : Key) (x : Spot) → RegistersReader a b (spots.Exit k) x → OnlyExitsHaveReaders a → OnlyExitsHaveReaders b
+pub exits_registered : {S : Type 0} (a b : IndexMap Spot (Vec Spot Global) S) (k : Key) (x : Spot) → AddsReader a b (spots.Exit k) x → OnlyExitsHaveReaders a → OnlyExitsHaveReaders b
 exits_registered a b k x more exits j p q h =
     elim (more.alone (spots.Point j p) q h) [
       | inl before ↦ exits j p q before
@@ -309,7 +309,7 @@ exits_registered a b k x more exits j p q h =
     ]
 
 -- readers are known still
-pub readers_registered : {V S R : Type 0} (places : IndexMap Spot (Marked V) S) (a b : IndexMap Spot (Vec Spot Global) R) (z x : Spot) → RegistersReader a b z x → IsSome (value_of_place places x)
+pub readers_registered : {V S R : Type 0} (places : IndexMap Spot (Marked V) S) (a b : IndexMap Spot (Vec Spot Global) R) (z x : Spot) → AddsReader a b z x → IsSome (value_of_place places x)
     → ((y : Spot) → AreKnownPlaces places (IsAmongReaders (get spot_eq a y))) → (y : Spot) → AreKnownPlaces places (IsAmongReaders (get spot_eq b y))
 readers_registered {V} places a b z x more known before y q h =
     elim (more.alone y q h) [
@@ -353,7 +353,7 @@ registered_fine b image plan laws s t places near work points frames covered rea
               (f.0, same_number s.places t.places places n f.0 f.1);
         };
         counted = counted_again s.places t.places s.points.items t.points.items s.frames.items t.frames.items (λ q. same (spot_of q)) points frames fine.counted;
-        covered = covered_again b plan (view_of_table s).cells (view_of_table t).cells (λ q. same (spot_of q)) t.covered (subst (AreNotedEntriesCovered b plan (view_of_table s).cells) (sym covered) fine.covered);
+        covered = covered_again b plan (view_of_table s).cells (view_of_table t).cells (λ q. same (spot_of q)) t.covered (subst (AreCachedEntriesCovered b plan (view_of_table s).cells) (sym covered) fine.covered);
         exits = exits;
         readers = λ y q h. subst (λ (o : Option Known). IsSome o) (sym (same q)) (told y q h);
         plain = λ q at. fine.plain q (sym (marked q) ∙ at);
@@ -402,8 +402,8 @@ raised_again b s m t y v places rest more =
       near = rose.near;
       readers = rose.readers;
       covered = rose.covered;
-      points = rose.points ∙ ap (λ (o : Option Known). points_after_flow (is_some o) s.points.items y) (same y);
-      frames = rose.frames ∙ ap (λ (o : Option Known). frames_after_flow (is_some o) s.frames.items y) (same y);
+      points = rose.points ∙ ap (λ (o : Option Known). points_after_recording (is_some o) s.points.items y) (same y);
+      frames = rose.frames ∙ ap (λ (o : Option Known). frames_after_recording (is_some o) s.frames.items y) (same y);
       few = rose.few;
     }
 

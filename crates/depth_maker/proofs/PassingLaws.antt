@@ -7,7 +7,7 @@ use Rattle.elf_image.specs.Images.{ImageData}
 use Rattle.tcd_plan.specs.PlanData.{PlanData}
 use Rattle.tc_isa.specs.declared.shapes.Target.{Target}
 use Rattle.tc_isa.specs.declared.shapes.Shape.TheVariants.{Jump, Nothing}
-use Rattle.tc_isa.specs.InBounds.{IsShape}
+use Rattle.tc_isa.specs.InBounds.{IsShapeInBounds}
 use Rattle.tc_machine.specs.Instructions.{wrapping_sum}
 use Rattle.value_domain.specs.declared.states.State.{State}
 use Rattle.value_domain.specs.Limits.{Limits}
@@ -18,7 +18,7 @@ use Rattle.depth_cert.specs.WellFormed.{IsWellFormedState}
 use Rattle.cfg_recover.specs.Code.{IsCode}
 use Rattle.cfg_recover.specs.LocalRules.{targets_of}
 use Rattle.cfg_recover.specs.LocalFaults.{IsFaultless}
-use Rattle.cfg_recover.specs.Duties.{Owed, owed, jump, jumps_to, interrupt_duties_of, duties_of}
+use Rattle.cfg_recover.specs.Duties.{Owed, owed, jump, jump_duties_to, interrupt_duties_of, duties_of}
 use Rattle.cfg_recover.specs.Assignments.{AsksFor, point}
 use Rattle.cfg_recover.proofs.LocalLaws.{LocalHolds-found}
 use Rattle.frame_places.specs.declared.places.Spot.{Spot}
@@ -28,7 +28,7 @@ use Rattle.frame_places.specs.Marks.{IsAmongReaders}
 use Rattle.frame_places.specs.Spots.{spot_eq}
 use Rattle.frame_places.proofs.MarkLemmas.{Requeues-none, same_value}
 use Rattle.indexmap.specs.IndexMap.{get}
-use Rattle.depth_maker.specs.InterruptHandlers.{IsContextCovered, AreInterruptsCoveredForCcpn}
+use Rattle.depth_maker.specs.InterruptHandlers.{IsContextCovered, HasCoveringContextForCcpn}
 use Rattle.depth_maker.specs.MakerLaws.{AreMakerLaws}
 use Rattle.depth_maker.specs.SharedStates.{PassesStateTo}
 use Rattle.depth_maker.specs.SpotsAsPlaces.{place_of_spot, spot_of}
@@ -50,7 +50,7 @@ nothing_duties : (b : Limits) (image : ImageData) (plan : PlanData) (p n : ℕ) 
 unfolding duties_of transfer_of
 nothing_duties b image plan p n k u = append-nil (owed 4 (jump (wrapping_sum p n) u) ∷ interrupt_duties_of plan k u)
 
-pub nothing_passes : (image : ImageData) (plan : PlanData) (p n : ℕ) → IsCode image plan p Nothing n → IsShape Nothing → PassesStateTo image plan p (wrapping_sum p n)
+pub nothing_passes : (image : ImageData) (plan : PlanData) (p n : ℕ) → IsCode image plan p Nothing n → IsShapeInBounds Nothing → PassesStateTo image plan p (wrapping_sum p n)
 nothing_passes image plan p n code shaped = record {
   shape = Nothing;
   size = n;
@@ -65,9 +65,9 @@ jump_duties : (b : Limits) (image : ImageData) (plan : PlanData) (p n : ℕ) (to
     → duties_of b image plan k p u (Jump to) n ≡ owed 4 (jump next u) ∷ interrupt_duties_of plan k u
 unfolding duties_of
 jump_duties b image plan p n to next k u known =
-    ap (λ (o : Option (List ℕ)). (((jumps_to u (unwrap_or o []) ++ []) ++ []) ++ interrupt_duties_of plan k u) ++ []) known ∙ append-nil (owed 4 (jump next u) ∷ interrupt_duties_of plan k u)
+    ap (λ (o : Option (List ℕ)). (((jump_duties_to u (unwrap_or o []) ++ []) ++ []) ++ interrupt_duties_of plan k u) ++ []) known ∙ append-nil (owed 4 (jump next u) ∷ interrupt_duties_of plan k u)
 
-pub jump_passes : (image : ImageData) (plan : PlanData) (p n : ℕ) (to : Target) (o : Option ℕ) → IsCode image plan p (Jump to) n → IsShape (Jump to)
+pub jump_passes : (image : ImageData) (plan : PlanData) (p n : ℕ) (to : Target) (o : Option ℕ) → IsCode image plan p (Jump to) n → IsShapeInBounds (Jump to)
     → IfSome o (λ next. (plan : PlanData) (s : State) → targets_of plan s p to ≡ Some (next ∷ [])) → IfSome o (PassesStateTo image plan p)
 jump_passes image plan p n to None code shaped known = tt
 jump_passes image plan p n to (Some next) code shaped known = record {
@@ -96,7 +96,7 @@ module _ (b : Limits) (image : ImageData) (plan : PlanData) (k : Key) (p : ℕ) 
   quiet_off s fine off = subst (λ (ds : List Owed). AreDutiesJoined b image plan s s k p u ds) (interrupts_off plan k u off) (duties_none b image plan k p u s fine)
 
   -- the last context shows that their entries are covered
-  pub quiet_noted : (s : made.Table) → TableInvariantHolds b image plan s → AreInterruptsCoveredForCcpn s k.is u.ccpn → AreDutiesJoined b image plan s s k p u (interrupt_duties_of plan k u)
+  pub quiet_noted : (s : made.Table) → TableInvariantHolds b image plan s → HasCoveringContextForCcpn s k.is u.ccpn → AreDutiesJoined b image plan s s k p u (interrupt_duties_of plan k u)
   quiet_noted s fine h = duties_already b image plan k p u s h.context fine (subst (IsContextCovered b plan (view_of_table s).cells) h.last fine.covered.0.0) (h.within u refl)
 
   -- the order in which parts are joined

@@ -4,7 +4,7 @@ use Rattle.std.proofs.Common.{◌≡◌, ℕ, ◌^◌, ◌<◌, ◌⊎◌, inl, 
 use Rattle.elf_image.specs.Images.{ImageData}
 use Rattle.tcd_plan.specs.PlanData.{PlanData}
 use Rattle.tc_isa.specs.declared.shapes.Shape.{Shape}
-use Rattle.tc_isa.specs.InBounds.{IsShape}
+use Rattle.tc_isa.specs.InBounds.{IsShapeInBounds}
 use Rattle.value_domain.specs.declared.states.State.{State}
 use Rattle.value_domain.specs.Limits.{Limits}
 use Rattle.depth_cert.specs.declared.keys.Key.{Key}
@@ -45,7 +45,7 @@ StaysInRange key (leave x) = MayLeave key
 module _ (b : Limits) (image : ImageData) (plan : PlanData) (key : Key) (p : ℕ) (s : State) (ground : AreMakerInputs b image plan) (well_formed : IsWellFormedState b s) (is_key : IsKey key) where
   -- only a called function returns; of the handlers, only that of system calls returns to its
   -- caller
-  stays_by : (shape : Shape) (n : ℕ) (d : Owed) → IsShape shape → LocalRuleHolds b plan key p s shape 6 → DutyAt b image plan key p s n shape d → StaysInRange key d.duty
+  stays_by : (shape : Shape) (n : ℕ) (d : Owed) → IsShapeInBounds shape → LocalRuleHolds b plan key p s shape 6 → DutyAt b image plan key p s n shape d → StaysInRange key d.duty
   stays_by _ n _ is own (next shape e) = moved-lt p n
   stays_by _ n _ is own (straight test x y by lowers t e) = moved-lt p n
   stays_by _ n _ is own (taken test x y by lowers t e) = moved-lt p by
@@ -56,7 +56,7 @@ module _ (b : Limits) (image : ImageData) (plan : PlanData) (key : Key) (p : ℕ
   stays_by _ n _ is own (resumes e) = inr e
   stays_by _ n _ is own _ = tt
 
-  duties_stay : (shape : Shape) (n : ℕ) → IsShape shape → LocalRuleHolds b plan key p s shape 6 → (d : Owed) → Contains (duties_of b image plan key p s shape n) d → StaysInRange key d.duty
+  duties_stay : (shape : Shape) (n : ℕ) → IsShapeInBounds shape → LocalRuleHolds b plan key p s shape 6 → (d : Owed) → Contains (duties_of b image plan key p s shape n) d → StaysInRange key d.duty
   duties_stay shape n is own d c = stays_by shape n d is own (duty_at b image plan key p s n shape d c)
 
 -- a place that a duty asks for is in range, if the frame's own are and the entered frame has a key

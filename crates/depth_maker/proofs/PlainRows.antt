@@ -26,10 +26,10 @@ use Rattle.small_states.specs.CompactForms.{IsOutline}
 use Rattle.small_states.specs.declared.known.Outline.{Outline}
 use Rattle.frame_places.specs.declared.needs.row.NeedRow.{NeedRow}
 use Rattle.depth_maker.specs.EnteredFrames.{ShapeEntersNoFrame, InstructionEntersNoFrame}
-use Rattle.depth_maker.specs.InterruptHandlers.{taken_handlers}
+use Rattle.depth_maker.specs.InterruptHandlers.{handler_nodes_if_enabled}
 use Rattle.depth_maker.proofs.HandlerLaws.{nodes_taken-is}
 use Rattle.depth_maker.specs.SpotsAsPlaces.{place_of_spot}
-use Rattle.depth_maker.specs.Rows.{IsRowOfOutline, IsRowOfTablePoint, IsRowSource}
+use Rattle.depth_maker.specs.Rows.{IsRowOfOutline, IsRowOfTablePoint, HasFinishedTable}
 use Rattle.depth_maker.specs.TableView.{view_of_table}
 use Rattle.depth_maker.specs.declared.inputs_and_limits.Ground.{Ground}
 use Rattle.depth_maker.specs.declared.rows.Source.{Source}
@@ -75,7 +75,7 @@ unfolding plain_found
 plain_stands g k p u faultless at = record { faultless = faultless; code = at.code; shape = at.shaped }
 
 -- the row of a plain point has the handlers of the interrupts that may be taken
-pub plain_point : (s : Source) → IsRowSource s → (k : Key) (p : ℕ) (m : Marked Known) (o : Outline) (row : NeedRow) → get spot_eq (s.table.now).places (Point k p) ≡ Some m → m.mark ≡ Plain → IsOutline m.value o
+pub plain_point : (s : Source) → HasFinishedTable s → (k : Key) (p : ℕ) (m : Marked Known) (o : Outline) (row : NeedRow) → get spot_eq (s.table.now).places (Point k p) ≡ Some m → m.mark ≡ Plain → IsOutline m.value o
     → IsRowOfOutline s (frame_number_in (s.table.now).frames.items k) o row → IsRowOfTablePoint s k p row
 unfolding view_of_table plain_found
 plain_point s source k p m o row at mark is plain =
@@ -105,7 +105,7 @@ plain_point s source k p m o row at mark is plain =
         node = plain.node;
         held = plain.held ∙ sym own.2;
         into =
-            plain.into ∙ sym (λ i. taken_handlers (own.0 i) (own.1 i) s.handlers.now)
+            plain.into ∙ sym (λ i. handler_nodes_if_enabled (own.0 i) (own.1 i) s.handlers.now)
             ∙ nodes_taken-is g.plan.now frames k u s.handlers.now source.handlers known
             ∙ sym (ap (λ (l : List Key). map (frame_number_in frames) l) parts);
       },

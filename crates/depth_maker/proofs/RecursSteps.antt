@@ -11,7 +11,7 @@ use Rattle.depth_cert.specs.Known.{Known, state}
 use Rattle.frame_places.specs.Numbers.{frame_number_in}
 use Rattle.frame_places.specs.NodeGraph.{IsFirstRecursiveNode, IsRecursiveNode, AreReachingMarks, AreEdgesBelow, IsNodeMarked}
 use Rattle.depth_maker.specs.Recursing.{AreTableEdges, EntersMarkedFrame, IsFirstRecursiveAddress, IsFirstRecursion, IsRecursivePoint, IsFirstRecursivePoint, frame_key_numbers}
-use Rattle.depth_maker.specs.Rows.{IsRowOfPoint, IsRowSource}
+use Rattle.depth_maker.specs.Rows.{IsRowOfPoint, HasFinishedTable}
 use Rattle.depth_maker.specs.SpotsAsPlaces.{place_of_spot}
 use Rattle.depth_maker.specs.TableView.{view_of_table}
 use Rattle.frame_places.specs.declared.places.Spot.{Spot}
@@ -25,7 +25,7 @@ use Rattle.depth_maker.proofs.RecursLaws.{row_enters, row_entered, owner, edges_
 use Rattle.depth_maker.proofs.PointEntries.{placed}
 
 -- ---- one point
-module _ (s : Source) (source : IsRowSource s) (marks : List Bool) (k : Key) (p : ℕ) where
+module _ (s : Source) (source : HasFinishedTable s) (marks : List Bool) (k : Key) (p : ℕ) where
   -- a point enters a marked frame if its row has a marked number
   pub row_marked : (row : NeedRow)
       → ((u : State) × ((view_of_table s.table.now).cells (point k p) ≡ Some (state u)) × IsRowOfPoint (s.ground.now).bounds.now (s.ground.now).image.now (s.ground.now).plan.now (s.table.now).frames.items k p u row)
@@ -85,7 +85,7 @@ module _ (s : Source) (marks : List Bool) (k : Key) (ys : List Spot) where
   )
 
 -- ---- the whole
-module _ (s : Source) (source : IsRowSource s) (edges : List FrameEdge) (es : AreTableEdges s edges) where
+module _ (s : Source) (source : HasFinishedTable s) (edges : List FrameEdge) (es : AreTableEdges s edges) where
   pub edges_within : AreEdgesBelow edges (length (s.table.now).frames.items)
   unfolding view_of_table
   edges_within = edges_between _ _ _ (view_of_table s.table.now).cells (source.done).closed (map place_of_spot (s.table.now).points.items) (s.table.now).frames.items ((source.done).counted).each es.0 es.1 edges es.2

@@ -19,8 +19,8 @@ use Rattle.value_domain.specs.declared.states.State.{State}
 use Rattle.depth_cert.specs.declared.keys.Key.{Key}
 use Rattle.cfg_recover.specs.Assignments.{point, exit}
 use Rattle.depth_cert.specs.WellFormed.{IsWellFormedKnown}
-use Rattle.depth_maker.specs.Rows.{IsRowOfPoint, AddsPointRow, AreRowFramesAmong, OutlinesHaveRows, HasFirstRows, IsTablePoint, IsRowOfOutline, IsRowOfTablePoint, IsRowSource, RowsOn}
-use Rattle.depth_maker.specs.TableInvariant.{IsLeastClosedTable}
+use Rattle.depth_maker.specs.Rows.{IsRowOfPoint, AddsPointRow, AreRowFramesAmong, OutlinesHaveRows, HasRowsOfFirst, IsTablePoint, IsRowOfOutline, IsRowOfTablePoint, HasFinishedTable, AreRowsOfTable}
+use Rattle.depth_maker.specs.TableInvariant.{IsLeastFixpointTable}
 use Rattle.depth_maker.specs.TableView.{view_of_table}
 use Rattle.frame_places.specs.Spots.{spot_eq}
 use Rattle.depth_maker.specs.SpotsAsPlaces.{place_of_spot}
@@ -41,12 +41,12 @@ use Rattle.depth_maker.specs.declared.rows.Source.{Source}
 use Rattle.depth_maker.specs.declared.table.Table as made
 
 -- what is known in a table without work is at the limits, and at a point it is a state
-pub done_well_formed : (g : Ground) (t : made.Table) → IsLeastClosedTable g t → (q : Spot) (v : Known) → value_of_place t.places q ≡ Some v → IsWellFormedKnown g.bounds.now v
+pub done_well_formed : (g : Ground) (t : made.Table) → IsLeastFixpointTable g t → (q : Spot) (v : Known) → value_of_place t.places q ≡ Some v → IsWellFormedKnown g.bounds.now v
 unfolding view_of_table
 done_well_formed g t done (Point k p) v at = derived_well_formed _ _ _ (lawful _ _ _ g.sound) (view_of_table t).cells done.derived (point k p) v at
 done_well_formed g t done (Exit k) v at = derived_well_formed _ _ _ (lawful _ _ _ g.sound) (view_of_table t).cells done.derived (exit k) v at
 
-pub done_state : (g : Ground) (t : made.Table) → IsLeastClosedTable g t → (k : Key) (p : ℕ) (w : Known) → value_of_place t.places (Point k p) ≡ Some w → (u : State) × (w ≡ state u)
+pub done_state : (g : Ground) (t : made.Table) → IsLeastFixpointTable g t → (k : Key) (p : ℕ) (w : Known) → value_of_place t.places (Point k p) ≡ Some w → (u : State) × (w ≡ state u)
 unfolding view_of_table
 done_state g t done k p w at = of_kind w (derived_kinds _ _ _ (view_of_table t).cells done.derived (point k p) w at) where
   of_kind : (v : Known) → IsOfKind (point k p) v → (u : State) × (v ≡ state u)
@@ -54,14 +54,14 @@ done_state g t done k p w at = of_kind w (derived_kinds _ _ _ (view_of_table t).
   of_kind (leaving x) h = absurd h
 
 -- a state that was read is the known one
-pub read_there : (g : Ground) (t : made.Table) → IsLeastClosedTable g t → (k : Key) (p : ℕ) (w : Known) (u : State) → value_of_place t.places (Point k p) ≡ Some w → IsKnownState w u → value_of_place t.places (Point k p) ≡ Some (state u)
+pub read_there : (g : Ground) (t : made.Table) → IsLeastFixpointTable g t → (k : Key) (p : ℕ) (w : Known) (u : State) → value_of_place t.places (Point k p) ≡ Some w → IsKnownState w u → value_of_place t.places (Point k p) ≡ Some (state u)
 read_there g t done k p w u at is =
     let e = done_state g t done k p w at in
     let same : u ≡ e.0 = subst (λ (v : Known). IsKnownState v u) e.1 is in
     at ∙ ap (λ (v : Known). Some v) (e.1 ∙ ap state (sym same))
 
 -- the frames of a point, and those that it enters, are known
-pub all_known : (v : Visit) (t : made.Table) → IsLeastClosedTable v.ground.now t → (view_of_table t).cells (point v.key v.addr) ≡ Some (state v.state.now) → AreRowFramesAmong v t.frames.items
+pub all_known : (v : Visit) (t : made.Table) → IsLeastFixpointTable v.ground.now t → (view_of_table t).cells (point v.key v.addr) ≡ Some (state v.state.now) → AreRowFramesAmong v t.frames.items
 unfolding view_of_table
 all_known v t done at =
     let c = (done.counted).each in
@@ -93,7 +93,7 @@ pub index_there : {X S : Type 0} (m : IndexMap Spot X S) (i : ℕ) (q : Spot) (v
 index_there {X} m i q v at = slice_get-map (λ (e : Spot × X). e.0) m.entries i ∙ ap (option_map (λ (e : Spot × X). e.0)) (sym at)
 
 -- the number of a frame that was looked up
-pub number_there : (s : Source) → IsRowSource s → (k : Key) (p : ℕ) (m : Marked Known) (n : ℕ) → get spot_eq (s.table.now).places (Point k p) ≡ Some m
+pub number_there : (s : Source) → HasFinishedTable s → (k : Key) (p : ℕ) (m : Marked Known) (n : ℕ) → get spot_eq (s.table.now).places (Point k p) ≡ Some m
     → ((frames : List Key) → AreFrameNumbers s.numbers.now frames frames → Contains frames k → n ≡ frame_number_in frames k) → n ≡ frame_number_in (s.table.now).frames.items k
 unfolding view_of_table
 number_there s source k p m n at is =
@@ -107,7 +107,7 @@ no_outline zero i o e = let f : None ≡ Some (Some o) = e in cc
 no_outline (suc n) zero o e = let f : Some None ≡ Some (Some o) = e in cc
 no_outline (suc n) (suc i) o e = no_outline n i o e
 
-pub draft_none : (s : Source) (d : RowsDraft) (n : ℕ) → d.rows.items ≡ [] → d.outlines.items ≡ replicate n None → HasFirstRows s 0 d
+pub draft_none : (s : Source) (d : RowsDraft) (n : ℕ) → d.rows.items ≡ [] → d.outlines.items ≡ replicate n None → HasRowsOfFirst s 0 d
 draft_none s d n empty none = record {
   sound = λ row c. absurd (let n = ap (λ (l : List NeedRow). length l) empty in omega (arith, c.1, n));
   complete = λ k p c. absurd (omega (arith, c.1));
@@ -115,9 +115,9 @@ draft_none s d n empty none = record {
 }
 
 -- one more entry
-pub draft_step : (s : Source) (i : ℕ) (q : Spot) (old new : RowsDraft) → slice_get (keys (s.table.now).places) i ≡ Some q → HasFirstRows s i old → ((row : NeedRow) → Contains old.rows.items row → Contains new.rows.items row)
+pub draft_step : (s : Source) (i : ℕ) (q : Spot) (old new : RowsDraft) → slice_get (keys (s.table.now).places) i ≡ Some q → HasRowsOfFirst s i old → ((row : NeedRow) → Contains old.rows.items row → Contains new.rows.items row)
     → ((row : NeedRow) → Contains new.rows.items row → Contains old.rows.items row ⊎ ((k : Key) × (p : ℕ) × IsRowOfTablePoint s k p row))
-    → ((k : Key) (p : ℕ) → q ≡ Point k p → (row : NeedRow) × Contains new.rows.items row × IsRowOfTablePoint s k p row) → OutlinesHaveRows s new.rows.items new.outlines.items → HasFirstRows s (i + 1) new
+    → ((k : Key) (p : ℕ) → q ≡ Point k p → (row : NeedRow) × Contains new.rows.items row × IsRowOfTablePoint s k p row) → OutlinesHaveRows s new.rows.items new.outlines.items → HasRowsOfFirst s (i + 1) new
 draft_step s i q old new there so keeps only here outlines = record {
   sound = λ row c. elim (only row c) [ inl before ↦ so.sound row before | inr now ↦ now ];
   complete = λ k p c.
@@ -131,16 +131,16 @@ draft_step s i q old new there so keeps only here outlines = record {
 }
 
 -- for an exit, or a point with an equal row, nothing is added
-pub draft_same : (s : Source) (i : ℕ) (q : Spot) (old new : RowsDraft) → slice_get (keys (s.table.now).places) i ≡ Some q → HasFirstRows s i old → new.rows ≡ old.rows → new.outlines ≡ old.outlines
-    → ((k : Key) (p : ℕ) → q ≡ Point k p → (row : NeedRow) × Contains old.rows.items row × IsRowOfTablePoint s k p row) → HasFirstRows s (i + 1) new
+pub draft_same : (s : Source) (i : ℕ) (q : Spot) (old new : RowsDraft) → slice_get (keys (s.table.now).places) i ≡ Some q → HasRowsOfFirst s i old → new.rows ≡ old.rows → new.outlines ≡ old.outlines
+    → ((k : Key) (p : ℕ) → q ≡ Point k p → (row : NeedRow) × Contains old.rows.items row × IsRowOfTablePoint s k p row) → HasRowsOfFirst s (i + 1) new
 draft_same s i q old new there so rows outlines here =
     draft_step s i q old new there so (λ row c. subst (λ (v : Vec NeedRow Global). Contains v.items row) (sym rows) c) (λ row c. inl (subst (λ (v : Vec NeedRow Global). Contains v.items row) rows c))
     (λ k p e. let r = here k p e in (r.0, subst (λ (v : Vec NeedRow Global). Contains v.items r.0) (sym rows) r.1, r.2))
     (subst (λ (v : Vec (Option Outline) Global). OutlinesHaveRows s new.rows.items v.items) (sym outlines) (subst (λ (v : Vec NeedRow Global). OutlinesHaveRows s v.items old.outlines.items) (sym rows) so.outlines))
 
 -- the row of a point is added
-pub draft_more : (s : Source) (i : ℕ) (q : Spot) (old mid new : RowsDraft) (at : KnownPoint) → slice_get (keys (s.table.now).places) i ≡ Some q → HasFirstRows s i old → mid.rows ≡ old.rows → mid.outlines ≡ old.outlines
-    → q ≡ Point at.key at.addr → AddsPointRow s mid new at → HasFirstRows s (i + 1) new
+pub draft_more : (s : Source) (i : ℕ) (q : Spot) (old mid new : RowsDraft) (at : KnownPoint) → slice_get (keys (s.table.now).places) i ≡ Some q → HasRowsOfFirst s i old → mid.rows ≡ old.rows → mid.outlines ≡ old.outlines
+    → q ≡ Point at.key at.addr → AddsPointRow s mid new at → HasRowsOfFirst s (i + 1) new
 draft_more s i q old mid new at there so rows outlines is add =
     let row = add.0 in
     let r = add.1 in
@@ -174,7 +174,7 @@ have_rows_more s rows row outlines node o plain lt so i x e =
     ]
 
 -- all points have rows
-pub rows_done : (s : Source) (d : RowsDraft) (i : ℕ) → length (keys (s.table.now).places) ≤ i → HasFirstRows s i d → RowsOn s.ground.now s.table.now d.rows.items
+pub rows_done : (s : Source) (d : RowsDraft) (i : ℕ) → length (keys (s.table.now).places) ≤ i → HasRowsOfFirst s i d → AreRowsOfTable s.ground.now s.table.now d.rows.items
 unfolding view_of_table
 rows_done s d i le so = record {
   sound = λ row c. let r = so.sound row c in (r.0, r.1, (r.2).0, (r.2).1, (r.2).2);
@@ -186,7 +186,7 @@ rows_done s d i le so = record {
 }
 
 -- rows in another order, in a slice
-pub rows_again : (s : Source) (rows new slice : List NeedRow) → slice ≡ new → IsPermutation rows new → RowsOn s.ground.now s.table.now rows → RowsOn s.ground.now s.table.now slice
+pub rows_again : (s : Source) (rows new slice : List NeedRow) → slice ≡ new → IsPermutation rows new → AreRowsOfTable s.ground.now s.table.now rows → AreRowsOfTable s.ground.now s.table.now slice
 rows_again s rows new slice is same are =
     let there = subst (IsPermutation rows) (sym is) same in
     record {

@@ -30,7 +30,7 @@ use Rattle.cfg_recover.specs.Entries.{start_key}
 use Rattle.cfg_recover.specs.Assignments.{Place, point, exit, Assignment, is_same_place, key_of_place, known_by_node, assignment_of_cert, Closed, Derived, ArePointsFaultless}
 use Rattle.depth_cert.specs.Known.{Known, state, leaving, exit_if_known}
 use Rattle.depth_cert.specs.WellFormed.{IsWellFormedState, IsWellFormedExit, IsWellFormedKnown}
-use Rattle.depth_maker.specs.LeastCertMade.{AreLeastNeeds, IsLeastClosedCert, need_in_cert}
+use Rattle.depth_maker.specs.LeastCertMade.{AreLeastNeeds, IsLeastFixpointCert, need_in_cert}
 use Rattle.cfg_recover.proofs.Members.{contains_map}
 use Rattle.depth_maker.specs.AssignmentCounts.{ListsPointsAndFrames}
 use Rattle.depth_maker.specs.DutiesMonotone.{AreMakerInputs}
@@ -337,7 +337,7 @@ module _ (b : Limits) (image : ImageData) (plan : PlanData) (ground : AreMakerIn
         let le = few (start_key image plan) in
         omega (arith, le, need_here (start_key image plan) c)
 
-    pub is_written : IsLeastClosedCert image plan version (cert_of_assignment version a need (addresses_in_frame ps) ks)
+    pub is_written : IsLeastFixpointCert image plan version (cert_of_assignment version a need (addresses_in_frame ps) ks)
     is_written =
         let same : assignment_of_cert cert ≡ a = λ i y. known_same y i in
         record {

@@ -13,7 +13,7 @@ use Rattle.cfg_recover.specs.Entries.{start_key, start_state}
 use Rattle.cfg_recover.specs.LocalFaults.{IsFaultless}
 use Rattle.cfg_recover.specs.Assignments.{Assignment, Place, point, exit, is_same_place, Derived, begins, Closed, start_place, ArePointsFaultless}
 use Rattle.depth_cert.specs.Known.{IsKnownState, Known, state, leaving}
-use Rattle.depth_maker.specs.Covered.{AreLastCallsCovered, AreNotedEntriesCovered}
+use Rattle.depth_maker.specs.Covered.{AreLastCallsCovered, AreCachedEntriesCovered}
 use Rattle.depth_maker.specs.InterruptHandlers.{AreContextsCovered}
 use Rattle.depth_maker.specs.MakerLaws.{AreMakerLaws}
 use Rattle.depth_maker.proofs.TableLaws.{derived_well_formed, table_closed, table_marked, settled_again}
@@ -66,9 +66,9 @@ module _ (b : Limits) (image : ImageData) (plan : PlanData) (laws : AreMakerLaws
   the_counts : ListsTablePlaces s.places s.points.items s.frames.items → ListsTablePlaces t.places t.points.items t.frames.items
   the_counts c = counted_again s.places t.places s.points.items t.points.items s.frames.items t.frames.items (λ q. the_cells (spot_of q)) points frames c
 
-  the_covered : AreNotedEntriesCovered b plan (view_of_table s).cells s.covered → AreNotedEntriesCovered b plan (view_of_table t).cells t.covered
+  the_covered : AreCachedEntriesCovered b plan (view_of_table s).cells s.covered → AreCachedEntriesCovered b plan (view_of_table t).cells t.covered
   unfolding view_of_table
-  the_covered h = covered_again b plan (view_of_table s).cells (view_of_table t).cells (λ q. the_cells (spot_of q)) t.covered (subst (AreNotedEntriesCovered b plan (view_of_table s).cells) (sym covered) h)
+  the_covered h = covered_again b plan (view_of_table s).cells (view_of_table t).cells (λ q. the_cells (spot_of q)) t.covered (subst (AreCachedEntriesCovered b plan (view_of_table s).cells) (sym covered) h)
 
   the_exits : OnlyExitsHaveReaders s.readers → OnlyExitsHaveReaders t.readers
   the_exits h k p q reads = h k p q (subst (λ m. IsAmongReaders (get spot_eq m (Point k p)) q) readers reads)

@@ -10,7 +10,7 @@ use Rattle.tc_isa.specs.declared.shapes.Cond.{Cond}
 use Rattle.tc_isa.specs.declared.shapes.Op.TheVariants.{Add, Sh}
 use Rattle.tc_isa.specs.declared.shapes.Shape.{Shape}
 use Rattle.tc_isa.specs.declared.shapes.Shape.TheVariants.{Compute, Scaled, Load, Store, Branch, Svlcx, Rslcx, Bisr, Mfcr}
-use Rattle.tc_isa.specs.InBounds.{IsShape}
+use Rattle.tc_isa.specs.InBounds.{IsShapeInBounds}
 use Rattle.value_domain.specs.declared.values.Val.{Val}
 use Rattle.value_domain.specs.declared.states.State.{State}
 use Rattle.value_domain.specs.Limits.{Limits}
@@ -27,7 +27,7 @@ use Rattle.vd_transfer.proofs.RegisterLaws.{length-forgotten, forgotten_values}
 use Rattle.vd_transfer.proofs.ValueLaws.{value_of_value}
 use Rattle.elf_image.proofs.ReadBytes.{byte_lt}
 use Rattle.depth_cert.specs.declared.keys.Key.{Key}
-use Rattle.cfg_recover.specs.Entries.{entry_stack_of, state_with_stack, call_entry, aln_entry, sys_entry}
+use Rattle.cfg_recover.specs.Entries.{handler_entry_sp_of, state_with_only_a10, call_entry, aln_entry, sys_entry}
 use Rattle.depth_cert.specs.Exits.{lower_values, exit_of_state}
 use Rattle.cfg_recover.specs.Duties.{Owed, value_loaded_by_shape}
 use Rattle.cfg_recover.proofs.CodeLaws.{IsCode-bounded}
@@ -49,7 +49,7 @@ module _ (b : Limits) (p : PlanData) (s : State) (h : MeetSoundnessPremises b p 
   same_setting : (t : State) → t.regs ≡ s.regs → MeetSoundnessPremises b p t
   same_setting t e = record { limits = h.limits; plan = h.plan; regs = ap length e ∙ h.regs; values = subst (λ (vs : List Val). AreInLattice b vs) (sym e) h.values }
 
-  pub transfer_setting : (shape : Shape) (v : Val) → IsShape shape → IsInLattice b v → MeetSoundnessPremises b p (transfer_of b p shape s v)
+  pub transfer_setting : (shape : Shape) (v : Val) → IsShapeInBounds shape → IsInLattice b v → MeetSoundnessPremises b p (transfer_of b p shape s v)
   unfolding transfer_of
   transfer_setting (Compute op dst x y) v is vv = setting_write b p s dst _ h (value_of_value b op (arg_of p s x) (arg_of p s y) h.limits (arg_value b p s x h is.1) (arg_value b p s y h is.2))
   transfer_setting (Scaled dst base index k) v is vv = setting_write b p s dst _ h (value_of_value b Add (reg_of p s base) (operation_value b Sh (reg_of p s index) (word_val k)) h.limits (reg_value b p s base h) (value_of_value b Sh (reg_of p s index) (word_val k) h.limits (reg_value b p s index h) (word_value b k h.limits (omega (arith, is.3)))))
@@ -137,20 +137,20 @@ module _ (b : Limits) (image : ImageData) (plan : PlanData) (key : Key) (p : ℕ
   set : MeetSoundnessPremises b plan s
   set = setting_of b image plan s ground well_formed
 
-  stack_value : IsInLattice b (entry_stack_of plan key s)
+  stack_value : IsInLattice b (handler_entry_sp_of plan key s)
   stack_value = elim (cases_Bool key.is) [ inl e ↦ rw e (reg_value b plan s 26 set) | inr e ↦ rw e (word_value b plan.isp (ground.limits) ((ground.is_plan).words.isp)) ]
 
-  handler_well_formed : (n : ℕ) → IsWellFormedState b (state_with_stack (entry_stack_of plan key s) false n true)
+  handler_well_formed : (n : ℕ) → IsWellFormedState b (state_with_only_a10 (handler_entry_sp_of plan key s) false n true)
   handler_well_formed n = record {
-    regs = entry_length (entry_stack_of plan key s) false n true;
-    values = entry_values b (entry_stack_of plan key s) false n true ground.limits stack_value;
-    few = omega (arith, ap length (set_locals (record { regs = replicate 27 any_val; ie = false; ccpn = n; lower = true; locals = record { items = [] } }) 26 (entry_stack_of plan key s)));
+    regs = entry_length (handler_entry_sp_of plan key s) false n true;
+    values = entry_values b (handler_entry_sp_of plan key s) false n true ground.limits stack_value;
+    few = omega (arith, ap length (set_locals (record { regs = replicate 27 any_val; ie = false; ccpn = n; lower = true; locals = record { items = [] } }) 26 (handler_entry_sp_of plan key s)));
   }
 
   aln_well_formed : IsWellFormedState b (aln_entry plan key s)
   aln_well_formed =
       let h = handler_well_formed s.ccpn in
-      let u = state_with_stack (entry_stack_of plan key s) false s.ccpn true in
+      let u = state_with_only_a10 (handler_entry_sp_of plan key s) false s.ccpn true in
       record {
         regs = same_length u (word_val 4) (register_slot 15) ∙ h.regs;
         values = set_values_at b u (word_val 4) (register_slot 15) h.values (word_value b 4 (ground.limits) (omega arith));
@@ -159,31 +159,31 @@ module _ (b : Limits) (image : ImageData) (plan : PlanData) (key : Key) (p : ℕ
 
   sys_well_formed : (tin : ℕ) → tin < 256 → IsWellFormedState b (sys_entry plan key s tin)
   sys_well_formed tin small =
-      let u = with_reg_value s 26 (entry_stack_of plan key s) in
+      let u = with_reg_value s 26 (handler_entry_sp_of plan key s) in
       record {
         regs = sys_length plan key s tin ∙ well_formed.regs;
-        values = set_values_at b u (word_val tin) (register_slot 15) (set_values_at b s (entry_stack_of plan key s) (register_slot 26) well_formed.values stack_value) (word_value b tin (ground.limits) (omega arith));
+        values = set_values_at b u (word_val tin) (register_slot 15) (set_values_at b s (handler_entry_sp_of plan key s) (register_slot 26) well_formed.values stack_value) (word_value b tin (ground.limits) (omega arith));
         few = omega arith;
       }
 
   call_well_formed : IsWellFormedState b (call_entry s)
   call_well_formed = record { regs = well_formed.regs; values = well_formed.values; few = omega arith }
 
-  loaded_is : (shape : Shape) → IsShape shape → IsInLattice b (value_loaded_by_shape b image plan s shape)
+  loaded_is : (shape : Shape) → IsShapeInBounds shape → IsInLattice b (value_loaded_by_shape b image plan s shape)
   loaded_is (Load dst base offset size signed after) is = loaded_value image plan size signed ground.is_plan (λ x y. byte_lt image.segments x y ground.is_image.bytes) is.3 b (address_of_access b plan (Load dst base offset size signed after) s) ground.limits (address_value b plan (Load dst base offset size signed after) s set is)
   loaded_is _ is = any_value b (ground.limits)
 
-  next_well_formed : (shape : Shape) → IsShape shape → LocalsFitInstruction b shape s → IsWellFormedState b (transfer_of b plan shape s (value_loaded_by_shape b image plan s shape))
+  next_well_formed : (shape : Shape) → IsShapeInBounds shape → LocalsFitInstruction b shape s → IsWellFormedState b (transfer_of b plan shape s (value_loaded_by_shape b image plan s shape))
   next_well_formed shape is room =
       let h = transfer_setting b plan s set shape (value_loaded_by_shape b image plan s shape) is (loaded_is shape is) in
       record { regs = h.regs; values = h.values; few = transfer_locals b plan s set shape (value_loaded_by_shape b image plan s shape) room well_formed.few }
 
-  branch_well_formed : (test : Cond) (x : ℕ) (y : Arg) (by : ℕ) (lowers side : Bool) → IsShape (Branch test x y by lowers) → (t : State) → refine_of b plan (Branch test x y by lowers) s side ≡ Some t → IsWellFormedState b t
+  branch_well_formed : (test : Cond) (x : ℕ) (y : Arg) (by : ℕ) (lowers side : Bool) → IsShapeInBounds (Branch test x y by lowers) → (t : State) → refine_of b plan (Branch test x y by lowers) s side ≡ Some t → IsWellFormedState b t
   branch_well_formed test x y by lowers side is t e =
       let h = (branch_grows b plan s s test x y by lowers side set set (covers_same s) is t e).0 in
       record { regs = h.regs; values = h.values; few = omega (arith, ap length (kept_locals s t _ (branch_locals b plan s test x y by lowers side) e), well_formed.few) }
 
-  well_formed_by : (shape : Shape) (n : ℕ) (d : Owed) → IsShape shape → LocalsFitInstruction b shape s → DutyAt b image plan key p s n shape d → IsWellFormedDuty b d.duty
+  well_formed_by : (shape : Shape) (n : ℕ) (d : Owed) → IsShapeInBounds shape → LocalsFitInstruction b shape s → DutyAt b image plan key p s n shape d → IsWellFormedDuty b d.duty
   well_formed_by _ n _ is room (next shape e) = next_well_formed shape is room
   well_formed_by _ n _ is room (straight test x y by lowers t e) = branch_well_formed test x y by lowers false is t e
   well_formed_by _ n _ is room (taken test x y by lowers t e) = branch_well_formed test x y by lowers true is t e

@@ -34,9 +34,9 @@ HasLimitsOfFormat g version = g.bounds.now ≡ limits_for g.plan.now version
 
 -- the maker's error names a rule and a place by which no certificate can be made; nothing is said
 -- of NoMemory
-abbrev pub MakeErrHolds : Ground → MakeErr → Type 0
-MakeErrHolds g (Refused rule key addr) = IsRefusalWithLimits g.bounds.now g.image.now g.plan.now rule key addr
-MakeErrHolds g NoMemory = Unit {0}
+abbrev pub MakeErrNamesRefusal : Ground → MakeErr → Type 0
+MakeErrNamesRefusal g (Refused rule key addr) = IsRefusalWithLimits g.bounds.now g.image.now g.plan.now rule key addr
+MakeErrNamesRefusal g NoMemory = Unit {0}
 
 -- what the maker returns for its image and plan is right: the bytes spell the least certificate of
 -- this format
@@ -55,5 +55,5 @@ RefusalNamesFault b image plan (refusal.Fault rule x) = (k : Key) × (p : ℕ) �
 RefusalNamesFault b image plan refusal.NoMemory = Unit {0}
 
 -- the refusal names a fault of a derived assignment, for the image, plan and limits at hand
-abbrev pub RefusalIsRight : Ground → Refusal → Type 0
-RefusalIsRight g e = RefusalNamesFault g.bounds.now g.image.now g.plan.now e
+abbrev pub NamesDerivedFault : Ground → Refusal → Type 0
+NamesDerivedFault g e = RefusalNamesFault g.bounds.now g.image.now g.plan.now e

@@ -33,5 +33,5 @@ AreLastCallsCovered b a calls = (h : LastCall) → Contains calls h → AreCalls
 
 -- the entries that the maker's table caches as covered are so: those of the last interrupt contexts
 -- and of the last calls
-abbrev pub AreNotedEntriesCovered : Limits → PlanData → Assignment → CoveredEntries → Type 0
-AreNotedEntriesCovered b plan a covered = AreContextsCovered b plan a covered.interrupts × AreLastCallsCovered b a covered.calls.items
+abbrev pub AreCachedEntriesCovered : Limits → PlanData → Assignment → CoveredEntries → Type 0
+AreCachedEntriesCovered b plan a covered = AreContextsCovered b plan a covered.interrupts × AreLastCallsCovered b a covered.calls.items

@@ -6,7 +6,7 @@ use Rattle.tc_isa.specs.declared.shapes.Arg.{Arg}
 use Rattle.tc_isa.specs.declared.shapes.Cond.{Cond}
 use Rattle.tc_isa.specs.declared.shapes.Shape.{Shape}
 use Rattle.tc_isa.specs.declared.shapes.Shape.TheVariants.{Branch}
-use Rattle.tc_isa.specs.InBounds.{IsShape}
+use Rattle.tc_isa.specs.InBounds.{IsShapeInBounds}
 use Rattle.value_domain.specs.declared.values.Val.{Val}
 use Rattle.value_domain.specs.Values.{IsBelow}
 use Rattle.vd_transfer.specs.EffectsOnStates.{transfer_of, address_of_access}
@@ -79,13 +79,13 @@ ReturnStatesAreMonotone =
 -- with the loaded value
 abbrev pub TransfersAreMonotone : Type 0
 TransfersAreMonotone =
-    (b : Limits) (plan : PlanData) (s t : State) (shape : Shape) (v w : Val) → MeetSoundnessPremises b plan s → MeetSoundnessPremises b plan t → Covers t s → IsShape shape → IsBelow v w
+    (b : Limits) (plan : PlanData) (s t : State) (shape : Shape) (v w : Val) → MeetSoundnessPremises b plan s → MeetSoundnessPremises b plan t → Covers t s → IsShapeInBounds shape → IsBelow v w
     → Covers (transfer_of b plan shape t w) (transfer_of b plan shape s v)
 
 -- addresses are monotone in the state: those of an instruction's access grow with the state before
 abbrev pub AddressesAreMonotone : Type 0
 AddressesAreMonotone =
-    (b : Limits) (plan : PlanData) (s t : State) (shape : Shape) → MeetSoundnessPremises b plan s → MeetSoundnessPremises b plan t → Covers t s → IsShape shape
+    (b : Limits) (plan : PlanData) (s t : State) (shape : Shape) → MeetSoundnessPremises b plan s → MeetSoundnessPremises b plan t → Covers t s → IsShapeInBounds shape
     → IsBelow (address_of_access b plan shape s) (address_of_access b plan shape t)
 
 -- refinement by branches is monotone: a side that is possible is possible with a larger state, and
@@ -93,5 +93,5 @@ AddressesAreMonotone =
 abbrev pub BranchSidesAreMonotone : Type 0
 BranchSidesAreMonotone =
     (b : Limits) (plan : PlanData) (s t u : State) (test : Cond) (x : ℕ) (y : Arg) (by : ℕ) (lowers side : Bool) → MeetSoundnessPremises b plan s → MeetSoundnessPremises b plan t → Covers t s
-    → IsShape (Branch test x y by lowers) → refine_of b plan (Branch test x y by lowers) s side ≡ Some u
+    → IsShapeInBounds (Branch test x y by lowers) → refine_of b plan (Branch test x y by lowers) s side ≡ Some u
     → (w : State) × (refine_of b plan (Branch test x y by lowers) t side ≡ Some w) × Covers w u

@@ -8,7 +8,7 @@ use Rattle.depth_cert.specs.declared.keys.Key.{Key}
 use Rattle.cfg_recover.specs.Code.{IsCode}
 use Rattle.cfg_recover.specs.LocalRules.{LocalRuleHolds}
 use Rattle.elf_image.specs.Images.{ImageData}
-use Rattle.tc_isa.specs.InBounds.{IsShape}
+use Rattle.tc_isa.specs.InBounds.{IsShapeInBounds}
 use Rattle.frame_places.specs.declared.places.Spot.{Spot}
 use Rattle.frame_places.specs.declared.places.Spot.TheVariants.{Point, Exit}
 use Rattle.cfg_recover.specs.Duties.{entry_duties_of, misaligned_duties_of, entered_keys}
@@ -25,7 +25,7 @@ pub record InstructionEntersNoFrame (image : ImageData) (plan : PlanData) (p : â
   pub shape : Shape
   pub size : â„•
   pub code : IsCode image plan p shape size
-  pub shaped : IsShape shape
+  pub shaped : IsShapeInBounds shape
   pub enters : ShapeEntersNoFrame plan shape
 
 -- the instruction at a place enters no frame by a call, system call or misaligned access; an exit

@@ -10,7 +10,7 @@ use Rattle.value_domain.specs.Values.{join_of, IsBelow, IsInLattice, word_val}
 use Rattle.depth_cert.specs.Known.{state}
 use Rattle.depth_cert.specs.WellFormed.{IsWellFormedState}
 use Rattle.cfg_recover.specs.Assignments.{Assignment, AssignmentCovers, point}
-use Rattle.cfg_recover.specs.Entries.{state_with_stack, irq_key}
+use Rattle.cfg_recover.specs.Entries.{state_with_only_a10, irq_key}
 use Rattle.depth_maker.specs.declared.interrupt_contexts.InterruptContext.{InterruptContext}
 use Rattle.depth_maker.specs.declared.interrupt_contexts.LastInterrupts.{LastInterrupts}
 use Rattle.indexmap.specs.IndexMap.{IndexMap}
@@ -20,14 +20,14 @@ use Rattle.depth_maker.specs.declared.interrupt_handlers.Handler.{Handler}
 use Rattle.depth_maker.specs.declared.table.Table as made
 
 -- the value of A10 at the entries of the interrupt handlers, from a context that the maker caches
-abbrev pub context_stack : PlanData → InterruptContext → Val
-context_stack plan h = if h.is then h.sp else word_val plan.isp
+abbrev pub context_sp : PlanData → InterruptContext → Val
+context_sp plan h = if h.is then h.sp else word_val plan.isp
 
 -- the interrupt handler of priority p has its entry covered in the assignment, as it is entered
 -- from the cached context
 pub record IsHandlerCovered (b : Limits) (plan : PlanData) (a : Assignment) (h : InterruptContext) (p : ℕ) : Type 0 where
-  pub well_formed : IsWellFormedState b (state_with_stack (context_stack plan h) false p true)
-  pub covers : AssignmentCovers a (point (irq_key plan p) (irq_key plan p).entry) (state (state_with_stack (context_stack plan h) false p true))
+  pub well_formed : IsWellFormedState b (state_with_only_a10 (context_sp plan h) false p true)
+  pub covers : AssignmentCovers a (point (irq_key plan p) (irq_key plan p).entry) (state (state_with_only_a10 (context_sp plan h) false p true))
 
 -- all interrupt handlers above the cached context's priority have their entries covered in the
 -- assignment
@@ -52,7 +52,7 @@ pub record IsContextOf (h : InterruptContext) (inner : Bool) (s : State) : Type 
 
 -- the cached interrupt context differs from that of a frame with this state at most in the stack
 -- pointer A10
-pub record IsEqualExceptStack (h : InterruptContext) (inner : Bool) (s : State) : Type 0 where
+pub record IsEqualExceptSp (h : InterruptContext) (inner : Bool) (s : State) : Type 0 where
   pub same : h.is ≡ inner
   pub ccpn : h.ccpn ≡ s.ccpn
 
@@ -79,8 +79,8 @@ handler_nodes_above m handlers = map (λ h. h.node) (filter (λ h. nat_lt m h.pr
 
 -- the frame numbers of the interrupt handlers that may be entered: those above a priority if IE is
 -- on, else none
-abbrev pub taken_handlers : Bool → ℕ → List Handler → List ℕ
-taken_handlers ie m handlers = if ie then handler_nodes_above m handlers else []
+abbrev pub handler_nodes_if_enabled : Bool → ℕ → List Handler → List ℕ
+handler_nodes_if_enabled ie m handlers = if ie then handler_nodes_above m handlers else []
 
 -- the map numbers these frames, and the list has the handlers of all interrupts of the plan with
 -- their frames' numbers
@@ -90,7 +90,7 @@ pub record AreNumberedHandlers {S : Type 0} (plan : PlanData) (numbers : IndexMa
 
 -- the last cached interrupt context covers the handlers' entries from each frame with this CCPN, on
 -- this stack
-pub record AreInterruptsCoveredForCcpn (t : made.Table) (is : Bool) (ccpn : ℕ) : Type 0 where
+pub record HasCoveringContextForCcpn (t : made.Table) (is : Bool) (ccpn : ℕ) : Type 0 where
   pub context : InterruptContext
   pub last : (t.covered).interrupts.last ≡ Some context
   pub within : (s : State) → s.ccpn ≡ ccpn → IsWithinContext context is s

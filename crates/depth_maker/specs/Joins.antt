@@ -17,7 +17,7 @@ use Rattle.frame_places.specs.declared.places.Spot.{Spot}
 use Rattle.frame_places.specs.declared.refusals.Refusal.{Refusal}
 use Rattle.frame_places.specs.Spots.{spot_eq}
 use Rattle.depth_maker.specs.SpotsAsPlaces.{spot_of, place_of_spot}
-use Rattle.frame_places.specs.Counting.{frames_after_flow, points_after_flow}
+use Rattle.frame_places.specs.Counting.{frames_after_recording, points_after_recording}
 use Rattle.frame_places.specs.Marks.{is_queued, mark_of_place, value_of_place, AreQueuedPlacesListed, SetsAndQueuesPlace, IsAmongReaders}
 use Rattle.frame_places.specs.Numbers.{KeepsPlaceNumbers, PlaceHasNumber}
 use Rattle.frame_places.specs.Work.{all_work}
@@ -25,7 +25,7 @@ use Rattle.depth_maker.specs.AssignmentCounts.{AreWithinCertLimits}
 use Rattle.depth_maker.specs.TableLevels.{LevelRisesOrStays}
 use Rattle.depth_maker.specs.declared.inputs_and_limits.Ground.{Ground}
 use Rattle.depth_maker.specs.declared.table.Table as made
-use Rattle.depth_maker.specs.Answers.{RefusalIsRight}
+use Rattle.depth_maker.specs.Answers.{NamesDerivedFault}
 
 -- v was joined at the place y of the maker's table, which didn't cover v: y is queued and counted,
 -- and nothing else changed
@@ -38,8 +38,8 @@ pub record RaisesOnlyPlace (b : Limits) (s t : made.Table) (y : Spot) (v : Known
   pub near : t.near ≡ s.near
   pub readers : t.readers ≡ s.readers
   pub covered : t.covered ≡ s.covered
-  pub points : t.points.items ≡ points_after_flow (is_some (value_of_place s.places y)) s.points.items y
-  pub frames : t.frames.items ≡ frames_after_flow (is_some (value_of_place s.places y)) s.frames.items y
+  pub points : t.points.items ≡ points_after_recording (is_some (value_of_place s.places y)) s.points.items y
+  pub frames : t.frames.items ≡ frames_after_recording (is_some (value_of_place s.places y)) s.frames.items y
   pub few : AreWithinCertLimits (map place_of_spot t.points.items) t.frames.items
 
 -- a join into the maker's table keeps all places without new work as they are, and as readers; it
@@ -85,14 +85,14 @@ RaisesOnlyPlaceForInputs g s t y v = RaisesOnlyPlace g.bounds.now s t y v
 abbrev pub AddsPlaceIfNew : Ground → made.Table → made.Table → Spot → Known → Result (Option ℕ) Refusal → Type 0
 AddsPlaceIfNew g s t y v (Ok None) = RaisesOnlyPlaceForInputs g s t y v
 AddsPlaceIfNew g s t y v (Ok (Some number)) = PlaceHasNumber t.places number y × JoinsNothing g s t
-AddsPlaceIfNew g s t y v (Err e) = RefusalIsRight g e
+AddsPlaceIfNew g s t y v (Err e) = NamesDerivedFault g e
 
 -- v was joined at y, and readers of y aren't queued yet; or y covers v already; or the refusal is
 -- right
 abbrev pub JoinsWithoutRequeuing : Ground → made.Table → made.Table → Spot → Known → Result Bool Refusal → Type 0
 JoinsWithoutRequeuing g s t y v (Ok true) = RaisesOnlyPlaceForInputs g s t y v
 JoinsWithoutRequeuing g s t y v (Ok false) = IsJoinedAt g.bounds.now g.image.now g.plan.now s t y v
-JoinsWithoutRequeuing g s t y v (Err e) = RefusalIsRight g e
+JoinsWithoutRequeuing g s t y v (Err e) = NamesDerivedFault g e
 
 -- v was joined at the place y of the maker's table, and readers of y are queued if y rose
 abbrev pub JoinsAtPlace : Ground → made.Table → made.Table → Spot → Known → Type 0

@@ -63,7 +63,7 @@ pub record IsLeastAcceptedCert (image : ImageData) (plan : PlanData) (version : 
 
 -- what the maker proves of a written certificate: derived, closed, without faults, with the least
 -- needs, the start's within the areas
-pub record IsLeastClosedCert (image : ImageData) (plan : PlanData) (version : ℕ) (cert : CertData) : Type 0 where
+pub record IsLeastFixpointCert (image : ImageData) (plan : PlanData) (version : ℕ) (cert : CertData) : Type 0 where
   pub is_cert : IsCert cert
   pub of_version : cert.version ≡ version
   pub entries : (n : NodeData) → Contains cert.nodes n → IsSome (find_point (n.key).entry n.points)

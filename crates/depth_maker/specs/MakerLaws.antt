@@ -26,7 +26,7 @@ use Rattle.depth_cert.specs.WellFormed.{IsWellFormedState, IsWellFormedExit, IsW
 use Rattle.depth_maker.specs.declared.answering.MakeErr.TheVariants.{Refused}
 use Rattle.depth_maker.specs.Answers.{IsRightMakeErr, IsNoCertAccepted}
 use Rattle.value_domain.specs.VersionLimits.{limits_for}
-use Rattle.depth_maker.specs.LeastCertMade.{IsLeastCert, IsLeastClosedCert, IsLeastAcceptedCert}
+use Rattle.depth_maker.specs.LeastCertMade.{IsLeastCert, IsLeastFixpointCert, IsLeastAcceptedCert}
 
 -- law of the maker: every derived assignment is below every closed one without faults of its own
 abbrev pub DerivedIsBelowClosed : Type 0
@@ -104,10 +104,10 @@ MakeErrExcludesCerts =
 
 -- law of the maker: a certificate of a derived closed assignment without faults, with the least
 -- needs, is the least certificate
-abbrev pub LeastClosedIsLeastCert : Type 0
-LeastClosedIsLeastCert =
+abbrev pub LeastFixpointIsLeastCert : Type 0
+LeastFixpointIsLeastCert =
     (image : ImageData) (plan : PlanData) (version : ℕ) (cert : CertData) → AreMakerInputs (limits_for plan version) image plan → image.entry < 2 ^ 32
-    → IsLeastClosedCert image plan version cert → IsLeastCert image plan version cert
+    → IsLeastFixpointCert image plan version cert → IsLeastCert image plan version cert
 
 -- law of the maker: a refusal by a rule at a place implies that no certificate of the format is
 -- accepted

@@ -7,7 +7,7 @@ use Rattle.cfg_recover.specs.CertRefusals.{EntersRecursion, IsRefusedRecursion}
 use Rattle.cfg_recover.specs.Assignments.{EntersInAssignment}
 use Rattle.frame_places.specs.Numbers.{frame_number_in}
 use Rattle.frame_places.specs.NodeGraph.{AreEdgesOfRows, IsNodeMarked}
-use Rattle.depth_maker.specs.Rows.{RowsOn}
+use Rattle.depth_maker.specs.Rows.{AreRowsOfTable}
 use Rattle.depth_maker.specs.TableView.{view_of_table}
 use Rattle.frame_places.specs.declared.places.Spot.{Spot}
 use Rattle.frame_places.specs.declared.places.Spot.TheVariants.{Point}
@@ -38,7 +38,7 @@ IsFirstRecursion s (Some x) = IsFirstRecursivePoint s x.0 x.1
 -- the edges of the maker's frames, by their numbers: from each point's frame to the frames that the
 -- point enters
 abbrev pub AreTableEdges : Source → List FrameEdge → Type 0
-AreTableEdges s edges = (rows : List NeedRow) × RowsOn s.ground.now s.table.now rows × AreEdgesOfRows rows edges
+AreTableEdges s edges = (rows : List NeedRow) × AreRowsOfTable s.ground.now s.table.now rows × AreEdgesOfRows rows edges
 
 -- the numbers of the keys of the maker's frames, by which recursions are ordered
 abbrev pub frame_key_numbers : Source → List ℕ

@@ -9,10 +9,10 @@ use Rattle.cfg_recover.specs.Assignments.{point, Assignment}
 use Rattle.depth_cert.specs.Known.{Known, state}
 use Rattle.small_states.specs.CompactForms.{IsOutline}
 use Rattle.small_states.specs.declared.known.Outline.{Outline}
-use Rattle.depth_maker.specs.InterruptHandlers.{AreHandlersOfIrqs, taken_handlers}
+use Rattle.depth_maker.specs.InterruptHandlers.{AreHandlersOfIrqs, handler_nodes_if_enabled}
 use Rattle.frame_places.specs.Numbers.{AreFrameNumbers, frame_number_in}
 use Rattle.frame_places.specs.Spots.{spot_eq}
-use Rattle.depth_maker.specs.TableInvariant.{IsLeastClosedTable}
+use Rattle.depth_maker.specs.TableInvariant.{IsLeastFixpointTable}
 use Rattle.depth_maker.specs.TableView.{view_of_table}
 use Rattle.depth_maker.specs.VisitDuties.{IsFaultlessInstruction, visit_duties}
 use Rattle.depth_maker.specs.declared.inputs_and_limits.Ground.{Ground}
@@ -55,13 +55,13 @@ pub record AreRowFramesAmong (v : Visit) (frames : List Key) : Type 0 where
   pub entered : (found : Located) → IsFaultlessInstruction v found → (k : Key) → Contains (entered_keys (visit_duties v found)) k → Contains frames k
 
 -- the rows, for the needs, of all known points of the maker's table
-abbrev pub RowsOn : Ground → made.Table → List NeedRow → Type 0
-RowsOn g t rows = AreRowsOfPoints g.bounds.now g.image.now g.plan.now (view_of_table t).cells t.frames.items rows
+abbrev pub AreRowsOfTable : Ground → made.Table → List NeedRow → Type 0
+AreRowsOfTable g t rows = AreRowsOfPoints g.bounds.now g.image.now g.plan.now (view_of_table t).cells t.frames.items rows
 
 -- what rows are made from: a finished table of the maker, the numbers of its frames, and its
 -- interrupt handlers
-pub record IsRowSource (s : Source) : Type 0 where
-  pub done : IsLeastClosedTable s.ground.now s.table.now
+pub record HasFinishedTable (s : Source) : Type 0 where
+  pub done : IsLeastFixpointTable s.ground.now s.table.now
   pub numbers : AreFrameNumbers s.numbers.now (s.table.now).frames.items (s.table.now).frames.items
   pub handlers : AreHandlersOfIrqs (s.ground.now).plan.now (s.table.now).frames.items ((s.ground.now).plan.now).irqs s.handlers.now
 
@@ -81,7 +81,7 @@ pub record IsTablePoint (s : Source) (at : KnownPoint) : Type 0 where
 pub record IsRowOfOutline (s : Source) (number : ℕ) (o : Outline) (row : NeedRow) : Type 0 where
   pub node : row.node ≡ number
   pub held : row.held ≡ o.held
-  pub into : row.into.items ≡ taken_handlers o.ie o.ccpn s.handlers.now
+  pub into : row.into.items ≡ handler_nodes_if_enabled o.ie o.ccpn s.handlers.now
 
 -- each outline that a frame's plain points share has its row among these rows
 abbrev pub OutlinesHaveRows : Source → List NeedRow → List (Option Outline) → Type 0
@@ -89,7 +89,7 @@ OutlinesHaveRows s rows outlines = (number : ℕ) (o : Outline) → slice_get ou
 
 -- the point is plain, and its outline (IE, CCPN, number of locals) is the one that is listed for
 -- its frame
-pub record HasEqualRow (outlines : List (Option Outline)) (node : ℕ) (known : Marked Known) : Type 0 where
+pub record HasListedOutline (outlines : List (Option Outline)) (node : ℕ) (known : Marked Known) : Type 0 where
   pub outline : Outline
   pub there : slice_get outlines node ≡ Some (Some outline)
   pub is : IsOutline known.value outline
@@ -97,7 +97,7 @@ pub record HasEqualRow (outlines : List (Option Outline)) (node : ℕ) (known : 
 
 -- ---- one after another
 -- the draft has the rows of the points among the first `count` places of the maker's table
-pub record HasFirstRows (s : Source) (count : ℕ) (draft : RowsDraft) : Type 0 where
+pub record HasRowsOfFirst (s : Source) (count : ℕ) (draft : RowsDraft) : Type 0 where
   pub sound : (row : NeedRow) → Contains draft.rows.items row → (k : Key) × (p : ℕ) × IsRowOfTablePoint s k p row
   pub complete :
       (k : Key) (p : ℕ) → Contains (take count (keys (s.table.now).places)) (Point k p)

@@ -3,7 +3,7 @@ use Rattle.std.specs.Prelude.{◌≡◌, ◌<◌, ℕ, Bool, true, false, ◌∷
 use Rattle.elf_image.specs.Images.{ImageData}
 use Rattle.tcd_plan.specs.PlanData.{PlanData}
 use Rattle.tc_isa.specs.declared.shapes.Shape.{Shape}
-use Rattle.tc_isa.specs.InBounds.{IsShape}
+use Rattle.tc_isa.specs.InBounds.{IsShapeInBounds}
 use Rattle.value_domain.specs.declared.states.State.{State}
 use Rattle.value_domain.specs.Limits.{Limits}
 use Rattle.depth_cert.specs.declared.keys.Key.{Key}
@@ -14,7 +14,7 @@ use Rattle.cfg_recover.specs.Duties.{duties_of, interrupt_duties_of, jump, owed}
 use Rattle.frame_places.specs.declared.places.Spot.TheVariants.{Point}
 use Rattle.frame_places.specs.declared.refusals.Refusal.{Refusal}
 use Rattle.frame_places.specs.Marks.{value_of_place}
-use Rattle.depth_maker.specs.Answers.{RefusalIsRight}
+use Rattle.depth_maker.specs.Answers.{NamesDerivedFault}
 use Rattle.depth_maker.specs.EnteredFrames.{ShapeEntersNoFrame, InstructionEntersNoFrame}
 use Rattle.depth_maker.specs.Joins.{JoinsNothing}
 use Rattle.depth_maker.specs.VisitDuties.{AreDutiesJoined}
@@ -29,7 +29,7 @@ LocatesInstructionIfAny v = FindsShapeAndSize (v.ground.now).image.now (v.ground
 
 -- the shape that was located at the point, if any, has all its fields in bounds
 abbrev pub IsLocatedShapeInBounds : Site → Type 0
-IsLocatedShapeInBounds v = IfSome v.located.now (λ found. IsShape found.shape)
+IsLocatedShapeInBounds v = IfSome v.located.now (λ found. IsShapeInBounds found.shape)
 
 -- the instruction at p breaks no rule and changes no state: a point there owes the same state at
 -- `next`, and interrupts
@@ -37,7 +37,7 @@ pub record PassesStateTo (image : ImageData) (plan : PlanData) (p next : ℕ) : 
   pub shape : Shape
   pub size : ℕ
   pub code : IsCode image plan p shape size
-  pub shaped : IsShape shape
+  pub shaped : IsShapeInBounds shape
   pub local : (b : Limits) (k : Key) (u : State) (r : ℕ) → LocalRuleHolds b plan k p u shape r
   pub duties : (b : Limits) (k : Key) (u : State) → duties_of b image plan k p u shape size ≡ owed 4 (jump next u) ∷ interrupt_duties_of plan k u
   pub enters : ShapeEntersNoFrame plan shape
@@ -54,4 +54,4 @@ MayShareState v t =
 abbrev pub JoinsBySharing : Site → made.Table → made.Table → Result Bool Refusal → Type 0
 JoinsBySharing v s t (Ok true) = VisitJoinsDutiesForInputs v.ground.now s t (Point v.key v.addr) × InstructionEntersNoFrame (v.ground.now).image.now (v.ground.now).plan.now v.addr
 JoinsBySharing v s t (Ok false) = JoinsNothing v.ground.now s t
-JoinsBySharing v s t (Err e) = RefusalIsRight v.ground.now e
+JoinsBySharing v s t (Err e) = NamesDerivedFault v.ground.now e

@@ -16,9 +16,9 @@ use Rattle.depth_cert.specs.Certs.{CertData}
 use Rattle.depth_cert.specs.Spelling.{bytes_of_cert, bytes_of_exit, bytes_of_node, bytes_of_point}
 use Rattle.cfg_recover.specs.Assignments.{Place, point, exit, Assignment}
 use Rattle.depth_cert.specs.Known.{Known, state, leaving, exit_if_known}
-use Rattle.depth_maker.specs.LeastCertMade.{IsLeastClosedCert}
+use Rattle.depth_maker.specs.LeastCertMade.{IsLeastFixpointCert}
 use Rattle.depth_maker.specs.Needs.{need_of_frame, AreLeastTableNeeds}
-use Rattle.depth_maker.specs.Rows.{IsRowSource}
+use Rattle.depth_maker.specs.Rows.{HasFinishedTable}
 use Rattle.depth_maker.specs.TableView.{view_of_table}
 use Rattle.frame_places.specs.PointEntries.{ArePointEntries, place_of_entry, points_in}
 use Rattle.frame_places.specs.Spots.{is_point_of, spot_address, spot_eq}
@@ -92,7 +92,7 @@ cert_from_table s version needs ks ps = cert_of_assignment version (view_of_tabl
 -- what the certificate's bytes are made from: a finished table, the least needs of its frames, and
 -- its points sorted
 pub record IsOrderedCertSource (o : Ordered) : Type 0 where
-  pub source : IsRowSource o.source.now
+  pub source : HasFinishedTable o.source.now
   pub needs : AreLeastTableNeeds o.source.now o.needs.now
   pub unique : IsUnique spot_eq ((o.source.now).table.now).places
   pub points : IsPermutation (points_in ((o.source.now).table.now).places) (spots_in_order o)
@@ -147,15 +147,15 @@ abbrev pub IsTableFrame : Source → Key → Type 0
 IsTableFrame s k = Contains (s.table.now).frames.items k
 
 -- the bytes spell the certificate that the maker proves to be the least closed one
-abbrev pub AreClosedCertBytes : ImageData → PlanData → ℕ → List ℕ → Type 0
-AreClosedCertBytes image plan version bytes = (cert : CertData) × (bytes ≡ bytes_of_cert cert) × IsLeastClosedCert image plan version cert
+abbrev pub AreFixpointCertBytes : ImageData → PlanData → ℕ → List ℕ → Type 0
+AreFixpointCertBytes image plan version bytes = (cert : CertData) × (bytes ≡ bytes_of_cert cert) × IsLeastFixpointCert image plan version cert
 
 -- the bytes spell a certificate that the maker proves to be the least closed one for the image and
 -- plan of this source
-abbrev pub AreClosedCertBytesFromSource : Source → ℕ → List ℕ → Type 0
-AreClosedCertBytesFromSource s version bytes = AreClosedCertBytes (s.ground.now).image.now (s.ground.now).plan.now version bytes
+abbrev pub AreFixpointCertBytesFromSource : Source → ℕ → List ℕ → Type 0
+AreFixpointCertBytesFromSource s version bytes = AreFixpointCertBytes (s.ground.now).image.now (s.ground.now).plan.now version bytes
 
 -- the bytes spell a certificate that the maker proves to be the least closed one, for the image and
 -- the plan at hand
-abbrev pub AreClosedCertBytesForInputs : Ground → ℕ → List ℕ → Type 0
-AreClosedCertBytesForInputs g version bytes = (cert : CertData) × (bytes ≡ bytes_of_cert cert) × IsLeastClosedCert g.image.now g.plan.now version cert
+abbrev pub AreFixpointCertBytesForInputs : Ground → ℕ → List ℕ → Type 0
+AreFixpointCertBytesForInputs g version bytes = (cert : CertData) × (bytes ≡ bytes_of_cert cert) × IsLeastFixpointCert g.image.now g.plan.now version cert

@@ -16,7 +16,7 @@ use Rattle.frame_places.specs.Spots.{spot_eq}
 use Rattle.frame_places.specs.Marks.{mark_of_place, AreQueuedPlacesListed, AreKnownPlaces, IsAmongReaders, value_of_place}
 use Rattle.frame_places.specs.Work.{all_work}
 use Rattle.depth_maker.specs.AssignmentCounts.{ListsTablePlaces}
-use Rattle.depth_maker.specs.Covered.{AreNotedEntriesCovered}
+use Rattle.depth_maker.specs.Covered.{AreCachedEntriesCovered}
 use Rattle.depth_maker.specs.declared.inputs_and_limits.Ground.{Ground}
 use Rattle.depth_cert.specs.Known.{Known, state, leaving}
 use Rattle.frame_places.specs.declared.places.Marked.{Marked}
@@ -69,14 +69,14 @@ pub record TableInvariantHolds (b : Limits) (image : ImageData) (plan : PlanData
   pub table : ViewInvariantHolds b image plan (view_of_table t)
   pub listed : AreQueuedPlacesListed t.places (all_work t.work)
   pub counted : ListsTablePlaces t.places t.points.items t.frames.items
-  pub covered : AreNotedEntriesCovered b plan (view_of_table t).cells t.covered
+  pub covered : AreCachedEntriesCovered b plan (view_of_table t).cells t.covered
   pub exits : OnlyExitsHaveReaders t.readers
   pub readers : (z : Spot) → AreKnownPlaces t.places (IsAmongReaders (get spot_eq t.readers z))
   pub plain : ArePlainMarksRight image plan t.places
 
 -- the maker's finished table: its assignment is derived, closed and without faults, hence the least
 -- of these
-pub record IsLeastClosedTable (g : Ground) (t : made.Table) : Type 0 where
+pub record IsLeastFixpointTable (g : Ground) (t : made.Table) : Type 0 where
   pub derived : Derived g.bounds.now g.image.now g.plan.now (view_of_table t).cells
   pub closed : Closed g.bounds.now g.image.now g.plan.now (view_of_table t).cells
   pub faultless : ArePointsFaultless g.bounds.now g.image.now g.plan.now (view_of_table t).cells

@@ -15,7 +15,7 @@ use Rattle.cfg_recover.specs.LocalFaults.{IsFaultlessShape, IsFaultless}
 use Rattle.cfg_recover.specs.LocalRules.{targets_of}
 use Rattle.cfg_recover.specs.Code.{IsCode}
 use Rattle.cfg_recover.specs.Entries.{call_key, call_entry, sys_key, sys_entry}
-use Rattle.cfg_recover.specs.Duties.{Duty, Owed, duties_of, entry_and_return, entry_duties_of, interrupt_duties_of, jump_on, value_loaded_by_shape, misaligned_entry, misaligned_duties_of, next_duty_of, owed, successor_duties_of, enter, resume}
+use Rattle.cfg_recover.specs.Duties.{Duty, Owed, duties_of, entry_and_return, entry_duties_of, interrupt_duties_of, branch_duty, value_loaded_by_shape, misaligned_entry, misaligned_duties_of, next_duty_of, owed, successor_duties_of, enter, resume}
 use Rattle.cfg_recover.specs.Assignments.{AssignmentCovers, point}
 use Rattle.depth_cert.specs.Known.{Known, state}
 use Rattle.depth_cert.specs.WellFormed.{IsWellFormedKnown}
@@ -59,18 +59,18 @@ OwesDuties v ds = (d : Owed) → Contains ds d → VisitedPointOwes (v.ground.no
 
 -- the visit takes the first table to the second by joining these duties, unless the point has new
 -- work
-abbrev pub JoinedBy : Visit → made.Table → made.Table → List Owed → Type 0
-JoinedBy v s t ds = AreDutiesJoined (v.ground.now).bounds.now (v.ground.now).image.now (v.ground.now).plan.now s t v.key v.addr v.state.now ds
+abbrev pub JoinsDuties : Visit → made.Table → made.Table → List Owed → Type 0
+JoinsDuties v s t ds = AreDutiesJoined (v.ground.now).bounds.now (v.ground.now).image.now (v.ground.now).plan.now s t v.key v.addr v.state.now ds
 
 -- these duties of the visited point are covered in the table already, unless the point has new
 -- work, so joining them changes nothing
 abbrev pub AreDutiesCovered : Visit → made.Table → List Owed → Type 0
-AreDutiesCovered v t ds = JoinedBy v t t ds
+AreDutiesCovered v t ds = JoinsDuties v t t ds
 
 -- the visit takes the first table to the second by joining this one duty, unless the point has new
 -- work
 abbrev pub JoinsDuty : Visit → made.Table → made.Table → Owed → Type 0
-JoinsDuty v s t d = JoinedBy v s t (d ∷ [])
+JoinsDuty v s t d = JoinsDuties v s t (d ∷ [])
 
 -- the located instruction stands at the visited point, and breaks no rule with the point's state
 abbrev pub IsFaultlessInstruction : Visit → Located → Type 0
@@ -83,7 +83,7 @@ side_state v shape taken = refine_of (v.ground.now).bounds.now (v.ground.now).pl
 -- the visited branch's duty on one side: to jump to q with the state refined for that side, if the
 -- side is possible
 abbrev pub branch_duties : Visit → ℕ → Shape → Bool → List Owed
-branch_duties v q shape taken = jump_on q (side_state v shape taken)
+branch_duties v q shape taken = branch_duty q (side_state v shape taken)
 
 -- the visited point's state after an instruction of this shape
 abbrev pub state_after_step : Visit → Shape → State
@@ -124,8 +124,8 @@ misaligned_duty v = misaligned_entry (v.ground.now).plan.now v.key v.state.now
 
 -- the visited point's duty to enter the handler of misaligned accesses, if its access may be
 -- misaligned and the plan has that trap
-abbrev pub access_duties : Visit → Located → List Owed
-access_duties v found = misaligned_duties_of (v.ground.now).bounds.now (v.ground.now).plan.now v.key v.state.now found.shape
+abbrev pub misaligned_duties : Visit → Located → List Owed
+misaligned_duties v found = misaligned_duties_of (v.ground.now).bounds.now (v.ground.now).plan.now v.key v.state.now found.shape
 
 -- the visited point's duties to enter the handler of each interrupt that may be taken
 abbrev pub interrupt_duties : Visit → List Owed
@@ -134,7 +134,7 @@ interrupt_duties v = interrupt_duties_of (v.ground.now).plan.now v.key v.state.n
 -- of what the visited point owes, these duties are still joined in the later table if they were in
 -- the earlier
 abbrev pub KeepsDutiesJoined : Visit → made.Table → made.Table → List Owed → Type 0
-KeepsDutiesJoined v m t ds = (s : made.Table) → JoinedBy v s m ds → JoinedBy v s t ds
+KeepsDutiesJoined v m t ds = (s : made.Table) → JoinsDuties v s m ds → JoinsDuties v s t ds
 
 -- all duties of the visited point by this instruction: successors, entries of frames, interrupts,
 -- exit

@@ -23,7 +23,7 @@ use Rattle.depth_maker.specs.declared.inputs_and_limits.Ground.{Ground}
 use Rattle.depth_maker.specs.declared.inputs_and_limits.Visit.{Visit}
 use Rattle.depth_maker.specs.Joins.{JoinKeepsPlaces}
 use Rattle.depth_maker.specs.declared.table.Table as made
-use Rattle.depth_maker.specs.Answers.{RefusalIsRight}
+use Rattle.depth_maker.specs.Answers.{NamesDerivedFault}
 use Rattle.depth_maker.specs.VisitDuties.{AllDutiesSettled}
 
 -- the place x is the visited one, by the number that the maker's table has of that place
@@ -66,12 +66,12 @@ VisitJoinsDutiesForInputs g s t x = VisitJoinsDuties g.bounds.now g.image.now g.
 abbrev pub VisitsNextPlace : Ground → made.Table → made.Table → Result Bool Refusal → Type 0
 VisitsNextPlace g s t (Ok false) = TableInvariantHoldsForInputs g t × IsNoVisitOpen t × (level_of_table t ≡ level_of_table s) × (all_work t.work ≡ [])
 VisitsNextPlace g s t (Ok true) = TableInvariantHoldsForInputs g t × IsNoVisitOpen t × LevelRisesOrWorkShrinks s t
-VisitsNextPlace g s t (Err e) = RefusalIsRight g e
+VisitsNextPlace g s t (Err e) = NamesDerivedFault g e
 
 -- a number of steps of the worklist algorithm: the table's level rose if some work is left
 abbrev pub VisitsListedPlaces : Ground → made.Table → made.Table → Result Bool Refusal → Type 0
 VisitsListedPlaces g s t (Ok more) = TableInvariantHoldsForInputs g t × IsNoVisitOpen t × (more ≡ true → level_of_table s < level_of_table t) × (more ≡ false → all_work t.work ≡ [])
-VisitsListedPlaces g s t (Err e) = RefusalIsRight g e
+VisitsListedPlaces g s t (Err e) = NamesDerivedFault g e
 
 -- between two joins of a visit, the maker's table keeps its invariant, and the point its visited
 -- state, unless queued with new work

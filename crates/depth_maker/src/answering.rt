@@ -1,10 +1,10 @@
 // The certificate of an image and a plan, or why there is none.
 ghost use Rattle.std.specs.Prelude.{◌≡◌, ◌⊎◌, IfErr, IfOk};
-ghost use Rattle.depth_maker.specs.Answers.{AreLeastCertBytesForInputs, HasLimitsOfFormat, IsRightMakeErr, IsRightMakeErrForInputs, MakeErrHolds, RefusalIsRight};
+ghost use Rattle.depth_maker.specs.Answers.{AreLeastCertBytesForInputs, HasLimitsOfFormat, IsRightMakeErr, IsRightMakeErrForInputs, MakeErrNamesRefusal, NamesDerivedFault};
 ghost use Rattle.depth_maker.specs.LeastCertMade.{AreLeastCertBytes, IsLeastCert};
-ghost use Rattle.depth_maker.specs.SpelledCert.{AreClosedCertBytesForInputs};
-ghost use Rattle.depth_maker.specs.Rows.{IsRowSource};
-ghost use Rattle.depth_maker.specs.TableInvariant.{IsLeastClosedTable};
+ghost use Rattle.depth_maker.specs.SpelledCert.{AreFixpointCertBytesForInputs};
+ghost use Rattle.depth_maker.specs.Rows.{HasFinishedTable};
+ghost use Rattle.depth_maker.specs.TableInvariant.{IsLeastFixpointTable};
 ghost use Rattle.depth_maker.specs.declared.answering.MakeErr.TheVariants.{NoMemory};
 
 use crate::fixpoint::least_fixpoint;
@@ -108,11 +108,11 @@ fn cert_bytes_from_table(
     table: &Table,
     version: u8,
 ) -> Result<Vec<u8>, MakeErr>
-    requires done { IsLeastClosedTable ground.now table.now }
+    requires done { IsLeastFixpointTable ground.now table.now }
     requires version { (version ≡ 1) ⊎ (version ≡ 2) }
     requires limits { HasLimitsOfFormat ground.now version }
-    ensures ok { IfOk result (λ out. AreClosedCertBytesForInputs ground.now version out.items) }
-    ensures err { IfErr result (MakeErrHolds ground.now) }
+    ensures ok { IfOk result (λ out. AreFixpointCertBytesForInputs ground.now version out.items) }
+    ensures err { IfErr result (MakeErrNamesRefusal ground.now) }
 {
     let numbers = frame_number_map(alloc, table.frames.as_slice())?;
     let handlers = irq_handlers(alloc, ground.plan, &numbers)?;
@@ -128,8 +128,8 @@ fn cert_bytes_from_table(
 /// Returns the maker's error for a refusal: the rule that fails with its frame and address, an
 /// exit's being the frame's entry, or NoMemory.
 fn make_err_from_refusal(_ground: &Ground, refusal: Refusal) -> MakeErr
-    requires { RefusalIsRight _ground.now refusal }
-    ensures { MakeErrHolds _ground.now result }
+    requires { NamesDerivedFault _ground.now refusal }
+    ensures { MakeErrNamesRefusal _ground.now result }
 {
     match refusal {
         Refusal::Fault(rule, place) => match place {
@@ -147,12 +147,12 @@ fn make_err_from_refusal(_ground: &Ground, refusal: Refusal) -> MakeErr
 /// Returns the certificate's bytes of a finished table with its frames' least needs, or a refusal
 /// by K14 if the start needs too many areas.
 fn cert_with_least_needs(alloc: Global, source: &Source, version: u8) -> Result<Vec<u8>, MakeErr>
-    requires source { IsRowSource source.now }
+    requires source { HasFinishedTable source.now }
     requires version { (version ≡ 1) ⊎ (version ≡ 2) }
     requires limits { HasLimitsOfFormat source.now.ground.now version }
-    ensures ok { IfOk result (λ out. AreClosedCertBytesForInputs source.now.ground.now version
+    ensures ok { IfOk result (λ out. AreFixpointCertBytesForInputs source.now.ground.now version
         out.items) }
-    ensures err { IfErr result (MakeErrHolds source.now.ground.now) }
+    ensures err { IfErr result (MakeErrNamesRefusal source.now.ground.now) }
 {
     match least_frame_needs(alloc, source)? {
         Ok(needs) => Ok(serialize_cert(alloc, source, version, needs.as_slice())?),

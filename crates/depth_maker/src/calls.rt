@@ -1,10 +1,10 @@
 // Joins the entries of the functions that the visited point calls, and the states after them.
 ghost use Rattle.std.specs.Prelude.{◌≡◌, OnOk, IfErr, IfOk, IsTrue};
-ghost use Rattle.tc_isa.specs.InBounds.{IsTarget};
+ghost use Rattle.tc_isa.specs.InBounds.{IsTargetInBounds};
 ghost use Rattle.vd_transfer.specs.Changes.{state_after};
 ghost use Rattle.cfg_recover.specs.Entries.{call_entry};
-ghost use Rattle.depth_maker.specs.Answers.{RefusalIsRight};
-ghost use Rattle.depth_maker.specs.VisitDuties.{enter_duties, resume_duties, AreDutiesCovered, OwesDuties, JoinedBy, KeepsDutiesJoined, IsCoveredEntry, call_duties, possible_targets};
+ghost use Rattle.depth_maker.specs.Answers.{NamesDerivedFault};
+ghost use Rattle.depth_maker.specs.VisitDuties.{enter_duties, resume_duties, AreDutiesCovered, OwesDuties, JoinsDuties, KeepsDutiesJoined, IsCoveredEntry, call_duties, possible_targets};
 ghost use Rattle.depth_maker.specs.Visits.{VisitInvariantHolds};
 
 use crate::inputs_and_limits::Visit;
@@ -32,11 +32,11 @@ pub(crate) fn join_call_duties(
     c: &mut Change,
 ) -> Result<(), Refusal>
     requires visited { VisitInvariantHolds v.now table.old }
-    requires target { IsTarget to }
+    requires target { IsTargetInBounds to }
     requires owes { OwesDuties v.now (call_duties v.now back (possible_targets v.now to)) }
-    ensures ok { OnOk result (JoinedBy v.now table.old table.new
+    ensures ok { OnOk result (JoinsDuties v.now table.old table.new
         (call_duties v.now back (possible_targets v.now to))) }
-    ensures err { IfErr result (RefusalIsRight v.now.ground.now) }
+    ensures err { IfErr result (NamesDerivedFault v.now.ground.now) }
 {
     write_call_entry_change(c, v.state);
     match direct_target(v.addr, to) {
@@ -71,12 +71,12 @@ fn join_indirect_calls(
     back: u32,
 ) -> Result<(), Refusal>
     requires visited { VisitInvariantHolds v.now table.old }
-    requires target { IsTarget to }
+    requires target { IsTargetInBounds to }
     requires entry { state_after v.now.state.now entry.now ≡ call_entry v.now.state.now }
     requires owes { OwesDuties v.now (call_duties v.now back (possible_targets v.now to)) }
-    ensures ok { OnOk result (JoinedBy v.now table.old table.new
+    ensures ok { OnOk result (JoinsDuties v.now table.old table.new
         (call_duties v.now back (possible_targets v.now to))) }
-    ensures err { IfErr result (RefusalIsRight v.now.ground.now) }
+    ensures err { IfErr result (NamesDerivedFault v.now.ground.now) }
 {
     let targets = targets(v.ground.plan, v.state, v.addr, to);
     join_indirect_call_entries(alloc, table, v, entry, &targets)?;
@@ -96,8 +96,8 @@ fn join_indirect_call_entries(
     requires entry { state_after v.now.state.now entry.now ≡ call_entry v.now.state.now }
     requires owes { OwesDuties v.now (enter_duties v.now targets.now.items) }
     ensures ok { OnOk result
-        (JoinedBy v.now table.old table.new (enter_duties v.now targets.now.items)) }
-    ensures err { IfErr result (RefusalIsRight v.now.ground.now) }
+        (JoinsDuties v.now table.old table.new (enter_duties v.now targets.now.items)) }
+    ensures err { IfErr result (NamesDerivedFault v.now.ground.now) }
 {
     if has_covering_call(&*table, v, entry, targets) {
         return Ok(());
@@ -119,8 +119,8 @@ fn join_call_returns(
     requires visited { VisitInvariantHolds v.now table.old }
     requires owes { OwesDuties v.now (resume_duties v.now back targets.now) }
     ensures ok { OnOk result
-        (JoinedBy v.now table.old table.new (resume_duties v.now back targets.now)) }
-    ensures err { IfErr result (RefusalIsRight v.now.ground.now) }
+        (JoinsDuties v.now table.old table.new (resume_duties v.now back targets.now)) }
+    ensures err { IfErr result (NamesDerivedFault v.now.ground.now) }
 {
     for t in targets {
         let key = entered_key(&v.key, CALL, *t);
@@ -160,7 +160,7 @@ fn cache_covered_call(
     requires entry { state_after v.now.state.now entry.now ≡ call_entry v.now.state.now }
     ensures ok { OnOk result
         (KeepsDutiesJoined v.now table.old table.new (enter_duties v.now targets.now.items)) }
-    ensures err { IfErr result (RefusalIsRight v.now.ground.now) }
+    ensures err { IfErr result (NamesDerivedFault v.now.ground.now) }
 {
     if targets.len() < 2 {
         return Ok(());

@@ -3,7 +3,7 @@ ghost use Rattle.std.specs.Prelude.{◌≡◌, ◌++◌, IfOk, IsTrue, ◌∷◌
 ghost use Rattle.depth_cert.specs.WellFormed.{IsWellFormedState};
 ghost use Rattle.cfg_recover.specs.Duties.{entered_keys};
 ghost use Rattle.depth_maker.specs.EnteredFrames.{ShapeEntersNoFrame};
-ghost use Rattle.depth_maker.specs.VisitDuties.{IsFaultlessInstruction, access_duties, entry_duties, misaligned_duty};
+ghost use Rattle.depth_maker.specs.VisitDuties.{IsFaultlessInstruction, misaligned_duties, entry_duties, misaligned_duty};
 ghost use Rattle.depth_cert.specs.Known.{state};
 
 use crate::inputs_and_limits::Visit;
@@ -24,7 +24,7 @@ pub(crate) fn entered_frame_keys(
     requires stands { IsFaultlessInstruction v.now found.now }
     ensures { IfOk result (λ keys. keys.items
         ≡ entered_keys (entry_duties v.now found.now.shape found.now.size)
-        ++ entered_keys (access_duties v.now found.now)) }
+        ++ entered_keys (misaligned_duties v.now found.now)) }
 {
     let mut keys = Vec::new(alloc);
     let plan = v.ground.plan;
@@ -55,7 +55,7 @@ pub(crate) fn enters_no_frame(plan: &Plan, shape: Shape) -> bool
 pub(crate) fn may_enter_misaligned_handler(v: &Visit, found: &Located) -> bool
     requires well_formed { IsWellFormedState v.now.ground.now.bounds.now v.now.state.now }
     requires stands { IsFaultlessInstruction v.now found.now }
-    ensures { access_duties v.now found.now ≡ (if result then misaligned_duty v.now ∷ [] else []) }
+    ensures { misaligned_duties v.now found.now ≡ (if result then misaligned_duty v.now ∷ [] else []) }
 {
     let plan = v.ground.plan;
     plan.aln && may_be_misaligned(v.ground.bounds, plan, v.state, found.shape)

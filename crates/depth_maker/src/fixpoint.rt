@@ -4,8 +4,8 @@ ghost use Rattle.indexmap.specs.IndexMap.{get};
 ghost use Rattle.frame_places.specs.declared.places.Spot.{Spot};
 ghost use Rattle.frame_places.specs.Spots.{spot_eq};
 ghost use Rattle.cfg_recover.specs.SetOperations.{IsCorrectCache};
-ghost use Rattle.depth_maker.specs.TableInvariant.{TableInvariantHoldsForInputs, IsLeastClosedTable};
-ghost use Rattle.depth_maker.specs.Answers.{RefusalIsRight};
+ghost use Rattle.depth_maker.specs.TableInvariant.{TableInvariantHoldsForInputs, IsLeastFixpointTable};
+ghost use Rattle.depth_maker.specs.Answers.{NamesDerivedFault};
 ghost use Rattle.depth_maker.specs.Visits.{IsNoVisitOpen, VisitsNextPlace, VisitsListedPlaces};
 
 use crate::covered::CoveredEntries;
@@ -34,8 +34,8 @@ pub(crate) struct VisitScratch {
 /// before the rows are made.
 #[inline(never)]
 pub(crate) fn least_fixpoint(alloc: Global, ground: &Ground) -> Result<Table, Refusal>
-    ensures ok { IfOk result (IsLeastClosedTable ground.now) }
-    ensures err { IfErr result (RefusalIsRight ground.now) }
+    ensures ok { IfOk result (IsLeastFixpointTable ground.now) }
+    ensures err { IfErr result (NamesDerivedFault ground.now) }
 {
     let mut table = initial_table(alloc, ground)?;
     let mut scratch = VisitScratch {
@@ -51,7 +51,7 @@ pub(crate) fn least_fixpoint(alloc: Global, ground: &Ground) -> Result<Table, Re
 #[inline(never)]
 fn initial_table(alloc: Global, ground: &Ground) -> Result<Table, Refusal>
     ensures ok { IfOk result (λ t. TableInvariantHoldsForInputs ground.now t × IsNoVisitOpen t) }
-    ensures err { IfErr result (RefusalIsRight ground.now) }
+    ensures err { IfErr result (NamesDerivedFault ground.now) }
 {
     let key = start_key(ground.image, ground.plan);
     let place = Spot::Point(key, key.entry);

@@ -2,7 +2,7 @@
 ghost use Rattle.std.specs.Prelude.{◌≡◌, IsTrue};
 ghost use Rattle.value_domain.specs.declared.states.State.{State};
 ghost use Rattle.value_domain.specs.Values.{IsBelow, IsInLattice, IsWellFormed};
-ghost use Rattle.depth_maker.specs.InterruptHandlers.{IsEqualExceptStack, IsContextOf, IsWithinContext, joined_context, AreInterruptsCoveredForCcpn};
+ghost use Rattle.depth_maker.specs.InterruptHandlers.{IsEqualExceptSp, IsContextOf, IsWithinContext, joined_context, HasCoveringContextForCcpn};
 ghost use Rattle.vd_transfer.specs.Registers.{a10_of};
 ghost use Rattle.depth_cert.specs.WellFormed.{IsWellFormedState};
 ghost use Rattle.frame_places.specs.declared.places.Spot.TheVariants.{Point};
@@ -70,7 +70,7 @@ impl InterruptContext {
     /// Returns true only if this context has the state's CCPN, and the interrupt stack in use or
     /// not, as `is` says. A10 may differ.
     pub(crate) fn is_equal_except_sp(&self, is: bool, s: &State) -> bool
-        ensures { IsTrue result → IsEqualExceptStack self.now is s.now }
+        ensures { IsTrue result → IsEqualExceptSp self.now is s.now }
     {
         self.is == is && self.ccpn == s.ccpn
     }
@@ -118,7 +118,7 @@ pub(crate) fn has_covering_context(table: &Table, v: &Visit) -> bool
 /// covers the handlers' entries for this CCPN.
 #[inline(always)]
 pub(crate) fn has_covering_context_for_ccpn(table: &Table, is: bool, ccpn: u8) -> bool
-    ensures { IsTrue result → AreInterruptsCoveredForCcpn table.now is ccpn }
+    ensures { IsTrue result → HasCoveringContextForCcpn table.now is ccpn }
 {
     match &table.covered.interrupts.last {
         Some(last) => last.covers_any_sp(is, ccpn),

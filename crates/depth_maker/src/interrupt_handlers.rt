@@ -2,7 +2,7 @@
 ghost use Rattle.std.specs.Prelude.{◌≡◌, ◌≤◌, ◌<◌, ◌+◌, ◌++◌, ◌∷◌, [], List, IfOk, OnOk, length, vec_len, vec_capacity};
 ghost use Rattle.depth_cert.specs.declared.keys.Key.{Key};
 ghost use Rattle.frame_places.specs.Numbers.{AreNumbersOfFrames};
-ghost use Rattle.depth_maker.specs.InterruptHandlers.{AreHandlersOfIrqs, handler_nodes_above, taken_handlers};
+ghost use Rattle.depth_maker.specs.InterruptHandlers.{AreHandlersOfIrqs, handler_nodes_above, handler_nodes_if_enabled};
 
 use cfg_recover::irq_key;
 use depth_cert::Key;
@@ -46,7 +46,7 @@ pub(crate) fn append_handlers_if_enabled(
     ccpn: u8,
     handlers: &[Handler],
 ) -> Result<(), AllocError>
-    ensures { OnOk result (into.new.items ≡ into.old.items ++ taken_handlers ie ccpn handlers.now) }
+    ensures { OnOk result (into.new.items ≡ into.old.items ++ handler_nodes_if_enabled ie ccpn handlers.now) }
 {
     if !ie {
         return Ok(());

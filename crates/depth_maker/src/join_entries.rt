@@ -1,12 +1,12 @@
 // Joins the entries of frames that the visited point enters.
 ghost use Rattle.std.specs.Prelude.{◌≡◌, OnOk, IfErr, [], ◌∷◌, ℕ};
-ghost use Rattle.tc_isa.specs.InBounds.{IsShape};
+ghost use Rattle.tc_isa.specs.InBounds.{IsShapeInBounds};
 ghost use Rattle.vd_transfer.specs.Changes.{state_after};
 ghost use Rattle.cfg_recover.specs.Entries.{call_entry, possible_irqs_of};
 ghost use Rattle.cfg_recover.specs.FlowDuties.{duties_of_irqs};
 ghost use Rattle.frame_places.specs.declared.places.Spot.TheVariants.{Point, Exit};
-ghost use Rattle.depth_maker.specs.Answers.{RefusalIsRight};
-ghost use Rattle.depth_maker.specs.VisitDuties.{OwesDuties, JoinedBy, JoinsDuty, IsFaultlessInstruction, access_duties, entry_duties, interrupt_duties, misaligned_duty, system_call_duties, enter_duties, OwesDuty};
+ghost use Rattle.depth_maker.specs.Answers.{NamesDerivedFault};
+ghost use Rattle.depth_maker.specs.VisitDuties.{OwesDuties, JoinsDuties, JoinsDuty, IsFaultlessInstruction, misaligned_duties, entry_duties, interrupt_duties, misaligned_duty, system_call_duties, enter_duties, OwesDuty};
 ghost use Rattle.depth_maker.specs.Visits.{VisitInvariantHolds};
 ghost use Rattle.cfg_recover.specs.Duties.{enter, enter_duty, entry_and_return, resume, resume_duty};
 ghost use Rattle.depth_cert.specs.Known.{state};
@@ -40,10 +40,10 @@ pub(crate) fn join_entry_duties(
     c: &mut Change,
 ) -> Result<(), Refusal>
     requires visited { VisitInvariantHolds v.now table.old }
-    requires shape { IsShape shape }
+    requires shape { IsShapeInBounds shape }
     requires owes { OwesDuties v.now (entry_duties v.now shape size) }
-    ensures ok { OnOk result (JoinedBy v.now table.old table.new (entry_duties v.now shape size)) }
-    ensures err { IfErr result (RefusalIsRight v.now.ground.now) }
+    ensures ok { OnOk result (JoinsDuties v.now table.old table.new (entry_duties v.now shape size)) }
+    ensures err { IfErr result (NamesDerivedFault v.now.ground.now) }
 {
     let back = v.addr.wrapping_add(size);
     match shape {
@@ -63,9 +63,9 @@ pub(crate) fn join_misaligned_duties(
 ) -> Result<(), Refusal>
     requires visited { VisitInvariantHolds v.now table.old }
     requires found { IsFaultlessInstruction v.now found.now }
-    requires owes { OwesDuties v.now (access_duties v.now found.now) }
-    ensures ok { OnOk result (JoinedBy v.now table.old table.new (access_duties v.now found.now)) }
-    ensures err { IfErr result (RefusalIsRight v.now.ground.now) }
+    requires owes { OwesDuties v.now (misaligned_duties v.now found.now) }
+    ensures ok { OnOk result (JoinsDuties v.now table.old table.new (misaligned_duties v.now found.now)) }
+    ensures err { IfErr result (NamesDerivedFault v.now.ground.now) }
 {
     if !may_enter_misaligned_handler(v, found) {
         return Ok(());
@@ -78,8 +78,8 @@ pub(crate) fn join_misaligned_duties(
 pub(crate) fn join_irq_duties(alloc: Global, table: &mut Table, v: &Visit) -> Result<(), Refusal>
     requires visited { VisitInvariantHolds v.now table.old }
     requires owes { OwesDuties v.now (interrupt_duties v.now) }
-    ensures ok { OnOk result (JoinedBy v.now table.old table.new (interrupt_duties v.now)) }
-    ensures err { IfErr result (RefusalIsRight v.now.ground.now) }
+    ensures ok { OnOk result (JoinsDuties v.now table.old table.new (interrupt_duties v.now)) }
+    ensures err { IfErr result (NamesDerivedFault v.now.ground.now) }
 {
     if !v.state.ie {
         return Ok(());
@@ -107,8 +107,8 @@ pub(crate) fn join_call_entries(
     requires visited { VisitInvariantHolds v.now table.old }
     requires entry { state_after v.now.state.now entry.now ≡ call_entry v.now.state.now }
     requires owes { OwesDuties v.now (enter_duties v.now targets.now) }
-    ensures ok { OnOk result (JoinedBy v.now table.old table.new (enter_duties v.now targets.now)) }
-    ensures err { IfErr result (RefusalIsRight v.now.ground.now) }
+    ensures ok { OnOk result (JoinsDuties v.now table.old table.new (enter_duties v.now targets.now)) }
+    ensures err { IfErr result (NamesDerivedFault v.now.ground.now) }
 {
     for t in targets {
         let key = entered_key(&v.key, CALL, *t);
@@ -130,7 +130,7 @@ pub(crate) fn join_entry(
     requires owes { OwesDuty v.now (enter key (state_after v.now.state.now c.now)) }
     ensures ok { (rule : ℕ) → OnOk result (JoinsDuty v.now table.old table.new
         (enter_duty rule key (state_after v.now.state.now c.now))) }
-    ensures err { IfErr result (RefusalIsRight v.now.ground.now) }
+    ensures err { IfErr result (NamesDerivedFault v.now.ground.now) }
 {
     if is_place_queued(&table.places, table.near) {
         return Ok(());
@@ -151,7 +151,7 @@ pub(crate) fn read_exit_and_join_return(
     requires visited { VisitInvariantHolds v.now table.old }
     requires owes { OwesDuty v.now (resume key back) }
     ensures ok { OnOk result (JoinsDuty v.now table.old table.new (resume_duty key back)) }
-    ensures err { IfErr result (RefusalIsRight v.now.ground.now) }
+    ensures err { IfErr result (NamesDerivedFault v.now.ground.now) }
 {
     register_reader(
         alloc,
@@ -175,9 +175,9 @@ pub(crate) fn join_entry_and_return(
     requires visited { VisitInvariantHolds v.now table.old }
     requires enters { OwesDuty v.now (enter key (state_after v.now.state.now c.now)) }
     requires resumes { OwesDuty v.now (resume key back) }
-    ensures ok { (rule : ℕ) → OnOk result (JoinedBy v.now table.old table.new
+    ensures ok { (rule : ℕ) → OnOk result (JoinsDuties v.now table.old table.new
         (entry_and_return rule key (state_after v.now.state.now c.now) back)) }
-    ensures err { IfErr result (RefusalIsRight v.now.ground.now) }
+    ensures err { IfErr result (NamesDerivedFault v.now.ground.now) }
 {
     join_entry(alloc, table, v, key, c)?;
     read_exit_and_join_return(alloc, table, v, key, back)
@@ -195,9 +195,9 @@ fn join_system_call_duties(
 ) -> Result<(), Refusal>
     requires visited { VisitInvariantHolds v.now table.old }
     requires owes { OwesDuties v.now (system_call_duties v.now tin back) }
-    ensures ok { OnOk result (JoinedBy v.now table.old table.new
+    ensures ok { OnOk result (JoinsDuties v.now table.old table.new
         (system_call_duties v.now tin back)) }
-    ensures err { IfErr result (RefusalIsRight v.now.ground.now) }
+    ensures err { IfErr result (NamesDerivedFault v.now.ground.now) }
 {
     let g = v.ground;
     let entry = sys_entry_change(g.bounds, g.plan, &v.key, v.state, tin);
@@ -211,7 +211,7 @@ fn join_misaligned_entry(alloc: Global, table: &mut Table, v: &Visit) -> Result<
     requires visited { VisitInvariantHolds v.now table.old }
     requires owes { OwesDuties v.now (misaligned_duty v.now ∷ []) }
     ensures ok { OnOk result (JoinsDuty v.now table.old table.new (misaligned_duty v.now)) }
-    ensures err { IfErr result (RefusalIsRight v.now.ground.now) }
+    ensures err { IfErr result (NamesDerivedFault v.now.ground.now) }
 {
     let g = v.ground;
     let entry = aln_entry_change(g.bounds, g.plan, &v.key, v.state);
@@ -230,8 +230,8 @@ fn join_interrupt_entries(
     requires visited { VisitInvariantHolds v.now table.old }
     requires irqs { irqs.now ≡ possible_irqs_of v.now.ground.now.plan.now v.now.state.now }
     requires owes { OwesDuties v.now (interrupt_duties v.now) }
-    ensures ok { OnOk result (JoinedBy v.now table.old table.new (interrupt_duties v.now)) }
-    ensures err { IfErr result (RefusalIsRight v.now.ground.now) }
+    ensures ok { OnOk result (JoinsDuties v.now table.old table.new (interrupt_duties v.now)) }
+    ensures err { IfErr result (NamesDerivedFault v.now.ground.now) }
 {
     let entry = handler_entry_change(v.ground.bounds, v.ground.plan, &v.key, v.state, 0);
     join_each_handler_entry(alloc, table, v, irqs, entry)
@@ -250,9 +250,9 @@ fn join_each_handler_entry(
     requires owes { OwesDuties v.now
         (duties_of_irqs v.now.ground.now.plan.now (state_after v.now.state.now entry) irqs.now) }
     ensures ok { OnOk result
-        (JoinedBy v.now table.old table.new
+        (JoinsDuties v.now table.old table.new
         (duties_of_irqs v.now.ground.now.plan.now (state_after v.now.state.now entry) irqs.now)) }
-    ensures err { IfErr result (RefusalIsRight v.now.ground.now) }
+    ensures err { IfErr result (NamesDerivedFault v.now.ground.now) }
 {
     let mut entry = entry;
     for p in irqs {

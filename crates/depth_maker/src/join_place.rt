@@ -10,7 +10,7 @@ ghost use Rattle.frame_places.specs.Spots.{spot_eq};
 ghost use Rattle.depth_maker.specs.TableInvariant.{OnlyExitsHaveReaders, TableInvariantHoldsForInputs};
 ghost use Rattle.depth_maker.specs.AssignmentCounts.{AreWithinCertLimits};
 ghost use Rattle.depth_maker.specs.SpotsAsPlaces.{place_of_spot};
-ghost use Rattle.depth_maker.specs.Answers.{RefusalIsRight};
+ghost use Rattle.depth_maker.specs.Answers.{NamesDerivedFault};
 ghost use Rattle.depth_maker.specs.VisitDuties.{IsVisitStateCurrent};
 ghost use Rattle.depth_maker.specs.Visits.{IsVisitedPlace};
 ghost use Rattle.depth_maker.specs.Joins.{AddsPlaceIfNew, FlowsInto, JoinsAtPlace, JoinsWithoutRequeuing};
@@ -66,7 +66,7 @@ pub(crate) fn join_at_place(
     requires incoming { FlowsInto v.now.ground.now table.old y.now (incoming_known incoming.now) }
     ensures ok { OnOk result
         (JoinsAtPlace v.now.ground.now table.old table.new y.now (incoming_known incoming.now)) }
-    ensures err { IfErr result (RefusalIsRight v.now.ground.now) }
+    ensures err { IfErr result (NamesDerivedFault v.now.ground.now) }
 {
     let _byte = incoming_ccpn(incoming);
     let known = table.places.len();

@@ -1,11 +1,11 @@
 // Joins the successors of the visited point in its frame.
 ghost use Rattle.std.specs.Prelude.{OnOk, IfErr, ◌++◌, false, true, ℕ};
-ghost use Rattle.tc_isa.specs.InBounds.{IsShape, IsTarget};
+ghost use Rattle.tc_isa.specs.InBounds.{IsShapeInBounds, IsTargetInBounds};
 ghost use Rattle.vd_transfer.specs.Changes.{state_after};
 ghost use Rattle.cfg_recover.specs.SetOperations.{IsCorrectCache};
-ghost use Rattle.cfg_recover.specs.Duties.{exit_duties_of, jump, jump_duty, jumps_to, leave, leave_duty, resume, resume_duty};
-ghost use Rattle.depth_maker.specs.Answers.{RefusalIsRight};
-ghost use Rattle.depth_maker.specs.VisitDuties.{OwesDuties, JoinedBy, JoinsDuty, IsFaultlessInstruction, IsVisitStateCurrent, branch_duties, next_duties, possible_targets, successor_duties, OwesDuty};
+ghost use Rattle.cfg_recover.specs.Duties.{exit_duties_of, jump, jump_duty, jump_duties_to, leave, leave_duty, resume, resume_duty};
+ghost use Rattle.depth_maker.specs.Answers.{NamesDerivedFault};
+ghost use Rattle.depth_maker.specs.VisitDuties.{OwesDuties, JoinsDuties, JoinsDuty, IsFaultlessInstruction, IsVisitStateCurrent, branch_duties, next_duties, possible_targets, successor_duties, OwesDuty};
 ghost use Rattle.depth_maker.specs.Visits.{VisitInvariantHolds};
 ghost use Rattle.indexmap.specs.IndexMap.{get};
 ghost use Rattle.depth_cert.specs.Exits.{exit_of_state};
@@ -48,9 +48,9 @@ pub(crate) fn join_successors(
     requires found { IsFaultlessInstruction v.now found.now }
     requires owes { OwesDuties v.now (successor_duties v.now found.now) }
     requires results { IsCorrectCache v.now.ground.now.bounds.now cache.old }
-    ensures ok { OnOk result (JoinedBy v.now table.old table.new
+    ensures ok { OnOk result (JoinsDuties v.now table.old table.new
         (successor_duties v.now found.now)) }
-    ensures err { IfErr result (RefusalIsRight v.now.ground.now) }
+    ensures err { IfErr result (NamesDerivedFault v.now.ground.now) }
     ensures results { IsCorrectCache v.now.ground.now.bounds.now cache.new }
 {
     let shape = found.shape;
@@ -88,7 +88,7 @@ pub(crate) fn join_successor(
     requires owes { OwesDuty v.now (jump to (state_after v.now.state.now c.now)) }
     ensures ok { OnOk result (JoinsDuty v.now table.old table.new
         (jump_duty to (state_after v.now.state.now c.now))) }
-    ensures err { IfErr result (RefusalIsRight v.now.ground.now) }
+    ensures err { IfErr result (NamesDerivedFault v.now.ground.now) }
 {
     if is_place_queued(&table.places, table.near) {
         return Ok(());
@@ -110,7 +110,7 @@ pub(crate) fn join_first_successor(
     requires owes { OwesDuty v.now (jump to (state_after v.now.state.now c.now)) }
     ensures ok { OnOk result (JoinsDuty v.now table.old table.new
         (jump_duty to (state_after v.now.state.now c.now))) }
-    ensures err { IfErr result (RefusalIsRight v.now.ground.now) }
+    ensures err { IfErr result (NamesDerivedFault v.now.ground.now) }
 {
     let incoming = Incoming::Changed(v.state, c);
     join_at_place(alloc, table, v, &Spot::Point(v.key, to), &incoming)
@@ -123,7 +123,7 @@ pub(crate) fn join_exit(alloc: Global, table: &mut Table, v: &Visit) -> Result<(
     requires owes { OwesDuty v.now (leave (exit_of_state v.now.state.now)) }
     ensures ok { (rule : ℕ) → OnOk result (JoinsDuty v.now table.old table.new
         (leave_duty rule (exit_of_state v.now.state.now))) }
-    ensures err { IfErr result (RefusalIsRight v.now.ground.now) }
+    ensures err { IfErr result (NamesDerivedFault v.now.ground.now) }
 {
     if is_place_queued(&table.places, table.near) {
         return Ok(());
@@ -146,7 +146,7 @@ pub(crate) fn join_return(
         (Point v.now.key v.now.addr) }
     requires owes { OwesDuty v.now (resume key back) }
     ensures ok { OnOk result (JoinsDuty v.now table.old table.new (resume_duty key back)) }
-    ensures err { IfErr result (RefusalIsRight v.now.ground.now) }
+    ensures err { IfErr result (NamesDerivedFault v.now.ground.now) }
 {
     if is_place_queued(&table.places, table.near) {
         return Ok(());
@@ -173,8 +173,8 @@ pub(crate) fn join_exit_if_leaving(
     requires visited { VisitInvariantHolds v.now table.old }
     requires owes { OwesDuties v.now (exit_duties_of v.now.key v.now.state.now shape) }
     ensures ok { OnOk result
-        (JoinedBy v.now table.old table.new (exit_duties_of v.now.key v.now.state.now shape)) }
-    ensures err { IfErr result (RefusalIsRight v.now.ground.now) }
+        (JoinsDuties v.now table.old table.new (exit_duties_of v.now.key v.now.state.now shape)) }
+    ensures err { IfErr result (NamesDerivedFault v.now.ground.now) }
 {
     match shape {
         Shape::Ret => join_exit(alloc, table, v),
@@ -199,14 +199,14 @@ fn join_branch_sides(
     c: &mut Change,
 ) -> Result<(), Refusal>
     requires visited { VisitInvariantHolds v.now table.old }
-    requires next { IsShape next.shape }
-    requires taken { IsShape taken.shape }
+    requires next { IsShapeInBounds next.shape }
+    requires taken { IsShapeInBounds taken.shape }
     requires owes { OwesDuties v.now (branch_duties v.now next.to next.shape next.taken
         ++ branch_duties v.now taken.to taken.shape taken.taken) }
-    ensures ok { OnOk result (JoinedBy v.now table.old table.new
+    ensures ok { OnOk result (JoinsDuties v.now table.old table.new
         (branch_duties v.now next.to next.shape next.taken
         ++ branch_duties v.now taken.to taken.shape taken.taken)) }
-    ensures err { IfErr result (RefusalIsRight v.now.ground.now) }
+    ensures err { IfErr result (NamesDerivedFault v.now.ground.now) }
 {
     join_branch_side(alloc, table, v, next, c)?;
     join_branch_side(alloc, table, v, taken, c)
@@ -223,11 +223,11 @@ fn join_jump_targets(
 ) -> Result<(), Refusal>
     requires visited { VisitInvariantHolds v.now table.old }
     requires at { IsVisitStateCurrent v.now table.old }
-    requires target { IsTarget to }
-    requires owes { OwesDuties v.now (jumps_to v.now.state.now (possible_targets v.now to)) }
-    ensures ok { OnOk result (JoinedBy v.now table.old table.new
-        (jumps_to v.now.state.now (possible_targets v.now to))) }
-    ensures err { IfErr result (RefusalIsRight v.now.ground.now) }
+    requires target { IsTargetInBounds to }
+    requires owes { OwesDuties v.now (jump_duties_to v.now.state.now (possible_targets v.now to)) }
+    ensures ok { OnOk result (JoinsDuties v.now table.old table.new
+        (jump_duties_to v.now.state.now (possible_targets v.now to))) }
+    ensures err { IfErr result (NamesDerivedFault v.now.ground.now) }
 {
     match direct_target(v.addr, to) {
         Some(target) => {
@@ -253,8 +253,8 @@ fn join_next_instruction(
     requires found { IsFaultlessInstruction v.now found.now }
     requires owes { OwesDuties v.now (next_duties v.now found.now) }
     requires results { IsCorrectCache v.now.ground.now.bounds.now cache.old }
-    ensures ok { OnOk result (JoinedBy v.now table.old table.new (next_duties v.now found.now)) }
-    ensures err { IfErr result (RefusalIsRight v.now.ground.now) }
+    ensures ok { OnOk result (JoinsDuties v.now table.old table.new (next_duties v.now found.now)) }
+    ensures err { IfErr result (NamesDerivedFault v.now.ground.now) }
     ensures results { IsCorrectCache v.now.ground.now.bounds.now cache.new }
 {
     write_step_change(v, found.shape, c, cache);
@@ -271,11 +271,11 @@ fn join_branch_side(
     c: &mut Change,
 ) -> Result<(), Refusal>
     requires visited { VisitInvariantHolds v.now table.old }
-    requires shape { IsShape side.shape }
+    requires shape { IsShapeInBounds side.shape }
     requires owes { OwesDuties v.now (branch_duties v.now side.to side.shape side.taken) }
-    ensures ok { OnOk result (JoinedBy v.now table.old table.new
+    ensures ok { OnOk result (JoinsDuties v.now table.old table.new
         (branch_duties v.now side.to side.shape side.taken)) }
-    ensures err { IfErr result (RefusalIsRight v.now.ground.now) }
+    ensures err { IfErr result (NamesDerivedFault v.now.ground.now) }
 {
     let g = v.ground;
     if !write_branch_change(g.bounds, g.plan, side.shape, v.state, side.taken, c) {
@@ -294,11 +294,11 @@ fn join_indirect_jump_targets(
     c: &mut Change,
 ) -> Result<(), Refusal>
     requires visited { VisitInvariantHolds v.now table.old }
-    requires target { IsTarget to }
-    requires owes { OwesDuties v.now (jumps_to v.now.state.now (possible_targets v.now to)) }
-    ensures ok { OnOk result (JoinedBy v.now table.old table.new
-        (jumps_to v.now.state.now (possible_targets v.now to))) }
-    ensures err { IfErr result (RefusalIsRight v.now.ground.now) }
+    requires target { IsTargetInBounds to }
+    requires owes { OwesDuties v.now (jump_duties_to v.now.state.now (possible_targets v.now to)) }
+    ensures ok { OnOk result (JoinsDuties v.now table.old table.new
+        (jump_duties_to v.now.state.now (possible_targets v.now to))) }
+    ensures err { IfErr result (NamesDerivedFault v.now.ground.now) }
 {
     let targets = targets(v.ground.plan, v.state, v.addr, to);
     join_each_jump_target(alloc, table, v, targets.as_slice(), c)
@@ -313,10 +313,10 @@ fn join_each_jump_target(
     c: &mut Change,
 ) -> Result<(), Refusal>
     requires visited { VisitInvariantHolds v.now table.old }
-    requires owes { OwesDuties v.now (jumps_to v.now.state.now targets.now) }
+    requires owes { OwesDuties v.now (jump_duties_to v.now.state.now targets.now) }
     ensures ok { OnOk result
-        (JoinedBy v.now table.old table.new (jumps_to v.now.state.now targets.now)) }
-    ensures err { IfErr result (RefusalIsRight v.now.ground.now) }
+        (JoinsDuties v.now table.old table.new (jump_duties_to v.now.state.now targets.now)) }
+    ensures err { IfErr result (NamesDerivedFault v.now.ground.now) }
 {
     c.set_to_identity(v.state);
     for t in targets {

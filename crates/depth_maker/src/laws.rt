@@ -1,7 +1,7 @@
 // Laws: what grows with a state, and what holds of derived assignments and accepted certificates.
 ghost use Rattle.depth_maker.specs.DutiesMonotone.{AddressesAreMonotone, ReturnStatesAreMonotone, DutiesAreMonotone, FaultsAreMonotone, BranchSidesAreMonotone, TransfersAreMonotone};
 ghost use Rattle.depth_maker.specs.WellFormedAssignments.{ReturnStatesAreWellFormed, DutiesAreWellFormed};
-ghost use Rattle.depth_maker.specs.MakerLaws.{MakeErrExcludesCerts, AcceptedIsClosed, DerivedIsBelowClosed, ClosedExcludesFaults, AcceptedExcludesRefusals, SolutionIsAccepted, RefusalMeansNoCertAccepted, LeastClosedIsLeastCert, LeastCertIsLeastAccepted};
+ghost use Rattle.depth_maker.specs.MakerLaws.{MakeErrExcludesCerts, AcceptedIsClosed, DerivedIsBelowClosed, ClosedExcludesFaults, AcceptedExcludesRefusals, SolutionIsAccepted, RefusalMeansNoCertAccepted, LeastFixpointIsLeastCert, LeastCertIsLeastAccepted};
 
 /// Laws of the maker: what a point owes is monotone in its state, and well-formed. A point without
 /// faults has none with a smaller state.
@@ -45,7 +45,7 @@ pub fn accepted_cert_laws()
 /// Laws of the maker: a made certificate is accepted, and none of its format is less. If a refusal
 /// holds, none is accepted.
 pub fn least_cert_laws()
-    ensures made { LeastClosedIsLeastCert }
+    ensures made { LeastFixpointIsLeastCert }
     ensures refused { RefusalMeansNoCertAccepted }
     ensures least { LeastCertIsLeastAccepted }
     ensures none { MakeErrExcludesCerts }

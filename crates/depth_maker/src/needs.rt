@@ -1,8 +1,8 @@
 // The least needs of the frames of a closed table.
 ghost use Rattle.std.specs.Prelude.{◌≡◌, ◌≤◌, ◌-◌, IfOk};
-ghost use Rattle.depth_maker.specs.Rows.{IsRowSource, RowsOn};
+ghost use Rattle.depth_maker.specs.Rows.{HasFinishedTable, AreRowsOfTable};
 ghost use Rattle.depth_maker.specs.Needs.{IsLeastNeedsOrRecursion, StartNeedsTooManyAreas};
-ghost use Rattle.depth_maker.specs.Answers.{MakeErrHolds};
+ghost use Rattle.depth_maker.specs.Answers.{MakeErrNamesRefusal};
 ghost use Rattle.depth_maker.specs.Recursing.{IsFirstRecursion};
 
 use crate::answering::MakeErr;
@@ -33,7 +33,7 @@ pub(crate) fn least_frame_needs(
     alloc: Global,
     source: &Source,
 ) -> Result<Result<Vec<u32>, Option<(Key, u32)>>, AllocError>
-    requires { IsRowSource source.now }
+    requires { HasFinishedTable source.now }
     ensures { IfOk result (IsLeastNeedsOrRecursion source.now) }
 {
     let mut rows = need_rows(alloc, source)?;
@@ -57,10 +57,10 @@ pub(crate) fn least_frame_needs(
 /// Returns the refusal by K14 if too many areas are needed: at the first recursion, or at the
 /// start's entry if there is none.
 pub(crate) fn need_refusal(source: &Source, place: Option<(Key, u32)>) -> MakeErr
-    requires source { IsRowSource source.now }
+    requires source { HasFinishedTable source.now }
     requires none { StartNeedsTooManyAreas source.now }
     requires place { IsFirstRecursion source.now place }
-    ensures { MakeErrHolds source.now.ground.now result }
+    ensures { MakeErrNamesRefusal source.now.ground.now result }
 {
     match place {
         Some((key, addr)) => MakeErr::Refused {
@@ -88,8 +88,8 @@ fn least_needs_from_rows(
     recurs: Option<(Key, u32)>,
     frames: &[Key],
 ) -> Result<Result<Vec<u32>, Option<(Key, u32)>>, AllocError>
-    requires source { IsRowSource source.now }
-    requires rows { RowsOn source.now.ground.now source.now.table.now rows.now }
+    requires source { HasFinishedTable source.now }
+    requires rows { AreRowsOfTable source.now.ground.now source.now.table.now rows.now }
     requires recurs { IsFirstRecursion source.now recurs }
     requires frames { frames.now ≡ source.now.table.now.frames.items }
     ensures { IfOk result (IsLeastNeedsOrRecursion source.now) }

@@ -1,7 +1,7 @@
 // The first point that enters a frame from which its own is reached.
 ghost use Rattle.std.specs.Prelude.{◌≡◌, ◌↔◌, IsTrue, IfOk};
 ghost use Rattle.depth_maker.specs.Recursing.{AreTableEdges, EntersMarkedFrame, IsFirstRecursiveAddress, UpdatesFirstRecursiveAddress, IsFirstRecursion};
-ghost use Rattle.depth_maker.specs.Rows.{IsRowSource};
+ghost use Rattle.depth_maker.specs.Rows.{HasFinishedTable};
 
 use crate::rows::{KnownPoint, Source, point_row};
 use cfg_recover::start_state;
@@ -22,7 +22,7 @@ pub(crate) fn first_recursion(
     ranks: &[usize],
     frames: &[Key],
 ) -> Result<Option<(Key, u32)>, AllocError>
-    requires source { IsRowSource source.now }
+    requires source { HasFinishedTable source.now }
     requires frames { frames.now ≡ source.now.table.now.frames.items }
     requires edges { AreTableEdges source.now edges.now }
     ensures { IfOk result (IsFirstRecursion source.now) }
@@ -48,7 +48,7 @@ fn first_recursive_address(
     key: Key,
     points: &[Spot],
 ) -> Result<Option<u32>, AllocError>
-    requires { IsRowSource source.now }
+    requires { HasFinishedTable source.now }
     ensures { IfOk result (IsFirstRecursiveAddress source.now marks.now key points.now) }
 {
     let mut first = None;
@@ -68,7 +68,7 @@ fn lesser_recursive_address(
     place: Spot,
     first: Option<u32>,
 ) -> Result<Option<u32>, AllocError>
-    requires { IsRowSource source.now }
+    requires { HasFinishedTable source.now }
     ensures { IfOk result (UpdatesFirstRecursiveAddress source.now marks.now key place first) }
 {
     let Some(addr) = address_in_frame(key, place) else {
@@ -95,7 +95,7 @@ fn enters_marked_frame(
     key: Key,
     addr: u32,
 ) -> Result<bool, AllocError>
-    requires { IsRowSource source.now }
+    requires { HasFinishedTable source.now }
     ensures { IfOk result (λ enters. IsTrue enters
         ↔ EntersMarkedFrame source.now marks.now key addr) }
 {

@@ -6,7 +6,7 @@ ghost use Rattle.depth_cert.specs.WellFormed.{IsWellFormedState};
 ghost use Rattle.frame_places.specs.Numbers.{frame_number_in};
 ghost use Rattle.depth_maker.specs.InterruptHandlers.{AreNumberedHandlers};
 ghost use Rattle.depth_maker.specs.VisitDuties.{IsFaultlessInstruction};
-ghost use Rattle.depth_maker.specs.Rows.{AddsPointRow, AreRowFramesAmong, HasFirstRows, IsTablePoint, IsRowOfTablePoint, IsRowOfVisitedPoint, HasEqualRow, IsRowSource, RowsOn};
+ghost use Rattle.depth_maker.specs.Rows.{AddsPointRow, AreRowFramesAmong, HasRowsOfFirst, IsTablePoint, IsRowOfTablePoint, IsRowOfVisitedPoint, HasListedOutline, HasFinishedTable, AreRowsOfTable};
 
 use crate::entered_frames::entered_frame_keys;
 use crate::inputs_and_limits::{Ground, Visit};
@@ -50,7 +50,7 @@ pub(crate) fn point_row(
     state: &mut ScratchState,
     at: &KnownPoint,
 ) -> Result<NeedRow, AllocError>
-    requires source { IsRowSource source.now }
+    requires source { HasFinishedTable source.now }
     requires at { IsTablePoint source.now at.now }
     ensures { IfOk result (IsRowOfTablePoint source.now at.now.key at.now.addr) }
 {
@@ -112,8 +112,8 @@ pub(crate) struct RowsDraft {
 /// Returns the rows of all known points, from which needs are computed. A plain point with an equal
 /// row in its frame adds none.
 pub(crate) fn need_rows(alloc: Global, source: &Source) -> Result<Vec<NeedRow>, AllocError>
-    requires { IsRowSource source.now }
-    ensures { IfOk result (λ rows. RowsOn source.now.ground.now source.now.table.now rows.items) }
+    requires { HasFinishedTable source.now }
+    ensures { IfOk result (λ rows. AreRowsOfTable source.now.ground.now source.now.table.now rows.items) }
 {
     let mut draft = RowsDraft {
         rows: Vec::new(alloc),
@@ -136,10 +136,10 @@ fn add_row_of_place(
     draft: &mut RowsDraft,
     entry: usize,
 ) -> Result<(), AllocError>
-    requires source { IsRowSource source.now }
+    requires source { HasFinishedTable source.now }
     requires entry { entry < index_map_len source.now.table.now.places }
-    requires draft { HasFirstRows source.now entry draft.old }
-    ensures { OnOk result (HasFirstRows source.now (entry + 1) draft.new) }
+    requires draft { HasRowsOfFirst source.now entry draft.old }
+    ensures { OnOk result (HasRowsOfFirst source.now (entry + 1) draft.new) }
 {
     let Some((place, known)) = source.table.places.get_index(entry) else {
         return Ok(());
@@ -166,7 +166,7 @@ fn add_row_of_place(
 /// point with this value.
 #[inline(always)]
 fn has_listed_outline(outlines: &[Option<Outline>], node: usize, known: &Marked<SmallKnown>) -> bool
-    ensures { IsTrue result → HasEqualRow outlines.now node known.now }
+    ensures { IsTrue result → HasListedOutline outlines.now node known.now }
 {
     if !is_plain_mark(known.mark) {
         return false;
@@ -190,7 +190,7 @@ fn add_point_row(
     draft: &mut RowsDraft,
     at: &KnownPoint,
 ) -> Result<(), AllocError>
-    requires source { IsRowSource source.now }
+    requires source { HasFinishedTable source.now }
     requires at { IsTablePoint source.now at.now }
     ensures { OnOk result (AddsPointRow source.now draft.old draft.new at.now) }
 {

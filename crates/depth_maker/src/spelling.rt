@@ -1,8 +1,8 @@
 // Writes the certificate of a table, point by point.
 ghost use Rattle.std.specs.Prelude.{◌≡◌, ◌<◌, ◌^◌, ◌⊎◌, OnOk, IfOk};
 ghost use Rattle.depth_maker.specs.Needs.{need_of_frame, AreLeastTableNeeds};
-ghost use Rattle.depth_maker.specs.Rows.{IsRowSource};
-ghost use Rattle.depth_maker.specs.SpelledCert.{address_of_entry, AreTableFrames, AreTablePointEntries, IsTableFrame, SourceHasLimitsOfFormat, IsOrderedCertSource, IsTablePointEntry, AreClosedCertBytesFromSource, AppendsTableExit, AppendsTableNode, AppendsTableNodes, AppendsTablePoint, AppendsTablePoints};
+ghost use Rattle.depth_maker.specs.Rows.{HasFinishedTable};
+ghost use Rattle.depth_maker.specs.SpelledCert.{address_of_entry, AreTableFrames, AreTablePointEntries, IsTableFrame, SourceHasLimitsOfFormat, IsOrderedCertSource, IsTablePointEntry, AreFixpointCertBytesFromSource, AppendsTableExit, AppendsTableNode, AppendsTableNodes, AppendsTablePoint, AppendsTablePoints};
 ghost use Rattle.depth_maker.specs.SpotsAsPlaces.{spots_of_entries};
 
 use crate::rows::Source;
@@ -29,7 +29,7 @@ fn append_table_point(
     _key: Key,
     point: &PointEntry,
 ) -> Result<(), NoMemory>
-    requires source { IsRowSource source.now }
+    requires source { HasFinishedTable source.now }
     requires point { IsTablePointEntry source.now _key point.now }
     ensures { OnOk result (AppendsTablePoint source.now _key
         (address_of_entry source.now point.now) out.old.items out.new.items) }
@@ -51,7 +51,7 @@ fn append_table_points(
     key: Key,
     points: &[PointEntry],
 ) -> Result<(), NoMemory>
-    requires source { IsRowSource source.now }
+    requires source { HasFinishedTable source.now }
     requires points { AreTablePointEntries source.now key points.now }
     ensures { OnOk result (AppendsTablePoints source.now key
         (spots_of_entries source.now points.now) out.old.items out.new.items) }
@@ -65,7 +65,7 @@ fn append_table_points(
 /// Appends the certificate's bytes of a frame's exit in the maker's table, or of no exit if none is
 /// known.
 fn append_table_exit(out: &mut Vec<u8>, source: &Source, key: Key) -> Result<(), NoMemory>
-    requires source { IsRowSource source.now }
+    requires source { HasFinishedTable source.now }
     ensures { OnOk result (AppendsTableExit source.now key out.old.items out.new.items) }
 {
     let Some(known) = source.table.places.get(&Spot::Exit(key)) else {
@@ -83,7 +83,7 @@ fn append_table_exit(out: &mut Vec<u8>, source: &Source, key: Key) -> Result<(),
 
 /// Returns the least need of a frame, in areas, as a certificate's number of two bytes.
 fn need_as_u16(source: &Source, needs: &[u32], key: Key) -> u16
-    requires source { IsRowSource source.now }
+    requires source { HasFinishedTable source.now }
     requires needs { AreLeastTableNeeds source.now needs.now }
     requires key { IsTableFrame source.now key }
     ensures { result ≡ need_of_frame (source.now.table.now).frames.items needs.now key }
@@ -111,11 +111,11 @@ pub(crate) fn serialize_cert(
     version: u8,
     needs: &[u32],
 ) -> Result<Vec<u8>, NoMemory>
-    requires source { IsRowSource source.now }
+    requires source { HasFinishedTable source.now }
     requires known { (version ≡ 1) ⊎ (version ≡ 2) }
     requires limits { SourceHasLimitsOfFormat source.now version }
     requires needs { AreLeastTableNeeds source.now needs.now }
-    ensures { IfOk result (λ out. AreClosedCertBytesFromSource source.now version out.items) }
+    ensures { IfOk result (λ out. AreFixpointCertBytesFromSource source.now version out.items) }
 {
     let frames = sorted_frames(alloc, source.table.frames.as_slice())?;
     let points = sorted_points(alloc, &source.table.places)?;

@@ -4,12 +4,12 @@ ghost use Rattle.frame_places.specs.declared.places.Spot.TheVariants.{Point};
 ghost use Rattle.cfg_recover.specs.SetOperations.{IsCorrectCache};
 ghost use Rattle.depth_maker.specs.SharedStates.{IsLocatedShapeInBounds, LocatesInstructionIfAny};
 ghost use Rattle.depth_maker.specs.EnteredFrames.{InstructionEntersNoFrame, PlaceEntersNoFrame};
-ghost use Rattle.depth_maker.specs.VisitDuties.{JoinedBy, IsFaultlessInstruction, IsVisitStateCurrent, visit_duties, state_after_step};
-ghost use Rattle.depth_maker.specs.Answers.{RefusalIsRight};
+ghost use Rattle.depth_maker.specs.VisitDuties.{JoinsDuties, IsFaultlessInstruction, IsVisitStateCurrent, visit_duties, state_after_step};
+ghost use Rattle.depth_maker.specs.Answers.{NamesDerivedFault};
 ghost use Rattle.depth_maker.specs.Visits.{IsVisitedPlace, VisitJoinsDutiesForInputs, VisitInvariantHolds};
 ghost use Rattle.frame_places.specs.declared.places.Spot.{Spot};
 ghost use Rattle.depth_maker.specs.TableInvariant.{TableInvariantHoldsForInputs};
-ghost use Rattle.tc_isa.specs.InBounds.{IsShape};
+ghost use Rattle.tc_isa.specs.InBounds.{IsShapeInBounds};
 ghost use Rattle.value_domain.specs.State.{AreInLattice};
 ghost use Rattle.vd_transfer.specs.Changes.{state_after};
 ghost use Rattle.vd_transfer.specs.EffectsOnStates.{LocalsFitInstruction};
@@ -44,7 +44,7 @@ pub(crate) fn visit_place(
     ensures plain { (x : Spot) → IsVisitedPlace table.old x
         → IfOk result (λ plain. IsTrue plain
         → PlaceEntersNoFrame ground.now.image.now ground.now.plan.now x) }
-    ensures err { IfErr result (RefusalIsRight ground.now) }
+    ensures err { IfErr result (NamesDerivedFault ground.now) }
     ensures results { IsCorrectCache ground.now.bounds.now cache.new }
 {
     let Some((at, _)) = table.places.get_index(table.near) else {
@@ -70,7 +70,7 @@ pub(crate) fn visit_place(
 /// which may be in `cache`.
 #[inline(always)]
 pub(crate) fn write_step_change(v: &Visit, shape: Shape, c: &mut Change, cache: &mut OperationCache)
-    requires shape { IsShape shape }
+    requires shape { IsShapeInBounds shape }
     requires values { AreInLattice v.now.ground.now.bounds.now v.now.state.now.regs }
     requires room { LocalsFitInstruction v.now.ground.now.bounds.now shape v.now.state.now }
     requires results { IsCorrectCache v.now.ground.now.bounds.now cache.old }
@@ -98,8 +98,8 @@ fn join_visit_duties(
     requires at { IsVisitStateCurrent v.now table.old }
     requires found { IsFaultlessInstruction v.now found.now }
     requires results { IsCorrectCache v.now.ground.now.bounds.now cache.old }
-    ensures ok { OnOk result (JoinedBy v.now table.old table.new (visit_duties v.now found.now)) }
-    ensures err { IfErr result (RefusalIsRight v.now.ground.now) }
+    ensures ok { OnOk result (JoinsDuties v.now table.old table.new (visit_duties v.now found.now)) }
+    ensures err { IfErr result (NamesDerivedFault v.now.ground.now) }
     ensures results { IsCorrectCache v.now.ground.now.bounds.now cache.new }
 {
     join_successors(alloc, table, v, found, c, cache)?;
@@ -129,7 +129,7 @@ fn visit_point(
     ensures plain { IfOk result (λ plain. IsTrue plain
         → InstructionEntersNoFrame site.now.ground.now.image.now site.now.ground.now.plan.now
         site.now.addr) }
-    ensures err { IfErr result (RefusalIsRight site.now.ground.now) }
+    ensures err { IfErr result (NamesDerivedFault site.now.ground.now) }
     ensures results { IsCorrectCache site.now.ground.now.bounds.now cache.new }
 {
     let Some((_, place)) = table.places.get_index(table.near) else {

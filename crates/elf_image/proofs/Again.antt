@@ -9,7 +9,7 @@ use Rattle.std.proofs.lemmas.Bool.Decides.{nat_tests}
 use Rattle.elf_image.specs.declared.headers.Header.{Header}
 use Rattle.elf_image.specs.declared.errors.ImageErr.TheVariants.{BadSegment}
 use Rattle.elf_image.specs.Images.{ImageData, SegmentData, IsImage, is_segment, are_segments_disjoint, are_all_segments_disjoint}
-use Rattle.elf_image.specs.ReadElf.{e_phoff, e_phnum, e_phentsize, program_header_at, program_headers_of, is_bad_header, loads_file_bytes, has_overlap_with, load_headers, program_header_refusal, exceeds_image_limits, overlap_refusal, loaded_segment, image_of_file}
+use Rattle.elf_image.specs.ReadElf.{e_phoff, e_phnum, e_phentsize, program_header_at, program_headers_of, is_bad_header, loads_file_bytes, has_overlap_with, loading_headers, program_header_refusal, exceeds_image_limits, overlap_refusal, loaded_segment, image_of_file}
 use Rattle.elf_image.specs.WrittenElf.{elf_header, program_header, program_headers, elf_contents_offset, elf_contents, elf_file}
 use Rattle.elf_image.proofs.Fields.{written_header, header_at-written, start-elf_header, entry-elf_header, phoff-elf_header, phentsize-elf_header, phnum-elf_header, length-elf_header, length-program_header}
 use Rattle.elf_image.proofs.Refusals.{image_of-loaded}
@@ -170,7 +170,7 @@ unfolding program_header_refusal
 no_refusal bytes e h = passed (ltb 0 (e_phnum bytes)) (e_phentsize bytes) (find (is_bad_header bytes) (program_headers_of bytes)) e h
 
 pub image_of-file_of : (i : ImageData) → IsImage i → image_of_file (elf_file i) ≡ Ok i
-unfolding elf_file program_headers_of load_headers
+unfolding elf_file program_headers_of loading_headers
 image_of-file_of i h =
     let ss = i.segments in
     let n = length ss in
@@ -182,10 +182,10 @@ image_of-file_of i h =
     let first : e_phoff file ≡ 52 = phoff-elf_header i.entry n rest in
     let count : e_phnum file ≡ n = phnum-elf_header i.entry n rest (omega (arith, h.few)) in
     let again : program_headers_of file ≡ headers_from 0 place ss = ap (λ m. map (program_header_at file) (range_with_len 0 m)) count ∙ headers_again file header (elf_contents ss) 0 place ss refl first (length-elf_header i.entry n) (omega (arith, h.few, h.small)) h.segments in
-    let loads : load_headers file ≡ headers_from 0 place ss = ap (filter loads_file_bytes) again ∙ loads_again 0 place ss h.segments in
+    let loads : loading_headers file ≡ headers_from 0 place ss = ap (filter loads_file_bytes) again ∙ loads_again 0 place ss h.segments in
     let fine : find (is_bad_header file) (program_headers_of file) ≡ None = ap (find (is_bad_header file)) again ∙ fine_again file 0 place ss first (omega (arith, length_is i)) (omega (arith, length_is i)) h.segments in
-    let small : exceeds_image_limits (load_headers file) ≡ false = ap exceeds_image_limits loads ∙ not_large (headers_from 0 place ss) (omega (arith, length_again 0 place ss, h.few)) (omega (arith, size_again 0 place ss, h.small)) in
-    let alone : overlap_refusal (load_headers file) ≡ None = ap overlap_refusal loads ∙ apart_again 0 place ss h.apart in
+    let small : exceeds_image_limits (loading_headers file) ≡ false = ap exceeds_image_limits loads ∙ not_large (headers_from 0 place ss) (omega (arith, length_again 0 place ss, h.few)) (omega (arith, size_again 0 place ss, h.small)) in
+    let alone : overlap_refusal (loading_headers file) ≡ None = ap overlap_refusal loads ∙ apart_again 0 place ss h.apart in
     let front : length (header ++ table) ≡ place = omega (arith, length-append header table, length-elf_header i.entry n, length-program_headers place ss) in
-    let same : map (loaded_segment file) (load_headers file) ≡ ss = ap (map (loaded_segment file)) loads ∙ segments_again file (header ++ table) 0 place ss (sym (append_assoc header table (elf_contents ss))) front in
+    let same : map (loaded_segment file) (loading_headers file) ≡ ss = ap (map (loaded_segment file)) loads ∙ segments_again file (header ++ table) 0 place ss (sym (append_assoc header table (elf_contents ss))) front in
     image_of-loaded file i.entry ss (sym (start-elf_header i.entry n rest)) (sym (no_refusal file (phentsize-elf_header i.entry n rest) fine)) small (sym alone) (sym (entry-elf_header i.entry n rest h.entry)) (sym same)

@@ -7,7 +7,7 @@ use Rattle.std.specs.Option.{option_map}
 use Rattle.elf_image.specs.declared.headers.Header.{Header}
 use Rattle.elf_image.specs.declared.errors.ImageErr.{ImageErr}
 use Rattle.elf_image.specs.declared.errors.ImageErr.TheVariants.{BadSegment}
-use Rattle.elf_image.specs.ReadElf.{e_phnum, program_header_offset, program_header_at, program_headers_of, is_bad_header, loads_file_bytes, load_headers, program_header_refusal}
+use Rattle.elf_image.specs.ReadElf.{e_phnum, program_header_offset, program_header_at, program_headers_of, is_bad_header, loads_file_bytes, loading_headers, program_header_refusal}
 use Rattle.elf_image.proofs.Rest.{number-header_at}
 
 -- the bytes that a header loads are in the file and below 2^32, and there is at least one
@@ -64,6 +64,6 @@ goods bytes [] e = tt
 goods bytes (h ∷ hs) e = goods_more bytes h hs (loads_file_bytes h) refl (unfound_head (is_bad_header bytes) h hs e) (goods bytes hs (unfound_tail (is_bad_header bytes) h hs e))
 
 -- each header that loads bytes is good
-pub loads_good : (bytes : List ℕ) → program_header_refusal bytes ≡ None → All (Good bytes) (load_headers bytes)
-unfolding load_headers
-loads_good bytes e = All-from_recursion (Good bytes) (load_headers bytes) (goods bytes (program_headers_of bytes) (none_bad bytes e))
+pub loads_good : (bytes : List ℕ) → program_header_refusal bytes ≡ None → All (Good bytes) (loading_headers bytes)
+unfolding loading_headers
+loads_good bytes e = All-from_recursion (Good bytes) (loading_headers bytes) (goods bytes (program_headers_of bytes) (none_bad bytes e))

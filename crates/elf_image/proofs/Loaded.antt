@@ -9,8 +9,8 @@ use Rattle.std.proofs.lemmas.Bool.Decides.{nat_tests}
 use Rattle.elf_image.specs.declared.headers.Header.{Header}
 use Rattle.elf_image.specs.declared.errors.ImageErr.{ImageErr}
 use Rattle.elf_image.specs.declared.errors.ImageErr.TheVariants.{Overlap}
-use Rattle.elf_image.specs.Images.{SegmentData, AreSegmentBytes, IsImage, is_segment, are_segments_disjoint, are_all_segments_disjoint}
-use Rattle.elf_image.specs.ReadElf.{has_overlap_with, load_headers, program_header_refusal, exceeds_image_limits, overlap_refusal, loaded_segment}
+use Rattle.elf_image.specs.Images.{SegmentData, HoldOnlyBytes, IsImage, is_segment, are_segments_disjoint, are_all_segments_disjoint}
+use Rattle.elf_image.specs.ReadElf.{has_overlap_with, loading_headers, program_header_refusal, exceeds_image_limits, overlap_refusal, loaded_segment}
 use Rattle.elf_image.proofs.Good.{Good, loads_good, unfound_head, unfound_tail}
 
 both : {a b : Bool} → a ≡ true → b ≡ true → (a && b) ≡ true
@@ -31,7 +31,7 @@ all_below [] h k d lt = absurd (omega arith)
 all_below (x ∷ xs) h zero d lt = h 0
 all_below (x ∷ xs) h (suc k) d lt = all_below xs (λ j. h (suc j)) k d (omega arith)
 
-are_bytes : (bytes : List ℕ) (hs : List Header) → All (λ b. b < 2 ^ 8) bytes → AreSegmentBytes (map (loaded_segment bytes) hs)
+are_bytes : (bytes : List ℕ) (hs : List Header) → All (λ b. b < 2 ^ 8) bytes → HoldOnlyBytes (map (loaded_segment bytes) hs)
 are_bytes bytes hs small =
     All-map (λ (s : SegmentData). All (λ b. b < 2 ^ 8) s.bytes) (loaded_segment bytes) hs
     (λ k h lt. All-take (λ b. b < 2 ^ 8) (get_or hs k h).file_size (drop (get_or hs k h).offset bytes) (All-drop (λ b. b < 2 ^ 8) (get_or hs k h).offset bytes small))
@@ -67,9 +67,9 @@ not_large : (hs : List Header) → exceeds_image_limits hs ≡ false → (length
 unfolding exceeds_image_limits
 not_large hs e = (grind (arith, nat_tests), grind (arith, nat_tests))
 
-pub loaded_is_image : (bytes : List ℕ) (entry : ℕ) (ss : List SegmentData) → entry < 2 ^ 32 → ((k : ℕ) → get_or bytes k 0 < 2 ^ 8) → program_header_refusal bytes ≡ None → exceeds_image_limits (load_headers bytes) ≡ false → overlap_refusal (load_headers bytes) ≡ None → ss ≡ map (loaded_segment bytes) (load_headers bytes) → IsImage (record { entry = entry; segments = ss })
+pub loaded_is_image : (bytes : List ℕ) (entry : ℕ) (ss : List SegmentData) → entry < 2 ^ 32 → ((k : ℕ) → get_or bytes k 0 < 2 ^ 8) → program_header_refusal bytes ≡ None → exceeds_image_limits (loading_headers bytes) ≡ false → overlap_refusal (loading_headers bytes) ≡ None → ss ≡ map (loaded_segment bytes) (loading_headers bytes) → IsImage (record { entry = entry; segments = ss })
 loaded_is_image bytes entry ss below small_bytes fine small alone e =
-    let hs = load_headers bytes in
+    let hs = loading_headers bytes in
     let good = recursion_from_All (Good bytes) hs (loads_good bytes fine) in
     let limits = not_large hs small in
     rw e (record {

@@ -4,18 +4,18 @@ use Rattle.std.proofs.lemmas.List.{append-nil, length-append}
 use Rattle.std.proofs.lemmas.List.Sums.{sum_by-append}
 use Rattle.std.proofs.lemmas.Bool.Decides.{nat_tests}
 use Rattle.elf_image.specs.declared.headers.Header.{Header}
-use Rattle.elf_image.specs.ReadElf.{e_phnum, program_header_at, loads_file_bytes, load_headers, exceeds_image_limits}
+use Rattle.elf_image.specs.ReadElf.{e_phnum, program_header_at, loads_file_bytes, loading_headers, exceeds_image_limits}
 use Rattle.elf_image.proofs.Rest.{rest_of, rest_of-start, rest_of-more, rest_of-end}
 
 -- the headers so far and those that follow are all; those so far are within the limits of an image
 pub record LoadsSoFar (bytes : List ℕ) (i n : ℕ) (loads : List Header) (total : ℕ) : Type 0 where
-  pub all : loads ++ filter loads_file_bytes (rest_of bytes i n) ≡ load_headers bytes
+  pub all : loads ++ filter loads_file_bytes (rest_of bytes i n) ≡ loading_headers bytes
   pub sum : total ≡ sum_by (λ h. h.file_size) loads
   pub few : length loads ≤ 64
   pub small : total ≤ 2 ^ 24
 
 pub loads_none : (bytes : List ℕ) (n : ℕ) → n ≡ e_phnum bytes → LoadsSoFar bytes 0 n [] 0
-unfolding load_headers
+unfolding loading_headers
 loads_none bytes n e = record {
   all = ap (λ m. filter loads_file_bytes (rest_of bytes 0 m)) e ∙ ap (filter loads_file_bytes) (rest_of-start bytes);
   sum = refl;
@@ -37,7 +37,7 @@ loads_pass bytes i n h loads total so_far lt is e = record {
   small = so_far.small;
 }
 
-taken : (bytes : List ℕ) (i n : ℕ) (h : Header) (loads : List Header) (total : ℕ) → LoadsSoFar bytes i n loads total → i < n → h ≡ program_header_at bytes i → loads_file_bytes h ≡ true → (loads ++ h ∷ []) ++ filter loads_file_bytes (rest_of bytes (i + 1) n) ≡ load_headers bytes
+taken : (bytes : List ℕ) (i n : ℕ) (h : Header) (loads : List Header) (total : ℕ) → LoadsSoFar bytes i n loads total → i < n → h ≡ program_header_at bytes i → loads_file_bytes h ≡ true → (loads ++ h ∷ []) ++ filter loads_file_bytes (rest_of bytes (i + 1) n) ≡ loading_headers bytes
 taken bytes i n h loads total so_far lt is e = append_assoc loads (h ∷ []) (filter loads_file_bytes (rest_of bytes (i + 1) n)) ∙ ap (λ (hs : List Header). loads ++ hs) (sym (step bytes i n h true lt is e)) ∙ so_far.all
 
 -- one more header
@@ -57,15 +57,15 @@ large loads front back h e much =
     elim much [ inl a ↦ grind (arith, nat_tests) | inr a ↦ grind (arith, nat_tests) ]
 
 -- one header too many
-pub loads_many : (bytes : List ℕ) (i n : ℕ) (h : Header) (loads : List Header) (total : ℕ) → LoadsSoFar bytes i n loads total → i < n → h ≡ program_header_at bytes i → loads_file_bytes h ≡ true → length loads ≡ 64 → exceeds_image_limits (load_headers bytes) ≡ true
-loads_many bytes i n h loads total so_far lt is e much = large (load_headers bytes) loads (filter loads_file_bytes (rest_of bytes (i + 1) n)) h (taken bytes i n h loads total so_far lt is e) (inl (omega arith))
+pub loads_many : (bytes : List ℕ) (i n : ℕ) (h : Header) (loads : List Header) (total : ℕ) → LoadsSoFar bytes i n loads total → i < n → h ≡ program_header_at bytes i → loads_file_bytes h ≡ true → length loads ≡ 64 → exceeds_image_limits (loading_headers bytes) ≡ true
+loads_many bytes i n h loads total so_far lt is e much = large (loading_headers bytes) loads (filter loads_file_bytes (rest_of bytes (i + 1) n)) h (taken bytes i n h loads total so_far lt is e) (inl (omega arith))
 
 -- too many bytes
-pub loads_long : (bytes : List ℕ) (i n : ℕ) (h : Header) (loads : List Header) (total : ℕ) → LoadsSoFar bytes i n loads total → i < n → h ≡ program_header_at bytes i → loads_file_bytes h ≡ true → 2 ^ 24 - total < h.file_size → exceeds_image_limits (load_headers bytes) ≡ true
-loads_long bytes i n h loads total so_far lt is e much = large (load_headers bytes) loads (filter loads_file_bytes (rest_of bytes (i + 1) n)) h (taken bytes i n h loads total so_far lt is e) (inr (omega (arith, so_far.sum, so_far.small)))
+pub loads_long : (bytes : List ℕ) (i n : ℕ) (h : Header) (loads : List Header) (total : ℕ) → LoadsSoFar bytes i n loads total → i < n → h ≡ program_header_at bytes i → loads_file_bytes h ≡ true → 2 ^ 24 - total < h.file_size → exceeds_image_limits (loading_headers bytes) ≡ true
+loads_long bytes i n h loads total so_far lt is e much = large (loading_headers bytes) loads (filter loads_file_bytes (rest_of bytes (i + 1) n)) h (taken bytes i n h loads total so_far lt is e) (inr (omega (arith, so_far.sum, so_far.small)))
 
 -- all headers
-pub loads_all : (bytes : List ℕ) (i n : ℕ) (loads : List Header) (total : ℕ) → LoadsSoFar bytes i n loads total → n ≤ i → loads ≡ load_headers bytes
+pub loads_all : (bytes : List ℕ) (i n : ℕ) (loads : List Header) (total : ℕ) → LoadsSoFar bytes i n loads total → n ≤ i → loads ≡ loading_headers bytes
 loads_all bytes i n loads total h le = sym (append-nil loads) ∙ ap (λ (hs : List Header). loads ++ hs) (ap (filter loads_file_bytes) (sym (rest_of-end bytes i n le))) ∙ h.all
 
 pub loads_fit : (loads : List Header) (total : ℕ) → total ≡ sum_by (λ h. h.file_size) loads → length loads ≤ 64 → total ≤ 2 ^ 24 → exceeds_image_limits loads ≡ false

@@ -4,7 +4,7 @@ use Rattle.std.specs.Prelude.{All}
 use Rattle.std.proofs.lemmas.Bool.{cases_lt, cases_Bool}
 use Rattle.std.proofs.lemmas.List.{get_or-map}
 use Rattle.elf_image.specs.declared.segments.Segment.{Segment}
-use Rattle.elf_image.specs.Images.{SegmentData, segment_data, AreSegmentBytes, segment_contains, byte_in_segments}
+use Rattle.elf_image.specs.Images.{SegmentData, segment_data, HoldOnlyBytes, segment_contains, byte_in_segments}
 
 -- one segment more has bytes
 pub bytes_more : (segments : List Segment) (i : ℕ) (x : Segment) (bs : List ℕ) → i < length segments → x ≡ get_or segments i x → bs ≡ x.bytes.items → All (λ b. b < 2 ^ 8) bs
@@ -27,7 +27,7 @@ got_lt (x ∷ xs) zero b all e = let same : x ≡ b = cc in subst (λ y. y < 2 ^
 got_lt (x ∷ xs) (suc k) b all e = got_lt xs k b (λ j d lt. all (suc j) d (omega arith)) e
 
 -- a byte of segments is below 256
-pub byte_lt : (ss : List SegmentData) (x b : ℕ) → AreSegmentBytes ss → byte_in_segments ss x ≡ Some b → b < 2 ^ 8
+pub byte_lt : (ss : List SegmentData) (x b : ℕ) → HoldOnlyBytes ss → byte_in_segments ss x ≡ Some b → b < 2 ^ 8
 byte_lt [] x b all e = cc
 byte_lt (s ∷ ss) x b all e =
     elim (cases_Bool (segment_contains s x)) [

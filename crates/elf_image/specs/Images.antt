@@ -37,8 +37,8 @@ are_all_segments_disjoint [] = true
 are_all_segments_disjoint (s ∷ ss) = list_all (are_segments_disjoint s) ss && are_all_segments_disjoint ss
 
 -- the bytes in the segments of an image are numbers below 256
-abbrev pub AreSegmentBytes : List SegmentData → Type 0
-AreSegmentBytes segments = All (λ (s : SegmentData). All (λ b. b < 2 ^ 8) s.bytes) segments
+abbrev pub HoldOnlyBytes : List SegmentData → Type 0
+HoldOnlyBytes segments = All (λ (s : SegmentData). All (λ b. b < 2 ^ 8) s.bytes) segments
 
 -- the number of bytes that these segments have together
 abbrev pub total_segment_size : List SegmentData → ℕ
@@ -50,7 +50,7 @@ pub record IsImage (i : ImageData) : Type 0 where
   pub entry : i.entry < 2 ^ 32
   pub few : length i.segments ≤ 64
   pub segments : IsTrue (list_all is_segment i.segments)
-  pub bytes : AreSegmentBytes i.segments
+  pub bytes : HoldOnlyBytes i.segments
   pub apart : IsTrue (are_all_segments_disjoint i.segments)
   pub small : total_segment_size i.segments ≤ 2 ^ 24
 

@@ -94,8 +94,8 @@ unfoldable pub loads_file_bytes : Header → Bool
 loads_file_bytes h = is_load h && nat_lt 0 h.file_size
 
 -- the program headers that load bytes of the file, in order
-unfoldable pub load_headers : List ℕ → List Header
-load_headers bytes = filter loads_file_bytes (program_headers_of bytes)
+unfoldable pub loading_headers : List ℕ → List Header
+loading_headers bytes = filter loads_file_bytes (program_headers_of bytes)
 
 -- two program headers that load bytes share an address
 unfoldable pub has_overlap_with : Header → Header → Bool
@@ -135,8 +135,8 @@ unfoldable pub image_refusal : List ℕ → Option ImageErr
 image_refusal bytes =
     option_or (elf_header_refusal bytes)
     (option_or (program_header_refusal bytes)
-    (option_or (then_some (exceeds_image_limits (load_headers bytes)) TooLarge)
-    (overlap_refusal (load_headers bytes))))
+    (option_or (then_some (exceeds_image_limits (loading_headers bytes)) TooLarge)
+    (overlap_refusal (loading_headers bytes))))
 
 -- ---- the image of a file
 
@@ -145,8 +145,8 @@ abbrev pub loaded_segment : List ℕ → Header → SegmentData
 loaded_segment bytes h = record { at = h.address; bytes = take h.file_size (drop h.offset bytes) }
 
 -- the image of a file: the entry, and a segment for each program header that loads its bytes
-unfoldable pub image_of_load_headers : List ℕ → ImageData
-image_of_load_headers bytes = record { entry = e_entry bytes; segments = map (loaded_segment bytes) (load_headers bytes) }
+unfoldable pub image_of_loading_headers : List ℕ → ImageData
+image_of_loading_headers bytes = record { entry = e_entry bytes; segments = map (loaded_segment bytes) (loading_headers bytes) }
 
 -- the refusal, if there is one, else this image
 abbrev pub image_unless_refused : Option ImageErr → ImageData → Result ImageData ImageErr
@@ -155,7 +155,7 @@ image_unless_refused (Some e) i = Err e
 
 -- the image that the bytes of a file load, or the first refusal
 unfoldable pub image_of_file : List ℕ → Result ImageData ImageErr
-image_of_file bytes = image_unless_refused (image_refusal bytes) (image_of_load_headers bytes)
+image_of_file bytes = image_unless_refused (image_refusal bytes) (image_of_loading_headers bytes)
 
 -- the code's result is this answer; out of memory says nothing of the file
 abbrev pub GivesImage : Result ImageData ImageErr → Result ImageData ImageErr → Type 0

@@ -1,6 +1,6 @@
 // Reads the fields of an ELF file by their offsets.
 ghost use Rattle.std.specs.Prelude.{◌≡◌, ◌+◌, ◌*◌, ◌≤◌, ◌<◌, ◌^◌, length, ◌-◌, ◌⊎◌, None, IfOk, IfErr, true, false};
-ghost use Rattle.elf_image.specs.ReadElf.{elf_half_at, elf_word_at, program_header_offset, program_header_at, loads_file_bytes, program_header_refusal, load_headers, exceeds_image_limits};
+ghost use Rattle.elf_image.specs.ReadElf.{elf_half_at, elf_word_at, program_header_offset, program_header_at, loads_file_bytes, program_header_refusal, loading_headers, exceeds_image_limits};
 
 use crate::ImageErr;
 use std::alloc::Global;
@@ -101,11 +101,11 @@ pub(crate) fn loads_file_bytes(header: &Header) -> bool
 pub(crate) fn loading_headers(alloc: Global, bytes: &[u8]) -> Result<Vec<Header>, ImageErr>
     requires long { 52 ≤ length bytes.now }
     requires good { program_header_refusal bytes.now ≡ None }
-    ensures ok { IfOk result (λ v. (v.items ≡ load_headers bytes.now)
-        × (exceeds_image_limits (load_headers bytes.now) ≡ false)) }
+    ensures ok { IfOk result (λ v. (v.items ≡ loading_headers bytes.now)
+        × (exceeds_image_limits (loading_headers bytes.now) ≡ false)) }
     ensures err { IfErr result (λ e.
         (e ≡ ImageErr.NoMemory)
-        ⊎ ((e ≡ ImageErr.TooLarge) × (exceeds_image_limits (load_headers bytes.now) ≡ true))) }
+        ⊎ ((e ≡ ImageErr.TooLarge) × (exceeds_image_limits (loading_headers bytes.now) ≡ true))) }
 {
     let mut loads = Vec::new(alloc);
     let mut total = 0u32;

@@ -1,6 +1,6 @@
 // Segments: bytes from an address on, and those that an ELF file loads.
 ghost use Rattle.std.specs.Prelude.{◌≡◌, ◌≤◌, ◌<◌, ◌-◌, ◌^◌, All, map, slice_get, ◌+◌, length, IfOk, IfErr};
-ghost use Rattle.elf_image.specs.Images.{segment_data, segment_contains, AreSegmentBytes};
+ghost use Rattle.elf_image.specs.Images.{segment_data, segment_contains, HoldOnlyBytes};
 ghost use Rattle.elf_image.specs.ReadElf.{loaded_segment};
 
 use crate::ImageErr;
@@ -32,7 +32,7 @@ pub(crate) fn segment_byte(segment: &Segment, addr: u32) -> Option<u8>
 /// Establishes that the bytes of segments are numbers below 256, which an image requires. It reads
 /// each byte and changes nothing.
 pub fn establish_segment_bytes(segments: &[Segment])
-    ensures { AreSegmentBytes (map segment_data segments.now) }
+    ensures { HoldOnlyBytes (map segment_data segments.now) }
 {
     for segment in segments {
         establish_bytes_below_256(&segment.bytes);

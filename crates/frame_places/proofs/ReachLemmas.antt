@@ -10,7 +10,7 @@ use Rattle.std.specs.declared.alloc.Global.{Global}
 use Rattle.indexmap.specs.IndexMap.{IndexMap, get}
 use Rattle.frame_places.specs.declared.needs.reach.FrameEdge.{FrameEdge}
 use Rattle.frame_places.specs.declared.needs.row.NeedRow.{NeedRow}
-use Rattle.frame_places.specs.NodeGraph.{edge_between, AreEdgesOfRows, AddsEdges, AreEdgesBelow, IsNodeReachedFrom, here, along, IsRecursiveNode, count_unmarked, IsAmongPredecessors, ArePredecessors, ArePredecessorsBelow, AddsPredecessor, MarksAndQueues, SearchInvariantHolds, AreReachingMarks, IsFirstRecursiveNodeBefore, IsFirstRecursiveNode, IsNodeMarked}
+use Rattle.frame_places.specs.NodeGraph.{edge_between, AreEdgesOfRows, AddsEdges, AreEdgesBelow, IsNodeReachedFrom, here, along, IsRecursiveNode, count_unmarked, IsAmongPredecessors, ArePredecessors, ArePredecessorsBelow, AddsPredecessor, MarksAndQueuesUnmarked, SearchInvariantHolds, AreReachingMarks, IsFirstRecursiveNodeBefore, IsFirstRecursiveNode, IsNodeMarked}
 use Rattle.frame_places.specs.Hashed.{edge_eq}
 
 -- ---- one more mark
@@ -45,7 +45,7 @@ one_node node k c = at c.0 c.1 c.2 where
   at (suc i) lt same = absurd (omega arith)
 
 -- ---- one more node
-pub node_new : (node : ℕ) (marks : List Bool) (work : List ℕ) → node < length marks → get_or marks node false ≡ false → MarksAndQueues (node ∷ []) marks (set marks node true) work (work ++ node ∷ [])
+pub node_new : (node : ℕ) (marks : List Bool) (work : List ℕ) → node < length marks → get_or marks node false ≡ false → MarksAndQueuesUnmarked (node ∷ []) marks (set marks node true) work (work ++ node ∷ [])
 node_new node marks work lt free = record {
   keeps = λ k m. marked_keeps marks node k lt m;
   marks = λ k c. subst (IsNodeMarked (set marks node true)) (one_node node k c) (marked_same marks node lt);
@@ -71,7 +71,7 @@ node_new node marks work lt free = record {
 
 -- ---- several
 
-pub nodes_more : (ns : List ℕ) (n : ℕ) (a b d : List Bool) (w x y : List ℕ) → MarksAndQueues ns a b w x → MarksAndQueues (n ∷ []) b d x y → MarksAndQueues (ns ++ n ∷ []) a d w y
+pub nodes_more : (ns : List ℕ) (n : ℕ) (a b d : List Bool) (w x y : List ℕ) → MarksAndQueuesUnmarked ns a b w x → MarksAndQueuesUnmarked (n ∷ []) b d x y → MarksAndQueuesUnmarked (ns ++ n ∷ []) a d w y
 nodes_more ns n a b d w x y h g = record {
   keeps = λ k m. g.keeps k (h.keeps k m);
   marks = λ k c.
@@ -102,7 +102,7 @@ nodes_more ns n a b d w x y h g = record {
 -- ---- all from which a node is reached
 -- the sources of a queued node are marked
 pub marking_more : {S : Type 0} (edges : List FrameEdge) (sources : IndexMap ℕ (Vec ℕ Global) S) (nodes j t : ℕ) (list : Vec ℕ Global) (a b : List Bool) (w x : List ℕ) → ArePredecessors edges sources
-    → get nat_eq sources t ≡ Some list → MarksAndQueues list.items a b w x → SearchInvariantHolds edges nodes j a (w ++ t ∷ []) → SearchInvariantHolds edges nodes j b x
+    → get nat_eq sources t ≡ Some list → MarksAndQueuesUnmarked list.items a b w x → SearchInvariantHolds edges nodes j a (w ++ t ∷ []) → SearchInvariantHolds edges nodes j b x
 marking_more edges sources nodes j t list a b w x are at m old = record {
   all = m.same ∙ old.all;
   sound = λ k h.

@@ -11,12 +11,12 @@ use Rattle.std.specs.declared.alloc.Global.{Global}
 use Rattle.frame_places.specs.declared.places.Spot.{Spot}
 use Rattle.frame_places.specs.Spots.{spot_eq}
 use Rattle.frame_places.proofs.SpotLemmas.{equal_spots_are_same, spot_refl}
-use Rattle.frame_places.specs.Marks.{ForgetsReaders, IsAmongReaders, RegistersReader}
+use Rattle.frame_places.specs.Marks.{ForgetsReaders, IsAmongReaders, AddsReader}
 use Rattle.frame_places.proofs.MarkLemmas.{sides}
 
 -- the readers of z are those before and x; others stay
 pub registered : {S : Type 0} (old new : IndexMap Spot (Vec Spot Global) S) (z x : Spot) (more : Vec Spot Global) → ((q : Spot) → get spot_eq new q ≡ (if spot_eq z q then Some more else get spot_eq old q))
-    → Contains more.items x → ((q : Spot) → IsAmongReaders (get spot_eq old z) q → Contains more.items q) → ((q : Spot) → Contains more.items q → IsAmongReaders (get spot_eq old z) q ⊎ (q ≡ x)) → RegistersReader old new z x
+    → Contains more.items x → ((q : Spot) → IsAmongReaders (get spot_eq old z) q → Contains more.items q) → ((q : Spot) → Contains more.items q → IsAmongReaders (get spot_eq old z) q ⊎ (q ≡ x)) → AddsReader old new z x
 registered old new z x more is has keeps from = record {
   kept = λ p q h.
       elim (sides (spot_eq z p) (Some more) (get spot_eq old p) (get spot_eq new p) (is p)) [
@@ -37,7 +37,7 @@ registered old new z x more is has keeps from = record {
 
 -- x is added to the readers
 pub registered_by : {S : Type 0} (old new : IndexMap Spot (Vec Spot Global) S) (z x : Spot) (list more : Vec Spot Global) → get spot_eq old z ≡ Some list
-    → ((q : Spot) → Contains more.items q ↔ (Contains list.items q ⊎ (q ≡ x))) → ((q : Spot) → get spot_eq new q ≡ (if spot_eq z q then Some more else get spot_eq old q)) → RegistersReader old new z x
+    → ((q : Spot) → Contains more.items q ↔ (Contains list.items q ⊎ (q ≡ x))) → ((q : Spot) → get spot_eq new q ≡ (if spot_eq z q then Some more else get spot_eq old q)) → AddsReader old new z x
 registered_by old new z x list more at adds is =
     registered old new z x more is ((adds x).1 (inr refl)) (λ q h. (adds q).1 (inl (subst (λ (o : Option (Vec Spot Global)). IsAmongReaders o q) at h)))
     (λ q h.

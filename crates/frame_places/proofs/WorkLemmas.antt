@@ -4,7 +4,7 @@ use Rattle.std.specs.Prelude.{IfSome, IfNone}
 use Rattle.std.proofs.lemmas.List.Elements.{Contains-append_cases, Contains-append_left, Contains-append_right, Contains-push, Contains-push_cases}
 use Rattle.std.proofs.lemmas.List.Sorted.{Contains-permutation, IsPermutation-append_left, IsPermutation-append_right, IsPermutation-middle, IsPermutation-refl, IsPermutation-sym, IsPermutation-to_front, IsPermutation-trans, length_permutation}
 use Rattle.std.specs.List.Sorted.{IsPermutation}
-use Rattle.frame_places.specs.Work.{BeginsRound, HasEmptyQueue, WorkLists, PushesWaitingOrNext, PushesEntry, PushesEntryOrNext, PushesNext, PushesWaiting, PopsPlace, PopsFirst, PopsLast, PopsFromRound, RefillsFirst, all_work}
+use Rattle.frame_places.specs.Work.{BeginsRound, HasEmptyQueue, WorkLists, PushesToWaitingOrQueue, PushesToRound, PushesToRoundOrQueue, PushesToQueue, PushesToWaiting, PopsPlace, PopsFront, PopsBack, PopsFromRound, RefillsFront, all_work}
 
 -- a list has the elements of another, and one number
 abbrev pub Adds : List ℕ → List ℕ → ℕ → Type 0
@@ -49,32 +49,32 @@ behind xs ys zs number adds =
     IsPermutation-trans (number ∷ (xs ++ ys)) (xs ++ number ∷ ys) (xs ++ zs) (IsPermutation-sym (xs ++ number ∷ ys) (number ∷ (xs ++ ys)) (IsPermutation-middle xs number ys))
     (IsPermutation-append_right xs (number ∷ ys) zs adds)
 
-pub adds_next : (old new : WorkLists) (number : ℕ) → PushesNext old new number → Adds (all_work old) (all_work new) number
+pub adds_next : (old new : WorkLists) (number : ℕ) → PushesToQueue old new number → Adds (all_work old) (all_work new) number
 adds_next old new number puts =
     let rest = old.round ++ old.waiting in
     let more = old.next ++ number ∷ [] in
     subst (λ (l : List ℕ). Adds (all_work old) l number) (sym (parts new old.first more old.round old.waiting puts.first puts.next puts.round puts.waiting))
     (behind old.first (old.next ++ rest) (more ++ rest) number (IsPermutation-append_left rest (number ∷ old.next) more (at_end old.next number)))
 
-pub adds_waiting : (old new : WorkLists) (number : ℕ) → PushesWaiting old new number → Adds (all_work old) (all_work new) number
+pub adds_waiting : (old new : WorkLists) (number : ℕ) → PushesToWaiting old new number → Adds (all_work old) (all_work new) number
 adds_waiting old new number puts =
     let rest = old.round ++ old.waiting in
     let more = old.round ++ new.waiting in
     subst (λ (l : List ℕ). Adds (all_work old) l number) (sym (parts new old.first old.next old.round new.waiting puts.first puts.next puts.round refl))
     (behind old.first (old.next ++ rest) (old.next ++ more) number (behind old.next rest more number (behind old.round old.waiting new.waiting number puts.waiting)))
 
-pub adds_either : (waits : Bool) (old new : WorkLists) (number : ℕ) → PushesWaitingOrNext waits old new number → Adds (all_work old) (all_work new) number
+pub adds_either : (waits : Bool) (old new : WorkLists) (number : ℕ) → PushesToWaitingOrQueue waits old new number → Adds (all_work old) (all_work new) number
 adds_either true old new number puts = adds_waiting old new number puts
 adds_either false old new number puts = adds_next old new number puts
 
-pub adds_entry : (old new : WorkLists) (number : ℕ) → PushesEntry old new number → Adds (all_work old) (all_work new) number
+pub adds_entry : (old new : WorkLists) (number : ℕ) → PushesToRound old new number → Adds (all_work old) (all_work new) number
 adds_entry old new number puts =
     let rest = old.round ++ old.waiting in
     let more = new.round ++ old.waiting in
     subst (λ (l : List ℕ). Adds (all_work old) l number) (sym (parts new old.first old.next new.round old.waiting puts.first puts.next refl puts.waiting))
     (behind old.first (old.next ++ rest) (old.next ++ more) number (behind old.next rest more number (IsPermutation-append_left old.waiting (number ∷ old.round) new.round puts.round)))
 
-pub adds_new : (entry : Bool) (old new : WorkLists) (number : ℕ) → PushesEntryOrNext entry old new number → Adds (all_work old) (all_work new) number
+pub adds_new : (entry : Bool) (old new : WorkLists) (number : ℕ) → PushesToRoundOrQueue entry old new number → Adds (all_work old) (all_work new) number
 adds_new true old new number puts = adds_entry old new number puts
 adds_new false old new number puts = adds_next old new number puts
 
@@ -95,14 +95,14 @@ takes_same : (old mid new : WorkLists) (number : ℕ) → IsPermutation (all_wor
 takes_same old mid new number same takes = IsPermutation-trans (all_work old) (all_work mid) (number ∷ all_work new) same takes
 
 -- the first one
-pub takes_first : (old new : WorkLists) (number : ℕ) → PopsFirst old new number → PopsPlace old new number
+pub takes_first : (old new : WorkLists) (number : ℕ) → PopsFront old new number → PopsPlace old new number
 takes_first old new number takes =
     let rest = new.next ++ (new.round ++ new.waiting) in
     taken_of old new number ((new.first ++ number ∷ []) ++ rest) (new.first ++ rest)
     (parts old (new.first ++ number ∷ []) new.next new.round new.waiting takes.first (sym takes.next) (sym takes.round) (sym takes.waiting)) refl (from_end new.first rest number)
 
 -- the last of those that are next
-pub takes_last : (old new : WorkLists) (number : ℕ) → old.first ≡ [] → PopsLast old new number → PopsPlace old new number
+pub takes_last : (old new : WorkLists) (number : ℕ) → old.first ≡ [] → PopsBack old new number → PopsPlace old new number
 takes_last old new number none takes =
     let rest = new.round ++ new.waiting in
     taken_of old new number ((new.next ++ number ∷ []) ++ rest) (new.next ++ rest)
@@ -110,14 +110,14 @@ takes_last old new number none takes =
     (parts new [] new.next new.round new.waiting (takes.first ∙ none) refl refl refl) (from_end new.next rest number)
 
 -- the places that are next were reversed
-turned_all : (old mid : WorkLists) → old.first ≡ [] → RefillsFirst old mid → IsPermutation (all_work old) (all_work mid)
+turned_all : (old mid : WorkLists) → old.first ≡ [] → RefillsFront old mid → IsPermutation (all_work old) (all_work mid)
 turned_all old mid none turns =
     let rest = old.round ++ old.waiting in
     same_of old mid (old.next ++ rest) (mid.first ++ rest) (parts old [] old.next old.round old.waiting none refl refl refl)
     (parts mid mid.first [] old.round old.waiting refl (turns.next ∙ none) turns.round turns.waiting) (IsPermutation-append_left rest old.next mid.first turns.first)
 
 -- for the result of a call
-pub last_some : (old mid new : WorkLists) (r : Option ℕ) → mid ≡ old → old.first ≡ [] → IfSome r (PopsLast mid new) → IfSome r (PopsPlace old new)
+pub last_some : (old mid new : WorkLists) (r : Option ℕ) → mid ≡ old → old.first ≡ [] → IfSome r (PopsBack mid new) → IfSome r (PopsPlace old new)
 last_some old mid new None same none takes = takes
 last_some old mid new (Some number) same none takes =
     subst (λ (w : WorkLists). PopsPlace w new number) same (takes_last mid new number (ap (λ (w : WorkLists). w.first) same ∙ none) takes)
@@ -132,13 +132,13 @@ last_none old mid new None same none left =
     }
 last_none old mid new (Some number) same none left = left
 
-pub turned_some : (old mid turned new : WorkLists) (r : Option ℕ) → mid ≡ old → old.first ≡ [] → RefillsFirst mid turned → IfSome r (PopsFirst turned new) → IfSome r (PopsPlace old new)
+pub turned_some : (old mid turned new : WorkLists) (r : Option ℕ) → mid ≡ old → old.first ≡ [] → RefillsFront mid turned → IfSome r (PopsFront turned new) → IfSome r (PopsPlace old new)
 turned_some old mid turned new None same none turns takes = takes
 turned_some old mid turned new (Some number) same none turns takes =
     subst (λ (w : WorkLists). PopsPlace w new number) same
     (takes_same mid turned new number (turned_all mid turned (ap (λ (w : WorkLists). w.first) same ∙ none) turns) (takes_first turned new number takes))
 
-pub turned_none : (old mid turned new : WorkLists) (r : Option ℕ) → mid ≡ old → old.first ≡ [] → RefillsFirst mid turned → IfNone r ((turned.first ≡ []) × (new ≡ turned)) → IfNone r (HasEmptyQueue old new)
+pub turned_none : (old mid turned new : WorkLists) (r : Option ℕ) → mid ≡ old → old.first ≡ [] → RefillsFront mid turned → IfNone r ((turned.first ≡ []) × (new ≡ turned)) → IfNone r (HasEmptyQueue old new)
 turned_none old mid turned new None same none turns left =
     let empty = ap (λ (w : WorkLists). w.first) same ∙ none in
     record {

@@ -18,9 +18,9 @@ ExceedsPlaceLimits ps ks (Point k p) = (length ps ≡ 2 ^ 16) ⊎ ((p ≡ k.entr
 ExceedsPlaceLimits ps ks (Exit k) = ⊥
 
 -- a refusal by K15 at a new place that passes a limit of certificates; nothing is said of NoMemory
-abbrev pub IsRule15Refusal : Bool → List Spot → List Key → Spot → Refusal → Type 0
-IsRule15Refusal known ps ks y (Fault rule x) = (rule ≡ 15) × (x ≡ y) × (known ≡ false) × ExceedsPlaceLimits ps ks y
-IsRule15Refusal known ps ks y NoMemory = Unit {0}
+abbrev pub IsLimitRefusal : Bool → List Spot → List Key → Spot → Refusal → Type 0
+IsLimitRefusal known ps ks y (Fault rule x) = (rule ≡ 15) × (x ≡ y) × (known ≡ false) × ExceedsPlaceLimits ps ks y
+IsLimitRefusal known ps ks y NoMemory = Unit {0}
 
 -- the maker's points with one more place, if that place is a point
 abbrev pub points_with : List Spot → Spot → List Spot
@@ -29,10 +29,10 @@ points_with ps (Exit k) = ps
 
 -- the maker's points after something flows into the place y: a point y is appended, unless known
 -- already
-abbrev pub points_after_flow : Bool → List Spot → Spot → List Spot
-points_after_flow known ps y = if known then ps else points_with ps y
+abbrev pub points_after_recording : Bool → List Spot → Spot → List Spot
+points_after_recording known ps y = if known then ps else points_with ps y
 
 -- the maker's frames after something flows into the place y: the frame of an entry point y is
 -- appended, unless y is known already
-abbrev pub frames_after_flow : Bool → List Key → Spot → List Key
-frames_after_flow known ks y = if known then ks else frames_with_entry ks y
+abbrev pub frames_after_recording : Bool → List Key → Spot → List Key
+frames_after_recording known ks y = if known then ks else frames_with_entry ks y

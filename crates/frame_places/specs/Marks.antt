@@ -85,7 +85,7 @@ IsAmongReaders (Some ps) x = Contains ps.items x
 
 -- the place x is now a reader of the exit z, so that it is marked as queued when z rises; no reader
 -- of an exit is lost, and no other is added
-pub record RegistersReader {R : Type 0} (old new : IndexMap Spot (Vec Spot Global) R) (z x : Spot) : Type 0 where
+pub record AddsReader {R : Type 0} (old new : IndexMap Spot (Vec Spot Global) R) (z x : Spot) : Type 0 where
   pub kept : (p q : Spot) → IsAmongReaders (get spot_eq old p) q → IsAmongReaders (get spot_eq new p) q
   pub there : IsAmongReaders (get spot_eq new z) x
   pub alone : (p q : Spot) → IsAmongReaders (get spot_eq new p) q → IsAmongReaders (get spot_eq old p) q ⊎ ((spot_eq z p ≡ true) × (q ≡ x))

@@ -80,7 +80,7 @@ pub record AddsPredecessor {S T : Type 0} (old : IndexMap ℕ (Vec ℕ Global) S
 
 -- these nodes of the call graph are marked, those that weren't are queued, and nothing else
 -- changes
-pub record MarksAndQueues (nodes : List ℕ) (old new : List Bool) (work later : List ℕ) : Type 0 where
+pub record MarksAndQueuesUnmarked (nodes : List ℕ) (old new : List Bool) (work later : List ℕ) : Type 0 where
   pub keeps : (k : ℕ) → IsNodeMarked old k → IsNodeMarked new k
   pub marks : (k : ℕ) → Contains nodes k → IsNodeMarked new k
   pub only : (k : ℕ) → IsNodeMarked new k → IsNodeMarked old k ⊎ Contains nodes k
@@ -101,8 +101,8 @@ pub record SearchInvariantHolds (edges : List FrameEdge) (nodes j : ℕ) (marks 
 
 -- marks and a queue of a search are carried on until the queue is empty: then all nodes are marked
 -- from which a queued node is reached along edges
-abbrev pub FinishesMarking : {S : Type 0} → IndexMap ℕ (Vec ℕ Global) S → List Bool → List Bool → List ℕ → Type 0
-FinishesMarking sources old new work =
+abbrev pub CompletesBackwardSearch : {S : Type 0} → IndexMap ℕ (Vec ℕ Global) S → List Bool → List Bool → List ℕ → Type 0
+CompletesBackwardSearch sources old new work =
     (edges : List FrameEdge) (j : ℕ) → ArePredecessors edges sources → SearchInvariantHolds edges (length old) j old work
     → SearchInvariantHolds edges (length old) j new []
 

@@ -15,35 +15,35 @@ abbrev pub all_work : WorkLists → List ℕ
 all_work work = work.first ++ (work.next ++ (work.round ++ work.waiting))
 
 -- one more place is at the end of the work list's queue
-pub record PushesNext (old new : WorkLists) (number : ℕ) : Type 0 where
+pub record PushesToQueue (old new : WorkLists) (number : ℕ) : Type 0 where
   pub first : new.first ≡ old.first
   pub next : new.next ≡ old.next ++ number ∷ []
   pub round : new.round ≡ old.round
   pub waiting : new.waiting ≡ old.waiting
 
 -- one more place of the work list waits for the next round
-pub record PushesWaiting (old new : WorkLists) (number : ℕ) : Type 0 where
+pub record PushesToWaiting (old new : WorkLists) (number : ℕ) : Type 0 where
   pub first : new.first ≡ old.first
   pub next : new.next ≡ old.next
   pub round : new.round ≡ old.round
   pub waiting : IsPermutation (number ∷ old.waiting) new.waiting
 
 -- one more place is in the work list's round, at any position
-pub record PushesEntry (old new : WorkLists) (number : ℕ) : Type 0 where
+pub record PushesToRound (old new : WorkLists) (number : ℕ) : Type 0 where
   pub first : new.first ≡ old.first
   pub next : new.next ≡ old.next
   pub round : IsPermutation (number ∷ old.round) new.round
   pub waiting : new.waiting ≡ old.waiting
 
 -- an entry point is put into the work list's round, any other place at the end of its queue
-abbrev pub PushesEntryOrNext : Bool → WorkLists → WorkLists → ℕ → Type 0
-PushesEntryOrNext true old new number = PushesEntry old new number
-PushesEntryOrNext false old new number = PushesNext old new number
+abbrev pub PushesToRoundOrQueue : Bool → WorkLists → WorkLists → ℕ → Type 0
+PushesToRoundOrQueue true old new number = PushesToRound old new number
+PushesToRoundOrQueue false old new number = PushesToQueue old new number
 
 -- one more place of the work list waits for the next round, or is at the end of the queue
-abbrev pub PushesWaitingOrNext : Bool → WorkLists → WorkLists → ℕ → Type 0
-PushesWaitingOrNext true old new number = PushesWaiting old new number
-PushesWaitingOrNext false old new number = PushesNext old new number
+abbrev pub PushesToWaitingOrQueue : Bool → WorkLists → WorkLists → ℕ → Type 0
+PushesToWaitingOrQueue true old new number = PushesToWaiting old new number
+PushesToWaitingOrQueue false old new number = PushesToQueue old new number
 
 -- some of the work list's waiting places, one at least if any waits, come into its round
 pub record BeginsRound (old new : WorkLists) : Type 0 where
@@ -53,21 +53,21 @@ pub record BeginsRound (old new : WorkLists) : Type 0 where
   pub some : new.round ≡ [] → new.waiting ≡ []
 
 -- the two parts of the work list's queue are swapped, and the new front may be in another order
-pub record RefillsFirst (old new : WorkLists) : Type 0 where
+pub record RefillsFront (old new : WorkLists) : Type 0 where
   pub first : IsPermutation old.next new.first
   pub next : new.next ≡ old.first
   pub round : new.round ≡ old.round
   pub waiting : new.waiting ≡ old.waiting
 
 -- this place is taken off the front of the work list's queue
-pub record PopsFirst (old new : WorkLists) (number : ℕ) : Type 0 where
+pub record PopsFront (old new : WorkLists) (number : ℕ) : Type 0 where
   pub first : old.first ≡ new.first ++ number ∷ []
   pub next : new.next ≡ old.next
   pub round : new.round ≡ old.round
   pub waiting : new.waiting ≡ old.waiting
 
 -- this place, the last of the work list's queue, is taken off
-pub record PopsLast (old new : WorkLists) (number : ℕ) : Type 0 where
+pub record PopsBack (old new : WorkLists) (number : ℕ) : Type 0 where
   pub first : new.first ≡ old.first
   pub next : old.next ≡ new.next ++ number ∷ []
   pub round : new.round ≡ old.round

@@ -1,7 +1,7 @@
 // Counts the known points and frames, within the limits of certificates.
 ghost use Rattle.std.specs.Prelude.{◌≡◌, ◌≤◌, ◌^◌, OnOk, IfErr, false, length};
 ghost use Rattle.frame_places.specs.declared.places.Spot.TheVariants.{Point};
-ghost use Rattle.frame_places.specs.Counting.{IsRule15Refusal, frames_after_flow, points_after_flow, frames_with_entry, points_with};
+ghost use Rattle.frame_places.specs.Counting.{IsLimitRefusal, frames_after_recording, points_after_recording, frames_with_entry, points_with};
 
 use crate::places::Spot;
 use crate::refusals::{LIMITS_RULE, Refusal};
@@ -24,12 +24,12 @@ pub fn record_place(
     requires points { length points.old.items ≤ 2 ^ 16 }
     requires frames { length frames.old.items ≤ 2048 }
     ensures points { OnOk result
-        (points.new.items ≡ points_after_flow known points.old.items y) }
+        (points.new.items ≡ points_after_recording known points.old.items y) }
     ensures frames { OnOk result
-        (frames.new.items ≡ frames_after_flow known frames.old.items y) }
+        (frames.new.items ≡ frames_after_recording known frames.old.items y) }
     ensures few_points { OnOk result (length points.new.items ≤ 2 ^ 16) }
     ensures few_frames { OnOk result (length frames.new.items ≤ 2048) }
-    ensures err { IfErr result (IsRule15Refusal known points.old.items frames.old.items y) }
+    ensures err { IfErr result (IsLimitRefusal known points.old.items frames.old.items y) }
 {
     if known {
         return Ok(());
@@ -57,7 +57,7 @@ fn record_point(
     ensures few_points { OnOk result (length points.new.items ≤ 2 ^ 16) }
     ensures few_frames { OnOk result (length frames.new.items ≤ 2048) }
     ensures err { IfErr result
-        (IsRule15Refusal false points.old.items frames.old.items (Point key addr)) }
+        (IsLimitRefusal false points.old.items frames.old.items (Point key addr)) }
 {
     if points.len() == MOST_POINTS {
         return Err(Refusal::Fault(LIMITS_RULE, Spot::Point(key, addr)));

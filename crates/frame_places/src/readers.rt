@@ -1,6 +1,6 @@
 // Which points read which exits.
 ghost use Rattle.std.specs.Prelude.{◌↔◌, ◌⊎◌, ◌≡◌, Contains, OnOk, None, Some, IfOk};
-ghost use Rattle.frame_places.specs.Marks.{RegistersReader, ForgetsReaders, AreQueuedPlacesListed, AreKnownPlaces, IsAmongReaders, RequeuesPlaces};
+ghost use Rattle.frame_places.specs.Marks.{AddsReader, ForgetsReaders, AreQueuedPlacesListed, AreKnownPlaces, IsAmongReaders, RequeuesPlaces};
 ghost use Rattle.indexmap.specs.IndexMap.{get};
 ghost use Rattle.frame_places.specs.declared.places.Spot.{Spot};
 ghost use Rattle.frame_places.specs.Spots.{spot_eq};
@@ -36,7 +36,7 @@ pub fn register_reader(
     z: Spot,
     x: Spot,
 ) -> Result<(), AllocError>
-    ensures { OnOk result (RegistersReader readers.old readers.new z x) }
+    ensures { OnOk result (AddsReader readers.old readers.new z x) }
 {
     if let Some(list) = readers.get_mut(&z) {
         push_reader(alloc, list, x)?;

@@ -1,6 +1,6 @@
 // The work list.
 ghost use Rattle.std.specs.Prelude.{◌≡◌, ◌<◌, ◌^◌, ◌==◌, IfOk, IfSome, IfNone, OnOk, OnErr, [], length};
-ghost use Rattle.frame_places.specs.Work.{BeginsRound, HasEmptyQueue, HasSameWork, PushesEntry, PushesNext, PushesWaiting, PopsPlace, PopsFirst, PopsLast, PopsFromRound, RefillsFirst, all_work, PushesWaitingOrNext, PushesEntryOrNext};
+ghost use Rattle.frame_places.specs.Work.{BeginsRound, HasEmptyQueue, HasSameWork, PushesToRound, PushesToQueue, PushesToWaiting, PopsPlace, PopsFront, PopsBack, PopsFromRound, RefillsFront, all_work, PushesToWaitingOrQueue, PushesToRoundOrQueue};
 
 use std::alloc::{AllocError, Global};
 use std::cmp::Reverse;
@@ -82,7 +82,7 @@ impl Work {
     /// Puts a place on the work list, at the end of the queue of those that are next.
     #[inline(always)]
     pub(crate) fn push_to_queue(&mut self, number: usize) -> Result<(), AllocError>
-        ensures { OnOk result (PushesNext self.old self.new number) }
+        ensures { OnOk result (PushesToQueue self.old self.new number) }
     {
         self.next.push(number)?;
         Ok(())
@@ -91,7 +91,7 @@ impl Work {
     /// Puts a place on the work list among those that wait for the next round.
     #[inline(always)]
     pub(crate) fn push_to_waiting(&mut self, number: usize) -> Result<(), AllocError>
-        ensures { OnOk result (PushesWaiting self.old self.new number) }
+        ensures { OnOk result (PushesToWaiting self.old self.new number) }
     {
         self.waiting.push(Reverse(number))?;
         Ok(())
@@ -102,7 +102,7 @@ impl Work {
     /// place is listed again, once for each rise of its state.
     #[inline(always)]
     pub(crate) fn push_to_round(&mut self, number: usize) -> Result<(), AllocError>
-        ensures { OnOk result (PushesEntry self.old self.new number) }
+        ensures { OnOk result (PushesToRound self.old self.new number) }
     {
         let len = self.round.len();
         let at = self.base.max(len.saturating_sub(MOST_SHIFTED)).min(len);
@@ -176,7 +176,7 @@ impl Work {
     /// Takes the front place of the work list's queue, or `None` if its reversed part is empty.
     #[inline(always)]
     fn pop_front(&mut self) -> Option<usize>
-        ensures some { IfSome result (PopsFirst self.old self.new) }
+        ensures some { IfSome result (PopsFront self.old self.new) }
         ensures none { IfNone result ((self.old.first ≡ []) × (self.new ≡ self.old)) }
     {
         self.first.pop()
@@ -185,7 +185,7 @@ impl Work {
     /// Refills the reversed part of the work list's queue, from whose end places are taken, with
     /// the places that are next.
     fn refill_front(&mut self)
-        ensures { RefillsFirst self.old self.new }
+        ensures { RefillsFront self.old self.new }
     {
         swap(&mut self.first, &mut self.next);
         self.first.reverse();
@@ -195,7 +195,7 @@ impl Work {
     /// that part is empty.
     #[inline(always)]
     fn pop_back(&mut self) -> Option<usize>
-        ensures some { IfSome result (PopsLast self.old self.new) }
+        ensures some { IfSome result (PopsBack self.old self.new) }
         ensures none { IfNone result ((self.old.next ≡ []) × (self.new ≡ self.old)) }
     {
         self.next.pop()
@@ -205,7 +205,7 @@ impl Work {
 /// Puts a place on the work list: for the next round if `waits`, else at the end of the queue.
 #[inline(always)]
 pub(crate) fn enqueue(work: &mut Work, number: usize, waits: bool) -> Result<(), AllocError>
-    ensures { OnOk result (PushesWaitingOrNext waits work.old work.new number) }
+    ensures { OnOk result (PushesToWaitingOrQueue waits work.old work.new number) }
 {
     if waits {
         work.push_to_waiting(number)
@@ -218,7 +218,7 @@ pub(crate) fn enqueue(work: &mut Work, number: usize, waits: bool) -> Result<(),
 /// other at the end of the queue.
 #[inline(always)]
 pub(crate) fn enqueue_new(work: &mut Work, number: usize, entry: bool) -> Result<(), AllocError>
-    ensures { OnOk result (PushesEntryOrNext entry work.old work.new number) }
+    ensures { OnOk result (PushesToRoundOrQueue entry work.old work.new number) }
 {
     if entry {
         work.push_to_round(number)

@@ -8,7 +8,7 @@ use Rattle.value_domain.proofs.RangeLaws.{below_any}
 use Rattle.value_domain.specs.State.{AreWellFormed, is_lower_slot}
 use Rattle.depth_cert.specs.Exits.{lower_values, values_after_return_from}
 use Rattle.depth_cert.proofs.ExitValues.{restored_at, after-at, lower_low, lower_high}
-use Rattle.packed_cert.specs.ValuesInBytes.{place_after_value, value_in_bytes, values_in_bytes, HasValueInBytes, HaveValuesInBytes}
+use Rattle.packed_cert.specs.ValuesInBytes.{offset_after_value, value_in_bytes, values_in_bytes, ValueBeginsAt, ValuesBeginAt}
 use Rattle.packed_cert.proofs.SameBytes.{Small}
 use Rattle.packed_cert.proofs.ValueShapes.{left_first, length-values_in, stands_at, well_of}
 
@@ -33,7 +33,7 @@ other_before i h e = grind (arith)
 -- ---- the state in which they are replaced by those that stand at a place: one value after another
 -- those that are left stand from a place on, where n were looked at
 pub record LeftBehind (version : ℕ) (bytes : List ℕ) (place n from : ℕ) : Type 0 where
-  pub have : HaveValuesInBytes version bytes from (14 - n)
+  pub have : ValuesBeginAt version bytes from (14 - n)
   pub left : drop n (values_in_bytes version bytes place 14) ≡ values_in_bytes version bytes from (14 - n)
 
 -- the value at place i
@@ -41,9 +41,9 @@ abbrev pub restored_in : ℕ → List ℕ → ℕ → ℕ → List Val → Val
 restored_in version bytes from i regs = cond (is_lower_slot i) (value_in_bytes version bytes from) (get_or regs i any_val)
 
 pub record LowerStep (version : ℕ) (bytes : List ℕ) (place i from : ℕ) (regs : List Val) : Type 0 where
-  pub has : IsTrue (is_lower_slot i) → HasValueInBytes version bytes from
+  pub has : IsTrue (is_lower_slot i) → ValueBeginsAt version bytes from
   pub is : get_or (values_after_return_from 0 (values_in_bytes version bytes place 14) regs) i any_val ≡ restored_in version bytes from i regs
-  pub next : LeftBehind version bytes place (lower_before (i + 1)) (cond (is_lower_slot i) (place_after_value bytes from) from)
+  pub next : LeftBehind version bytes place (lower_before (i + 1)) (cond (is_lower_slot i) (offset_after_value bytes from) from)
 
 pub lower_step : (version : ℕ) (bytes : List ℕ) (place i from : ℕ) (regs : List Val) → i < 27 → length regs ≡ 27 → LeftBehind version bytes place (lower_before i) from → LowerStep version bytes place i from regs
 lower_step version bytes place i from regs h len l =
@@ -53,13 +53,13 @@ lower_step version bytes place i from regs h len l =
       | inl t ↦
           let k = slot_before i h t in
           let f = left_first version bytes from 14 (lower_before i) ls k.1 (length-values_in version bytes place 14) l.have l.left in
-          let next : LeftBehind version bytes place (lower_before i + 1) (place_after_value bytes from) = record { have = f.1; left = f.3 } in
+          let next : LeftBehind version bytes place (lower_before i + 1) (offset_after_value bytes from) = record { have = f.1; left = f.3 } in
           let value : restored_at i ls (get_or regs i any_val) ≡ value_in_bytes version bytes from = rw t (ap (λ (n : ℕ). get_or ls n any_val) k.2 ∙ f.2) in
           let back : value_in_bytes version bytes from ≡ restored_in version bytes from i regs = rw t refl in
           record {
             has = λ s. f.0;
             is = at ∙ value ∙ back;
-            next = rw t (subst (λ (n : ℕ). LeftBehind version bytes place n (place_after_value bytes from)) (sym k.0) next);
+            next = rw t (subst (λ (n : ℕ). LeftBehind version bytes place n (offset_after_value bytes from)) (sym k.0) next);
           }
       | inr f ↦
           let same : restored_at i ls (get_or regs i any_val) ≡ restored_in version bytes from i regs = rw f refl in
@@ -71,7 +71,7 @@ lower_step version bytes place i from regs h len l =
     ]
 
 -- below a value that holds all words is each of them
-pub any_above : (i : ℕ) (regs : List Val) (version : ℕ) (bytes : List ℕ) (from : ℕ) (high : Val) → Small bytes → i < 27 → length regs ≡ 27 → AreWellFormed regs → (IsTrue (is_lower_slot i) → HasValueInBytes version bytes from) → high ≡ any_val
+pub any_above : (i : ℕ) (regs : List Val) (version : ℕ) (bytes : List ℕ) (from : ℕ) (high : Val) → Small bytes → i < 27 → length regs ≡ 27 → AreWellFormed regs → (IsTrue (is_lower_slot i) → ValueBeginsAt version bytes from) → high ≡ any_val
     → IsTrue true ↔ IsBelow (restored_in version bytes from i regs) high
 any_above i regs version bytes from high small h len well has any =
     elim (cases_Bool (is_lower_slot i)) [

@@ -13,15 +13,15 @@ use Rattle.depth_cert.specs.declared.points.Point.{Point}
 use Rattle.depth_cert.specs.Keys.{number_of_key}
 use Rattle.depth_cert.specs.Answers.{IsFaultOf}
 use Rattle.depth_cert.specs.Nodes.{NodeData, count_points, key_numbers}
-use Rattle.depth_cert.specs.Grammar.{exit_at, optional_exit_at, last_number_read, key_after, need_at, points_at, node_after}
+use Rattle.depth_cert.specs.Grammar.{exit_at, optional_exit_at, last_number, key_after, need_at, points_at, node_after}
 use Rattle.packed_cert.specs.declared.places.NodePlaces.{NodePlaces}
 use Rattle.packed_cert.specs.ValuesInBytes.{place_in_bytes, read_from_bytes_or}
 use Rattle.packed_cert.specs.PointsInBytes.{point_in_bytes}
-use Rattle.packed_cert.specs.NodesInBytes.{exit_in_bytes, HasExitInBytes, AreNodePlaces, node_in_bytes, nodes_in_bytes}
+use Rattle.packed_cert.specs.NodesInBytes.{exit_in_bytes, ExitBeginsAt, AreNodePlaces, node_in_bytes, nodes_in_bytes}
 use Rattle.depth_cert.specs.Exits.{no_exit}
 
 -- the exit that was read stands where it was read
-pub exit_read : (version : ℕ) (bytes : List ℕ) (c : Place) (x : ℕ) (e : Exit) (q : Place) → c.bytes ≡ bytes → x ≡ c.place → exit_at version c ≡ Ok (e, q) → (exit_in_bytes version bytes x ≡ e) × HasExitInBytes version bytes x
+pub exit_read : (version : ℕ) (bytes : List ℕ) (c : Place) (x : ℕ) (e : Exit) (q : Place) → c.bytes ≡ bytes → x ≡ c.place → exit_at version c ≡ Ok (e, q) → (exit_in_bytes version bytes x ≡ e) × ExitBeginsAt version bytes x
 exit_read version bytes c x e q b p h =
     let there : place_in_bytes bytes x ≡ c = ap (λ (k : ℕ). place_in_bytes bytes k) p ∙ ap (λ (l : List ℕ). place_in_bytes l c.place) (sym b) in
     let read : exit_at version (place_in_bytes bytes x) ≡ Ok (e, q) = ap (exit_at version) there ∙ h in
@@ -31,14 +31,14 @@ exit_read version bytes c x e q b p h =
 pub exit_whole : (version : ℕ) (bytes : List ℕ) (x : ℕ) (e : Exit) (q c : Place) → c ≡ place_in_bytes bytes x → exit_at version c ≡ Ok (e, q) → e ≡ exit_in_bytes version bytes x
 exit_whole version bytes x e q c there read = sym (ap (read_from_bytes_or no_exit) (ap (exit_at version) (sym there) ∙ read))
 
-pub exit_never : (version : ℕ) (bytes : List ℕ) (x : ℕ) (f : FormErr) (c : Place) → c ≡ place_in_bytes bytes x → HasExitInBytes version bytes x → exit_at version c ≡ Err f → ⊥
+pub exit_never : (version : ℕ) (bytes : List ℕ) (x : ℕ) (f : FormErr) (c : Place) → c ≡ place_in_bytes bytes x → ExitBeginsAt version bytes x → exit_at version c ≡ Err f → ⊥
 exit_never version bytes x f c there h read = never f h.0 (sym (ap (exit_at version) (sym there) ∙ read) ∙ h.1)
   where
     never : (f : FormErr) (y : Exit × Place) → ◌≡◌ {A = Result (Exit × Place) FormErr} (Err f) (Ok y) → ⊥
     never f y g = cc
 
 -- the exit that was read into its place is the one that stands there
-pub whole_exit : {A : Type 0} (version : ℕ) (bytes : List ℕ) (x : ℕ) (r : Result A FormErr) (e : Exit) (c d : Place) → c ≡ place_in_bytes bytes x → HasExitInBytes version bytes x
+pub whole_exit : {A : Type 0} (version : ℕ) (bytes : List ℕ) (x : ℕ) (r : Result A FormErr) (e : Exit) (c d : Place) → c ≡ place_in_bytes bytes x → ExitBeginsAt version bytes x
     → OnOk r (exit_at version c ≡ Ok (e, d)) → IfErr r (λ f. exit_at version c ≡ Err f) → e ≡ exit_in_bytes version bytes x
 whole_exit {A} version bytes x (Ok n) e c d there h ok err = exit_whole version bytes x e d c there ok
 whole_exit {A} version bytes x (Err f) e c d there h ok err = absurd (exit_never version bytes x f c there h err)
@@ -69,26 +69,26 @@ count_in version bytes (n ∷ ns) =
 
 -- ---- a node behind others: the key, the need, the exit, and the points
 pub node_reads : (version : ℕ) (before : List NodeData) (p q r s t : Place) (key : Key) (need : ℕ) (exit : Option Exit) (points : List Point)
-    → key_after (last_number_read (key_numbers before)) p ≡ Ok (key, q) → need_at q ≡ Ok (need, r) → optional_exit_at version key.kind r ≡ Ok (exit, s) → points_at version (count_points before) s ≡ Ok (points, t)
+    → key_after (last_number (key_numbers before)) p ≡ Ok (key, q) → need_at q ≡ Ok (need, r) → optional_exit_at version key.kind r ≡ Ok (exit, s) → points_at version (count_points before) s ≡ Ok (points, t)
     → node_after version before p ≡ Ok (record { key = key; need = need; exit = exit; points = points }, t)
 unfolding node_after
 node_reads version before p q r s t key need exit points a b c d = rw (a, b, c, d) refl
 
-pub key_fails : (version : ℕ) (before : List NodeData) (p : Place) (e : FormErr) → key_after (last_number_read (key_numbers before)) p ≡ Err e → node_after version before p ≡ Err e
+pub key_fails : (version : ℕ) (before : List NodeData) (p : Place) (e : FormErr) → key_after (last_number (key_numbers before)) p ≡ Err e → node_after version before p ≡ Err e
 unfolding node_after
 key_fails version before p e a = rw a refl
 
-pub need_fails : (version : ℕ) (before : List NodeData) (p q : Place) (key : Key) (e : FormErr) → key_after (last_number_read (key_numbers before)) p ≡ Ok (key, q) → need_at q ≡ Err e → node_after version before p ≡ Err e
+pub need_fails : (version : ℕ) (before : List NodeData) (p q : Place) (key : Key) (e : FormErr) → key_after (last_number (key_numbers before)) p ≡ Ok (key, q) → need_at q ≡ Err e → node_after version before p ≡ Err e
 unfolding node_after
 need_fails version before p q key e a b = rw (a, b) refl
 
 pub exit_fails : (version : ℕ) (before : List NodeData) (p q r : Place) (key : Key) (need : ℕ) (e : FormErr)
-    → key_after (last_number_read (key_numbers before)) p ≡ Ok (key, q) → need_at q ≡ Ok (need, r) → optional_exit_at version key.kind r ≡ Err e → node_after version before p ≡ Err e
+    → key_after (last_number (key_numbers before)) p ≡ Ok (key, q) → need_at q ≡ Ok (need, r) → optional_exit_at version key.kind r ≡ Err e → node_after version before p ≡ Err e
 unfolding node_after
 exit_fails version before p q r key need e a b c = rw (a, b, c) refl
 
 pub points_fail : (version : ℕ) (before : List NodeData) (p q r s : Place) (key : Key) (need : ℕ) (exit : Option Exit) (e : CertErr)
-    → key_after (last_number_read (key_numbers before)) p ≡ Ok (key, q) → need_at q ≡ Ok (need, r) → optional_exit_at version key.kind r ≡ Ok (exit, s) → IsFaultOf (points_at version (count_points before) s) e
+    → key_after (last_number (key_numbers before)) p ≡ Ok (key, q) → need_at q ≡ Ok (need, r) → optional_exit_at version key.kind r ≡ Ok (exit, s) → IsFaultOf (points_at version (count_points before) s) e
     → IsFaultOf (node_after version before p) e
 unfolding node_after
 points_fail version before p q r s key need exit (Bad e) a b c d = rw (a, b, c, d) refl

@@ -8,7 +8,7 @@ use Rattle.value_domain.specs.declared.values.Val.{Val}
 use Rattle.value_domain.specs.declared.states.State.{State}
 use Rattle.depth_cert.specs.declared.points.Point.{Point}
 use Rattle.depth_cert.specs.Points.{addresses}
-use Rattle.depth_cert.specs.Grammar.{values_at, state_at, last_number_read, address_after, point_after}
+use Rattle.depth_cert.specs.Grammar.{values_at, state_at, last_number, address_after, point_after}
 use Rattle.depth_cert.proofs.PointReads.{point_reads}
 use Rattle.packed_cert.specs.declared.places.PointPlace.{PointPlace}
 use Rattle.packed_cert.specs.ValuesInBytes.{AreValuesBetween, place_in_bytes}
@@ -30,10 +30,10 @@ addresses_in version bytes (p ∷ ps) = ap (λ (l : List ℕ). p.addr ∷ l) (ad
 
 -- one point more, whose state is at its place, too
 pub point_more : (version : ℕ) (bytes : List ℕ) (ps : List PointPlace) (item : PointPlace) (c q r : Place) (s : State) → state_in_bytes version bytes item.place ≡ s
-    → address_after (last_number_read (map (λ p. p.addr) ps)) c ≡ Ok (item.addr, q) → state_at version q ≡ Ok (s, r)
+    → address_after (last_number (map (λ p. p.addr) ps)) c ≡ Ok (item.addr, q) → state_at version q ≡ Ok (s, r)
     → point_after version (points_in_bytes version bytes ps) c ≡ Ok (point_in_bytes version bytes item, r)
 point_more version bytes ps item c q r s there a e =
-    point_reads version (points_in_bytes version bytes ps) c q r item.addr s (ap (λ (l : List ℕ). address_after (last_number_read l) c) (addresses_in version bytes ps) ∙ a) e
+    point_reads version (points_in_bytes version bytes ps) c q r item.addr s (ap (λ (l : List ℕ). address_after (last_number l) c) (addresses_in version bytes ps) ∙ a) e
     ∙ ap (λ (t : State). let x : Result (Point × Place) FormErr = Ok (record { addr = item.addr; state = t }, r) in x) (sym there)
 
 pub points_push : (version : ℕ) (bytes : List ℕ) (ps : List PointPlace) (p : PointPlace) → points_in_bytes version bytes (ps ++ p ∷ []) ≡ points_in_bytes version bytes ps ++ point_in_bytes version bytes p ∷ []

@@ -4,7 +4,7 @@ use Rattle.std.proofs.lemmas.List.{length-set, get_or-set_other}
 use Rattle.value_domain.specs.declared.values.Val.{Val}
 use Rattle.value_domain.specs.Values.{any_val}
 use Rattle.packed_cert.specs.declared.places.ValueRow.{ValueRow}
-use Rattle.packed_cert.specs.ChangedRows.{ChangesOnlyRow, IsWholeRow, IsRowWithReadValue}
+use Rattle.packed_cert.specs.ChangedRows.{ChangesOnlyRow, IsWholeRow, IsRowExtendedTo}
 
 -- none
 pub row_of_none : (vs : List Val) → ChangesOnlyRow vs vs (record { first = 0; behind = 0; from = 0 })
@@ -20,7 +20,7 @@ row_of_all before after row count e = record {
 }
 
 -- one more
-pub row_and_more : (before out : List Val) (i : ℕ) (v : Val) (row more : ValueRow) → i < length before → ChangesOnlyRow before out row → IsRowWithReadValue row i more → ChangesOnlyRow before (set out i v) more
+pub row_and_more : (before out : List Val) (i : ℕ) (v : Val) (row more : ValueRow) → i < length before → ChangesOnlyRow before out row → IsRowExtendedTo row i more → ChangesOnlyRow before (set out i v) more
 row_and_more before out i v row more lt h w = record {
   count = length-set out i v ∙ h.count;
   order = omega (arith, w.first, w.behind);
@@ -31,14 +31,14 @@ row_and_more before out i v row more lt h w = record {
 }
 
 -- where none was before, and where some were
-pub row_first : (row : ValueRow) (place from : ℕ) → row.behind ≡ 0 → IsRowWithReadValue row place (record { first = place; behind = place + 1; from = from })
+pub row_first : (row : ValueRow) (place from : ℕ) → row.behind ≡ 0 → IsRowExtendedTo row place (record { first = place; behind = place + 1; from = from })
 row_first row place from none = record {
   first = omega arith;
   behind = refl;
   others = λ k outside. elim outside [ inl low ↦ (inr (omega arith), (λ e. omega arith)) | inr high ↦ (inr (omega arith), (λ e. omega arith)) ];
 }
 
-pub row_next : (row : ValueRow) (place : ℕ) → row.first ≤ place → row.behind ≤ place → IsRowWithReadValue row place (record { first = row.first; behind = place + 1; from = row.from })
+pub row_next : (row : ValueRow) (place : ℕ) → row.first ≤ place → row.behind ≤ place → IsRowExtendedTo row place (record { first = row.first; behind = place + 1; from = row.from })
 row_next row place order before = record {
   first = order;
   behind = refl;

@@ -19,7 +19,7 @@ use Rattle.tcd_base.proofs.PassedLaws.{AreBytes, bytes_from, Passed, ok_pair}
 use Rattle.depth_cert.proofs.GrammarLaws.{value_passed}
 use Rattle.depth_cert.proofs.WrittenLaws.{IsRead, value_cases}
 use Rattle.packed_cert.specs.RepeatedBytes.{AreBytesRepeated, SkipsRepeatedBytes}
-use Rattle.packed_cert.specs.ValuesInBytes.{AreValuesBetween, value_length_by_tag, place_after_value, place_in_bytes}
+use Rattle.packed_cert.specs.ValuesInBytes.{AreValuesBetween, value_length_by_tag, offset_after_value, place_in_bytes}
 
 -- all bytes are below 256
 abbrev pub Small : List ℕ → Type 0
@@ -110,8 +110,8 @@ value_length version (Span lo last step) h = by_any (is_span_of_all_words lo las
 
 -- a value that stands at a place: how far it goes, and that it is read wherever its bytes stand
 pub record IsValueAt (version : ℕ) (bytes : List ℕ) (x : ℕ) (v : Val) (q : Place) : Type 0 where
-  pub end : q ≡ place_in_bytes bytes (place_after_value bytes x)
-  pub within : place_after_value bytes x ≤ length bytes
+  pub end : q ≡ place_in_bytes bytes (offset_after_value bytes x)
+  pub within : offset_after_value bytes x ≤ length bytes
   pub inside : x < length bytes
   pub well : IsWellFormedCertValue version v
   pub same : (y : ℕ) → y + value_length_by_tag (get_or bytes x 0) ≤ length bytes → take (value_length_by_tag (get_or bytes x 0)) (drop x bytes) ≡ take (value_length_by_tag (get_or bytes x 0)) (drop y bytes)
@@ -133,7 +133,7 @@ value_stands version bytes x v q small h e =
     in
     let len : length part ≡ value_length_by_tag (get_or bytes x 0) = long ∙ ap value_length_by_tag (sym head) in
     let whole : (front ++ part) ++ p.0.after ≡ bytes = append_assoc front part p.0.after ∙ ap (λ (l : List ℕ). front ++ l) (sym p.0.is) ∙ take-append-drop x bytes in
-    let place : length (front ++ part) ≡ place_after_value bytes x = omega (arith, length-append front part, length-take x bytes) in
+    let place : length (front ++ part) ≡ offset_after_value bytes x = omega (arith, length-append front part, length-take x bytes) in
     record {
       end = p.0.at ∙ ap (λ (l : List ℕ). place_in_bytes l (length (front ++ part))) whole ∙ ap (λ (n : ℕ). place_in_bytes bytes n) place;
       within = omega (arith, ap length whole, length-append (front ++ part) p.0.after);
@@ -162,8 +162,8 @@ values_stand version bytes zero x before vs q small h e =
 values_stand version bytes (suc n) x before vs q small h e =
     let b = bind_ok (value_at version (place_in_bytes bytes x)) _ _ e in
     let one = value_stands version bytes x b.0.0 b.0.1 small h b.1 in
-    let rest : many_fields_at (λ before. value_at version) n (before ++ b.0.0 ∷ []) (place_in_bytes bytes (place_after_value bytes x)) ≡ Ok (vs, q) = ap (many_fields_at (λ before. value_at version) n (before ++ b.0.0 ∷ [])) (sym one.end) ∙ b.2 in
-    let more = values_stand version bytes n (place_after_value bytes x) (before ++ b.0.0 ∷ []) vs q small one.within rest in
+    let rest : many_fields_at (λ before. value_at version) n (before ++ b.0.0 ∷ []) (place_in_bytes bytes (offset_after_value bytes x)) ≡ Ok (vs, q) = ap (many_fields_at (λ before. value_at version) n (before ++ b.0.0 ∷ [])) (sym one.end) ∙ b.2 in
+    let more = values_stand version bytes n (offset_after_value bytes x) (before ++ b.0.0 ∷ []) vs q small one.within rest in
     record {
       values = b.0.0 ∷ more.values;
       is = more.is ∙ append_assoc before (b.0.0 ∷ []) more.values;
@@ -172,12 +172,12 @@ values_stand version bytes (suc n) x before vs q small h e =
     }
 
 pub stand_next : (version : ℕ) (bytes : List ℕ) (b i e : ℕ) (out : List Val) → i < length out → AreValuesBetween version bytes b (drop i out) e
-    → (value_at version (place_in_bytes bytes b) ≡ Ok (get_or out i any_val, place_in_bytes bytes (place_after_value bytes b))) × AreValuesBetween version bytes (place_after_value bytes b) (drop (i + 1) out) e
+    → (value_at version (place_in_bytes bytes b) ≡ Ok (get_or out i any_val, place_in_bytes bytes (offset_after_value bytes b))) × AreValuesBetween version bytes (offset_after_value bytes b) (drop (i + 1) out) e
 stand_next version bytes b i e out h s = subst (λ (vs : List Val). AreValuesBetween version bytes b vs e) (drop_more out i any_val h) s
 
 pub stand_order : (version : ℕ) (bytes : List ℕ) (x e : ℕ) (vs : List Val) → AreValuesBetween version bytes x vs e → x ≤ e
 stand_order version bytes x e [] s = let same : x ≡ e = s in omega arith
-stand_order version bytes x e (v ∷ vs) s = let more : place_after_value bytes x ≤ e = stand_order version bytes (place_after_value bytes x) e vs s.1 in omega arith
+stand_order version bytes x e (v ∷ vs) s = let more : offset_after_value bytes x ≤ e = stand_order version bytes (offset_after_value bytes x) e vs s.1 in omega arith
 
 -- ---- fewer of the bytes that stand alike, and those behind them
 pub alike_fewer : (bytes : List ℕ) (x y n k : ℕ) → n ≤ k → AreBytesRepeated bytes x y k → AreBytesRepeated bytes x y n
@@ -213,7 +213,7 @@ rest_read version bytes x y e before [] small h s room same =
 rest_read version bytes x y e before (v ∷ vs) small h s room same =
     let n : ℕ = value_length_by_tag (get_or bytes x 0) in
     let one = value_stands version bytes x v _ small h s.0 in
-    let order : x + n ≤ e = stand_order version bytes (place_after_value bytes x) e vs s.1 in
+    let order : x + n ≤ e = stand_order version bytes (offset_after_value bytes x) e vs s.1 in
     let few : n ≤ e - x = omega arith in
     let read = alike_read version bytes x y n (e - x) v _ small h s.0 refl few room same in
     let left : e - x - n ≡ e - (x + n) = omega arith in

@@ -13,7 +13,7 @@ use Rattle.depth_cert.specs.declared.points.Exit.{Exit}
 use Rattle.depth_cert.specs.Grammar.{valid_field_or_fault, flag_at, values_at, value_at, locals_at, state_at, exit_at}
 use Rattle.tcd_base.proofs.PassedLaws.{ok_pair}
 use Rattle.depth_cert.proofs.GrammarLaws.{checked_passed, most_le}
-use Rattle.packed_cert.specs.ValuesInBytes.{AreValuesBetween, place_after_value, place_in_bytes, value_in_bytes, values_in_bytes, HaveValuesInBytes, read_from_bytes_or}
+use Rattle.packed_cert.specs.ValuesInBytes.{AreValuesBetween, offset_after_value, place_in_bytes, value_in_bytes, values_in_bytes, ValuesBeginAt, read_from_bytes_or}
 use Rattle.packed_cert.specs.PointsInBytes.{flags_in_bytes}
 use Rattle.packed_cert.proofs.SameBytes.{Small, value_stands, values_stand}
 
@@ -72,13 +72,13 @@ flags_took (suc n) before ls p q h e =
     }
 
 -- values that stand are those that are computed
-stand_in : (version : ℕ) (bytes : List ℕ) (vs : List Val) (x e : ℕ) → Small bytes → x ≤ length bytes → AreValuesBetween version bytes x vs e → (vs ≡ values_in_bytes version bytes x (length vs)) × HaveValuesInBytes version bytes x (length vs)
+stand_in : (version : ℕ) (bytes : List ℕ) (vs : List Val) (x e : ℕ) → Small bytes → x ≤ length bytes → AreValuesBetween version bytes x vs e → (vs ≡ values_in_bytes version bytes x (length vs)) × ValuesBeginAt version bytes x (length vs)
 stand_in version bytes [] x e small h s = (refl, tt)
 stand_in version bytes (v ∷ vs) x e small h s =
     let one = value_stands version bytes x v _ small h s.0 in
-    let rest = stand_in version bytes vs (place_after_value bytes x) e small one.within s.1 in
+    let rest = stand_in version bytes vs (offset_after_value bytes x) e small one.within s.1 in
     let first : value_in_bytes version bytes x ≡ v = ap (read_from_bytes_or any_val) s.0 in
-    (ap (λ (u : Val). u ∷ vs) (sym first) ∙ ap (λ (l : List Val). value_in_bytes version bytes x ∷ l) rest.0, (((v, place_in_bytes bytes (place_after_value bytes x)), s.0, h), rest.1))
+    (ap (λ (u : Val). u ∷ vs) (sym first) ∙ ap (λ (l : List Val). value_in_bytes version bytes x ∷ l) rest.0, (((v, place_in_bytes bytes (offset_after_value bytes x)), s.0, h), rest.1))
 
 -- how the context of a state stands at a place
 pub record HasContext (version : ℕ) (bytes : List ℕ) (x : ℕ) (s : State) : Type 0 where
@@ -98,7 +98,7 @@ pub record HasContext (version : ℕ) (bytes : List ℕ) (x : ℕ) (s : State) :
 -- where its values stand
 pub record HasValues (version : ℕ) (bytes : List ℕ) (x : ℕ) (s : State) : Type 0 where
   pub regs : s.regs ≡ values_in_bytes version bytes (x + 4 + get_or bytes (x + 3) 0) 27
-  pub have : HaveValuesInBytes version bytes (x + 4 + get_or bytes (x + 3) 0) 27
+  pub have : ValuesBeginAt version bytes (x + 4 + get_or bytes (x + 3) 0) 27
 
 end_inside : (p e m n : ℕ) → p ≡ e → p ≤ m → m ≡ n → e ≤ n
 end_inside p e m n a b c = omega arith
@@ -129,13 +129,13 @@ two_inside x p m n e h f = omega arith
 
 -- values that were read are those that are computed
 values_here : (version n : ℕ) (bytes : List ℕ) (c : Place) (x : ℕ) (vs : List Val) (q : Place) → Small bytes → c.bytes ≡ bytes → c.place ≡ x → x ≤ length bytes → values_at version n c ≡ Ok (vs, q)
-    → (vs ≡ values_in_bytes version bytes x n) × HaveValuesInBytes version bytes x n
+    → (vs ≡ values_in_bytes version bytes x n) × ValuesBeginAt version bytes x n
 unfolding values_at
 values_here version n bytes c x vs q small b p h e =
     let there : place_in_bytes bytes x ≡ c = ap (λ (k : ℕ). place_in_bytes bytes k) (sym p) ∙ ap (λ (l : List ℕ). place_in_bytes l c.place) (sym b) in
     let v = values_stand version bytes n x [] vs q small h (ap (many_fields_at (λ before. value_at version) n []) there ∙ e) in
     let i = stand_in version bytes v.values x _ small h v.stand in
-    (v.is ∙ i.0 ∙ ap (values_in_bytes version bytes x) v.count, subst (HaveValuesInBytes version bytes x) v.count i.1)
+    (v.is ∙ i.0 ∙ ap (values_in_bytes version bytes x) v.count, subst (ValuesBeginAt version bytes x) v.count i.1)
 
 -- the byte that was taken, by where it stands
 byte_here : (bytes l : List ℕ) (x p : ℕ) → l ≡ bytes → p ≡ x → get_or l p 0 ≡ get_or bytes x 0
@@ -223,7 +223,7 @@ pub record HasExitContext (version : ℕ) (bytes : List ℕ) (x : ℕ) (e : Exit
 -- where its values stand
 pub record HasExitValues (version : ℕ) (bytes : List ℕ) (x : ℕ) (e : Exit) : Type 0 where
   pub lower : e.lower ≡ values_in_bytes version bytes (x + 2) 14
-  pub have : HaveValuesInBytes version bytes (x + 2) 14
+  pub have : ValuesBeginAt version bytes (x + 2) 14
 
 pub exit_context : (version : ℕ) (bytes : List ℕ) (x : ℕ) (e : Exit) (q : Place) → exit_at version (place_in_bytes bytes x) ≡ Ok (e, q) → HasExitContext version bytes x e
 unfolding exit_at

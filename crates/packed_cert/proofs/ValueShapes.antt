@@ -14,10 +14,10 @@ use Rattle.value_domain.specs.Values.{any_val, members, IsWellFormed, IsBelow}
 use Rattle.value_domain.proofs.RangeLaws.{below_span}
 use Rattle.value_domain.specs.VersionLimits.{most_words_of}
 use Rattle.depth_cert.specs.Points.{IsWellFormedCertValue}
-use Rattle.depth_cert.specs.Grammar.{valid_field_or_fault, set_word_after, set_at, span_at, value_at, is_above_last_read, last_number_read, is_cert_span}
+use Rattle.depth_cert.specs.Grammar.{valid_field_or_fault, set_word_after, set_at, span_at, value_at, is_above_last, last_number, is_cert_span}
 use Rattle.tcd_base.proofs.PassedLaws.{ok_pair, passed_test}
 use Rattle.depth_cert.proofs.GrammarLaws.{checked_passed, width_le}
-use Rattle.packed_cert.specs.ValuesInBytes.{value_length_by_tag, place_after_value, place_in_bytes, read_from_bytes_or, words_in_bytes, value_in_bytes, HasValueInBytes, values_in_bytes, HaveValuesInBytes}
+use Rattle.packed_cert.specs.ValuesInBytes.{value_length_by_tag, offset_after_value, place_in_bytes, read_from_bytes_or, words_in_bytes, value_in_bytes, ValueBeginsAt, values_in_bytes, ValuesBeginAt}
 use Rattle.packed_cert.proofs.SameBytes.{Small, value_stands}
 
 -- which of four comes
@@ -34,8 +34,8 @@ unfolding many_fields_at set_word_after words_in_bytes
 words_read zero before ws p q e = sym (ok_pair before ws p q e).0 ∙ sym (append-nil before)
 words_read (suc n) before ws p q e =
     let b = bind_ok (set_word_after before p) (λ x. many_fields_at set_word_after n (before ++ x.0 ∷ []) x.1) (ws, q) e in
-    let c = bind_ok (u32_at p) (λ w. valid_field_or_fault 4 (is_above_last_read (last_number_read before) w.0) p w) b.0 b.1 in
-    let t = checked_passed 4 (is_above_last_read (last_number_read before) c.0.0) p c.0 b.0 c.2 in
+    let c = bind_ok (u32_at p) (λ w. valid_field_or_fault 4 (is_above_last (last_number before) w.0) p w) b.0 b.1 in
+    let t = checked_passed 4 (is_above_last (last_number before) c.0.0) p c.0 b.0 c.2 in
     let k = u32_at_ok p c.0.0 c.0.1 c.1 in
     let word : b.0.0 ≡ word_in_bytes p.bytes p.place = ap (λ (x : ℕ × Place). x.0) (sym t.1) ∙ k.1 in
     let after : b.0.1 ≡ c.0.1 = ap (λ (x : ℕ × Place). x.1) (sym t.1) in
@@ -114,10 +114,10 @@ pub record StandsAt (version : ℕ) (bytes : List ℕ) (x : ℕ) : Type 0 where
   pub shape : IsShaped version bytes x (value_in_bytes version bytes x)
   pub well : IsWellFormedCertValue version (value_in_bytes version bytes x)
   pub inside : x < length bytes
-  pub within : place_after_value bytes x ≤ length bytes
-  pub end : value_at version (place_in_bytes bytes x) ≡ Ok (value_in_bytes version bytes x, place_in_bytes bytes (place_after_value bytes x))
+  pub within : offset_after_value bytes x ≤ length bytes
+  pub end : value_at version (place_in_bytes bytes x) ≡ Ok (value_in_bytes version bytes x, place_in_bytes bytes (offset_after_value bytes x))
 
-pub stands_at : (version : ℕ) (bytes : List ℕ) (x : ℕ) → Small bytes → HasValueInBytes version bytes x → StandsAt version bytes x
+pub stands_at : (version : ℕ) (bytes : List ℕ) (x : ℕ) → Small bytes → ValueBeginsAt version bytes x → StandsAt version bytes x
 stands_at version bytes x small h =
     let v = h.0.0 in
     let s = value_stands version bytes x v h.0.1 small h.2 h.1 in
@@ -165,14 +165,14 @@ span_exact version v w lo last s same well ok e =
 -- ---- values in a row
 pub length-values_in : (version : ℕ) (bytes : List ℕ) (place n : ℕ) → length (values_in_bytes version bytes place n) ≡ n
 length-values_in version bytes place zero = refl
-length-values_in version bytes place (suc n) = ap suc (length-values_in version bytes (place_after_value bytes place) n)
+length-values_in version bytes place (suc n) = ap suc (length-values_in version bytes (offset_after_value bytes place) n)
 
 -- the first of those that are left
-pub left_first : (version : ℕ) (bytes : List ℕ) (at n i : ℕ) (vs : List Val) → i < n → length vs ≡ n → HaveValuesInBytes version bytes at (n - i) → drop i vs ≡ values_in_bytes version bytes at (n - i)
-    → HasValueInBytes version bytes at × HaveValuesInBytes version bytes (place_after_value bytes at) (n - (i + 1)) × (get_or vs i any_val ≡ value_in_bytes version bytes at) × (drop (i + 1) vs ≡ values_in_bytes version bytes (place_after_value bytes at) (n - (i + 1)))
+pub left_first : (version : ℕ) (bytes : List ℕ) (at n i : ℕ) (vs : List Val) → i < n → length vs ≡ n → ValuesBeginAt version bytes at (n - i) → drop i vs ≡ values_in_bytes version bytes at (n - i)
+    → ValueBeginsAt version bytes at × ValuesBeginAt version bytes (offset_after_value bytes at) (n - (i + 1)) × (get_or vs i any_val ≡ value_in_bytes version bytes at) × (drop (i + 1) vs ≡ values_in_bytes version bytes (offset_after_value bytes at) (n - (i + 1)))
 left_first version bytes at n i vs h len have same =
     let left : n - i ≡ suc (n - (i + 1)) = omega arith in
-    let now : HaveValuesInBytes version bytes at (suc (n - (i + 1))) = subst (HaveValuesInBytes version bytes at) left have in
+    let now : ValuesBeginAt version bytes at (suc (n - (i + 1))) = subst (ValuesBeginAt version bytes at) left have in
     let all : get_or vs i any_val ∷ drop (i + 1) vs ≡ values_in_bytes version bytes at (suc (n - (i + 1))) = sym (drop_more vs i any_val (omega arith)) ∙ same ∙ ap (values_in_bytes version bytes at) left in
     (now.0, now.1, ap (λ (l : List Val). get_or l 0 any_val) all, ap (drop 1) all)
 
@@ -187,7 +187,7 @@ one_value version bytes x e s =
     ∙ ap (λ (n : ℕ). Set (words_in_bytes bytes (x + 1) n)) e
     ∙ ap (λ (ws : List ℕ). Set ws) (one_word bytes (x + 1))
 
-pub one_inside : (bytes : List ℕ) (x : ℕ) → get_or bytes x 0 ≡ 1 → place_after_value bytes x ≤ length bytes → x + 1 + 4 ≤ length bytes
+pub one_inside : (bytes : List ℕ) (x : ℕ) → get_or bytes x 0 ≡ 1 → offset_after_value bytes x ≤ length bytes → x + 1 + 4 ≤ length bytes
 one_inside bytes x e h =
     let long : value_length_by_tag (get_or bytes x 0) ≡ 5 = ap value_length_by_tag e in
     omega (arith, long)

@@ -3,7 +3,7 @@ use Rattle.std.specs.Prelude.{◌≡◌, ◌≤◌, ◌<◌, ◌⊎◌, slice_in
 use Rattle.value_domain.specs.declared.values.Val.{Val}
 use Rattle.value_domain.specs.Values.{any_val, IsBelow}
 use Rattle.packed_cert.specs.declared.places.ValueRow.{ValueRow}
-use Rattle.packed_cert.specs.ValuesInBytes.{place_after_values}
+use Rattle.packed_cert.specs.ValuesInBytes.{offset_after_values}
 
 -- a register's number is before or after a row of changed values
 abbrev pub IsOutsideRow : ValueRow → ℕ → Type 0
@@ -23,15 +23,15 @@ pub record ChangesOnlyRow (before after : List Val) (row : ValueRow) : Type 0 wh
 
 -- a row of changed values, if it isn't empty, says where its first value is among the values from x
 -- on
-abbrev pub RowBeginsAtPlace : List ℕ → ℕ → ValueRow → Type 0
-RowBeginsAtPlace bytes x row = 0 < row.behind → row.from ≡ place_after_values bytes x row.first
+abbrev pub IsRowOfValuesAt : List ℕ → ℕ → ValueRow → Type 0
+IsRowOfValuesAt bytes x row = 0 < row.behind → row.from ≡ offset_after_values bytes x row.first
 
 -- a row of changed values is the whole state: it has all n values
 abbrev pub IsWholeRow : ℕ → ValueRow → Type 0
 IsWholeRow n row = (row.first ≡ 0) × (row.behind ≡ n)
 
 -- the row `more` has value number `place`, which was read last, beside the values of this row
-pub record IsRowWithReadValue (row : ValueRow) (place : ℕ) (more : ValueRow) : Type 0 where
+pub record IsRowExtendedTo (row : ValueRow) (place : ℕ) (more : ValueRow) : Type 0 where
   pub first : more.first ≤ place
   pub behind : more.behind ≡ place + 1
   pub others : (k : ℕ) → IsOutsideRow more k → IsOutsideRow row k × (k ≡ place → ⊥)

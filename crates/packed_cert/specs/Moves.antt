@@ -4,14 +4,14 @@ use Rattle.value_domain.specs.declared.states.State.{State}
 use Rattle.packed_cert.specs.declared.places.PointPlace.{PointPlace}
 use Rattle.packed_cert.specs.ChangedRows.{ChangesOnlyRow}
 use Rattle.packed_cert.specs.PointsInBytes.{state_in_bytes}
-use Rattle.packed_cert.specs.ValuesInBytes.{values_in_bytes, HaveValuesInBytes}
+use Rattle.packed_cert.specs.ValuesInBytes.{values_in_bytes, ValuesBeginAt}
 
 -- A point's state differs from the one before only in the point's row. The values from the row on
 -- are where the point says, and the whole state is the same if the point says so.
 pub record DiffersOnlyInRow (version : ℕ) (bytes : List ℕ) (before : State) (p : PointPlace) : Type 0 where
   pub row : ChangesOnlyRow before.regs (state_in_bytes version bytes p.place).regs p.row
   pub few : (p.row).behind ≤ 27
-  pub have : 0 < (p.row).behind → HaveValuesInBytes version bytes (p.row).from (27 - (p.row).first)
+  pub have : 0 < (p.row).behind → ValuesBeginAt version bytes (p.row).from (27 - (p.row).first)
   pub stand : 0 < (p.row).behind → drop (p.row).first (state_in_bytes version bytes p.place).regs ≡ values_in_bytes version bytes (p.row).from (27 - (p.row).first)
   pub same : IsTrue p.same → state_in_bytes version bytes p.place ≡ before
 

@@ -16,7 +16,7 @@ use Rattle.packed_cert.specs.declared.places.NodePlaces.{NodePlaces}
 use Rattle.packed_cert.specs.declared.places.PointPlace.{PointPlace}
 use Rattle.packed_cert.specs.declared.point_reader.ExitRoom.{ExitRoom}
 use Rattle.packed_cert.specs.ValuesInBytes.{place_in_bytes, read_from_bytes_or}
-use Rattle.packed_cert.specs.PointsInBytes.{points_in_bytes, HasStateInBytes}
+use Rattle.packed_cert.specs.PointsInBytes.{points_in_bytes, StateBeginsAt}
 use Rattle.packed_cert.specs.Moves.{AllDifferOnlyInRows}
 use Rattle.depth_cert.specs.Exits.{no_exit}
 
@@ -25,8 +25,8 @@ abbrev pub exit_in_bytes : ℕ → List ℕ → ℕ → Exit
 exit_in_bytes version bytes place = read_from_bytes_or no_exit (exit_at version (place_in_bytes bytes place))
 
 -- there is an exit at a place of a certificate's bytes
-abbrev pub HasExitInBytes : ℕ → List ℕ → ℕ → Type 0
-HasExitInBytes version bytes place = (x : Exit × Place) × (exit_at version (place_in_bytes bytes place) ≡ Ok x)
+abbrev pub ExitBeginsAt : ℕ → List ℕ → ℕ → Type 0
+ExitBeginsAt version bytes place = (x : Exit × Place) × (exit_at version (place_in_bytes bytes place) ≡ Ok x)
 
 -- an exit of a certificate is in the bytes from one place to another
 abbrev pub IsExitBetween : ℕ → Place → Place → Type 0
@@ -45,7 +45,7 @@ HasLastExit version bytes room = IfSome room.last (AreExitPlaces version bytes)
 -- what always holds of an `ExitAt`: an exit is at its place, and IE's and CCPN's bytes are inside
 pub record IsExitAt (version : ℕ) (bytes : List ℕ) (place : ℕ) : Type 0 where
   pub short : length bytes ≤ 2 ^ 30
-  pub exit : HasExitInBytes version bytes place
+  pub exit : ExitBeginsAt version bytes place
   pub room : place + 2 ≤ length bytes
 
 -- the node with this key and need, an exit at this place, if any, and points at these places
@@ -56,8 +56,8 @@ node_of_fields version bytes key need exit points = record { key = key; need = n
 pub record IsNodeAt (version : ℕ) (bytes : List ℕ) (exit_place : Option ℕ) (points : List PointPlace) : Type 0 where
   pub short : length bytes ≤ 2 ^ 30
   pub rising : IsStrictlyIncreasing (map (λ p. p.addr) points)
-  pub states : All (λ p. HasStateInBytes version bytes p.place) points
-  pub exit : IfSome exit_place (HasExitInBytes version bytes)
+  pub states : All (λ p. StateBeginsAt version bytes p.place) points
+  pub exit : IfSome exit_place (ExitBeginsAt version bytes)
   pub moves : AllDifferOnlyInRows version bytes points
 
 -- the node of a certificate that has these places in the bytes

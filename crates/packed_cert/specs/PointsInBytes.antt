@@ -17,8 +17,8 @@ abbrev pub state_in_bytes : ℕ → List ℕ → ℕ → State
 state_in_bytes version bytes place = read_from_bytes_or no_state (state_at version (place_in_bytes bytes place))
 
 -- there is a state at a place of a certificate's bytes
-abbrev pub HasStateInBytes : ℕ → List ℕ → ℕ → Type 0
-HasStateInBytes version bytes place = (x : State × Place) × (state_at version (place_in_bytes bytes place) ≡ Ok x)
+abbrev pub StateBeginsAt : ℕ → List ℕ → ℕ → Type 0
+StateBeginsAt version bytes place = (x : State × Place) × (state_at version (place_in_bytes bytes place) ≡ Ok x)
 
 -- the point whose address and place of its state are given, with the state decoded
 abbrev pub point_in_bytes : ℕ → List ℕ → PointPlace → Point
@@ -30,7 +30,7 @@ points_in_bytes version bytes ps = map (point_in_bytes version bytes) ps
 
 -- the state of each of these points begins at its offset in a certificate's bytes
 abbrev pub PointsHaveStates : ℕ → List ℕ → List PointPlace → Type 0
-PointsHaveStates version bytes ps = All (λ p. HasStateInBytes version bytes p.place) ps
+PointsHaveStates version bytes ps = All (λ p. StateBeginsAt version bytes p.place) ps
 
 -- the points are in ascending order of their addresses
 abbrev pub AscendByAddress : List PointPlace → Type 0
@@ -53,7 +53,7 @@ HasLastState version bytes room = IfSome room.last (AreStatePlaces version bytes
 
 -- what always holds of a `StateAt`: a state is at its place, and the flags of its locals are inside
 pub record IsStateAt (version : ℕ) (bytes : List ℕ) (place : ℕ) : Type 0 where
-  pub state : HasStateInBytes version bytes place
+  pub state : StateBeginsAt version bytes place
   pub room : place + 4 + slice_index bytes (place + 3) ≤ length bytes
 
 -- n truth values that the bytes have from a place on, a byte each, as a point's state has its

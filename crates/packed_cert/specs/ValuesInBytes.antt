@@ -27,36 +27,36 @@ abbrev pub value_in_bytes : ℕ → List ℕ → ℕ → Val
 value_in_bytes version bytes place = read_from_bytes_or any_val (value_at version (place_in_bytes bytes place))
 
 -- there is an abstract value at a place of a certificate's bytes
-abbrev pub HasValueInBytes : ℕ → List ℕ → ℕ → Type 0
-HasValueInBytes version bytes place = (x : Val × Place) × (value_at version (place_in_bytes bytes place) ≡ Ok x) × (place ≤ length bytes)
+abbrev pub ValueBeginsAt : ℕ → List ℕ → ℕ → Type 0
+ValueBeginsAt version bytes place = (x : Val × Place) × (value_at version (place_in_bytes bytes place) ≡ Ok x) × (place ≤ length bytes)
 
 -- the number of bytes that a value has, by the first of them
 abbrev pub value_length_by_tag : ℕ → ℕ
 value_length_by_tag tag = if tag == 0 then 1 else if nat_le tag 128 then 1 + 4 * tag else 9
 
 -- the place after a value in a certificate's bytes
-abbrev pub place_after_value : List ℕ → ℕ → ℕ
-place_after_value bytes place = place + value_length_by_tag (slice_index bytes place)
+abbrev pub offset_after_value : List ℕ → ℕ → ℕ
+offset_after_value bytes place = place + value_length_by_tag (slice_index bytes place)
 
 -- the n abstract values that a certificate's bytes have from a place on
 abbrev pub values_in_bytes : ℕ → List ℕ → ℕ → ℕ → List Val
 values_in_bytes version bytes place zero = []
-values_in_bytes version bytes place (suc n) = value_in_bytes version bytes place ∷ values_in_bytes version bytes (place_after_value bytes place) n
+values_in_bytes version bytes place (suc n) = value_in_bytes version bytes place ∷ values_in_bytes version bytes (offset_after_value bytes place) n
 
 -- a certificate's bytes have n abstract values from a place on
-abbrev pub HaveValuesInBytes : ℕ → List ℕ → ℕ → ℕ → Type 0
-HaveValuesInBytes version bytes place zero = Unit {0}
-HaveValuesInBytes version bytes place (suc n) = HasValueInBytes version bytes place × HaveValuesInBytes version bytes (place_after_value bytes place) n
+abbrev pub ValuesBeginAt : ℕ → List ℕ → ℕ → ℕ → Type 0
+ValuesBeginAt version bytes place zero = Unit {0}
+ValuesBeginAt version bytes place (suc n) = ValueBeginsAt version bytes place × ValuesBeginAt version bytes (offset_after_value bytes place) n
 
 -- the place after n values that a certificate's bytes have one after another from a place on
-abbrev pub place_after_values : List ℕ → ℕ → ℕ → ℕ
-place_after_values bytes place zero = place
-place_after_values bytes place (suc n) = place_after_values bytes (place_after_value bytes place) n
+abbrev pub offset_after_values : List ℕ → ℕ → ℕ → ℕ
+offset_after_values bytes place zero = place
+offset_after_values bytes place (suc n) = offset_after_values bytes (offset_after_value bytes place) n
 
 -- these values are in a certificate's bytes, one after another, from one place to another
 abbrev pub AreValuesBetween : ℕ → List ℕ → ℕ → List Val → ℕ → Type 0
 AreValuesBetween version bytes place [] end = place ≡ end
-AreValuesBetween version bytes place (v ∷ vs) end = (value_at version (place_in_bytes bytes place) ≡ Ok (v, place_in_bytes bytes (place_after_value bytes place))) × AreValuesBetween version bytes (place_after_value bytes place) vs end
+AreValuesBetween version bytes place (v ∷ vs) end = (value_at version (place_in_bytes bytes place) ≡ Ok (v, place_in_bytes bytes (offset_after_value bytes place))) × AreValuesBetween version bytes (offset_after_value bytes place) vs end
 
 -- these values are in a certificate's bytes, one after another, from place x, which isn't past
 -- their end, to another
@@ -73,8 +73,8 @@ decoded_values v n = values_in_bytes v.version v.bytes.now v.place n
 
 -- an abstract value begins at the offset of v
 abbrev pub PointsToValue : ValuesAt → Type 0
-PointsToValue v = HasValueInBytes v.version v.bytes.now v.place
+PointsToValue v = ValueBeginsAt v.version v.bytes.now v.place
 
 -- n abstract values begin at the offset of v
 abbrev pub PointsToValues : ValuesAt → ℕ → Type 0
-PointsToValues v n = HaveValuesInBytes v.version v.bytes.now v.place n
+PointsToValues v n = ValuesBeginAt v.version v.bytes.now v.place n

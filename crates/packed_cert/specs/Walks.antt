@@ -10,7 +10,7 @@ use Rattle.depth_cert.specs.declared.points.Point.{Point}
 use Rattle.depth_cert.specs.Points.{find_point}
 use Rattle.packed_cert.specs.declared.places.PointPlace.{PointPlace}
 use Rattle.packed_cert.specs.declared.places.ValueRow.{ValueRow}
-use Rattle.packed_cert.specs.PointsInBytes.{HasStateInBytes}
+use Rattle.packed_cert.specs.PointsInBytes.{StateBeginsAt}
 use Rattle.packed_cert.specs.Moves.{IsStateBefore, AllDifferOnlyInRows}
 
 -- a walk over a node's points: all of them, the state at hand, its values that the last step may
@@ -49,7 +49,7 @@ IsCoveredAt w addr = IsSomeAnd (find_point addr w.points) (λ p. Covers p.state 
 -- what always holds of a walk: states are at their places, each point shares what it says with the
 -- state before it, and the state at hand is the one before the next point
 pub record IsWalk (version : ℕ) (bytes : List ℕ) (points : List PointPlace) (next : ℕ) (read : ValueRow) (state : State) : Type 0 where
-  pub states : All (λ p. HasStateInBytes version bytes p.place) points
+  pub states : All (λ p. StateBeginsAt version bytes p.place) points
   pub rising : IsStrictlyIncreasing (map (λ p. p.addr) points)
   pub moves : AllDifferOnlyInRows version bytes points
   pub within : next ≤ length points

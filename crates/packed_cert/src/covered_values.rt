@@ -3,10 +3,10 @@ ghost use Rattle.std.specs.Prelude.{◌≡◌, ◌≤◌, ◌<◌, ◌↔◌, Is
 ghost use Rattle.value_domain.specs.Values.{any_val, IsBelow, IsWellFormed};
 ghost use Rattle.value_domain.specs.State.{AreBelow, AreWellFormed};
 ghost use Rattle.packed_cert.specs.ToCover.{values_to_cover};
-ghost use Rattle.packed_cert.specs.ValuesInBytes.{values_in_bytes, HaveValuesInBytes, value_in_bytes, HasValueInBytes, words_in_bytes, decoded_value, PointsToValue};
+ghost use Rattle.packed_cert.specs.ValuesInBytes.{values_in_bytes, ValuesBeginAt, value_in_bytes, ValueBeginsAt, words_in_bytes, decoded_value, PointsToValue};
 ghost use Rattle.tcd_base.specs.Bytes.{word_in_bytes};
 ghost use Rattle.value_domain.specs.declared.values.Val.{Val};
-ghost use Rattle.value_domain.specs.Sets.{IsAscending, Within};
+ghost use Rattle.value_domain.specs.Sets.{IsAscending, AreAmong};
 
 use crate::certs::cert_bytes_below_256;
 use crate::restored_values::ValuesAt;
@@ -39,7 +39,7 @@ pub(crate) fn are_values_covered_at(
 ) -> bool
     requires count { length (values_to_cover values.now) ≡ n }
     requires well { AreWellFormed (values_to_cover values.now) }
-    requires stand { HaveValuesInBytes version bytes.now place n }
+    requires stand { ValuesBeginAt version bytes.now place n }
     ensures { IsTrue result
         ↔ AreBelow (values_to_cover values.now) (values_in_bytes version bytes.now place n) }
 {
@@ -72,7 +72,7 @@ pub(crate) fn is_encoded_value_below(low: ValuesAt<'_>, high: ValuesAt<'_>) -> b
 /// Returns true if an abstract value is below the Span at a place of a certificate's bytes.
 pub(crate) fn is_below_span_at(v: &Val, bytes: &[u8], version: u8, place: usize) -> bool
     requires well { IsWellFormed v.now }
-    requires stands { HasValueInBytes version bytes.now place }
+    requires stands { ValueBeginsAt version bytes.now place }
     requires span { 128 < slice_index bytes.now place }
     ensures { IsTrue result ↔ IsBelow v.now (value_in_bytes version bytes.now place) }
 {
@@ -92,7 +92,7 @@ pub(crate) fn are_words_in_set_at(own: &[u32], bytes: &[u8], place: usize, n: us
     requires within { place + 4 * n ≤ length bytes.now }
     requires own { IsAscending own.now }
     requires words { IsAscending (words_in_bytes bytes.now place n) }
-    ensures { IsTrue result ↔ Within own.now (words_in_bytes bytes.now place n) }
+    ensures { IsTrue result ↔ AreAmong own.now (words_in_bytes bytes.now place n) }
 {
     let mut k = 0;
     for x in own {
@@ -110,7 +110,7 @@ pub(crate) fn are_words_in_set_at(own: &[u32], bytes: &[u8], place: usize, n: us
 #[inline(never)]
 pub(crate) fn is_below_decoded_value(v: &Val, bytes: &[u8], version: u8, place: usize) -> bool
     requires well { IsWellFormed v.now }
-    requires stands { HasValueInBytes version bytes.now place }
+    requires stands { ValueBeginsAt version bytes.now place }
     ensures { IsTrue result ↔ IsBelow v.now (value_in_bytes version bytes.now place) }
 {
     leq(v, &value_at_offset(bytes, version, place))

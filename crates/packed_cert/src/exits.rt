@@ -1,6 +1,6 @@
 // The type `ExitAt`: an exit that stays in the bytes of its certificate.
 ghost use Rattle.std.specs.Prelude.{◌≡◌, ◌≤◌, ◌^◌, ◌↔◌, IsTrue, length, Ok, Err, OnOk, IfOk, IfErr, IfSome};
-ghost use Rattle.packed_cert.specs.NodesInBytes.{exit_in_bytes, HasExitInBytes, HasLastExit};
+ghost use Rattle.packed_cert.specs.NodesInBytes.{exit_in_bytes, ExitBeginsAt, HasLastExit};
 ghost use Rattle.std.specs.Option.{option_map};
 ghost use Rattle.depth_cert.specs.Grammar.{optional_exit_at, exit_at};
 
@@ -43,7 +43,7 @@ impl<'a> ExitAt<'a> {
     /// Returns the exit of a certificate's node at a place of the bytes.
     pub(crate) fn new(bytes: &'a [u8], version: u8, place: usize) -> ExitAt<'a>
         requires short { length bytes.now ≤ 2 ^ 30 }
-        requires exit { HasExitInBytes version bytes.now place }
+        requires exit { ExitBeginsAt version bytes.now place }
         ensures { result ≡ exit_in_bytes version bytes.now place }
     {
         ExitAt {
@@ -139,7 +139,7 @@ pub(crate) fn read_optional_exit(
         optional_exit_at version kind c.old
         ≡ Ok (option_map (exit_in_bytes version bytes.now) e, c.new)) }
     ensures err { IfErr result (λ e. optional_exit_at version kind c.old ≡ Err e) }
-    ensures exit { IfOk result (λ e. IfSome e (HasExitInBytes version bytes.now)) }
+    ensures exit { IfOk result (λ e. IfSome e (ExitBeginsAt version bytes.now)) }
     ensures last { OnOk result (HasLastExit version bytes.now room.new) }
     ensures bytes { c.new.bytes ≡ c.old.bytes }
 {
@@ -162,7 +162,7 @@ pub(crate) fn read_or_skip_exit(
     ensures ok { IfOk result (λ p.
         exit_at version c.old ≡ Ok (exit_in_bytes version bytes.now p, c.new)) }
     ensures err { IfErr result (λ e. exit_at version c.old ≡ Err e) }
-    ensures exit { IfOk result (HasExitInBytes version bytes.now) }
+    ensures exit { IfOk result (ExitBeginsAt version bytes.now) }
     ensures last { OnOk result (HasLastExit version bytes.now room.new) }
     ensures bytes { c.new.bytes ≡ c.old.bytes }
 {

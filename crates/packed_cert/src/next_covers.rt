@@ -5,7 +5,7 @@ ghost use Rattle.std.specs.Prelude.{◌≡◌, ◌<◌, ◌-◌, ℕ, IsTrue, So
 ghost use Rattle.value_domain.specs.State.{AreWellFormed, Covers};
 ghost use Rattle.vd_transfer.specs.Changes.{state_after};
 ghost use Rattle.vd_transfer.specs.declared.change.Base.TheVariants.{Same};
-ghost use Rattle.packed_cert.specs.PointsInBytes.{state_in_bytes, HasStateInBytes};
+ghost use Rattle.packed_cert.specs.PointsInBytes.{state_in_bytes, StateBeginsAt};
 ghost use Rattle.packed_cert.specs.Moves.{DiffersOnlyInRow};
 ghost use Rattle.packed_cert.specs.ToCover.{IsChangedValueBelow};
 ghost use Rattle.packed_cert.specs.ChangedRows.{AreBelowInRow, IsOutsideRow};
@@ -77,7 +77,7 @@ pub(crate) fn is_covered_by_next_point(
     requires base { c.now.base ≡ Same }
     requires hand { AreWellFormed s.now.regs }
     requires well { AreWellFormed (state_after s.now c.now).regs }
-    requires state { HasStateInBytes version bytes.now point.place }
+    requires state { StateBeginsAt version bytes.now point.place }
     requires moved { DiffersOnlyInRow version bytes.now s.now point }
     ensures { IsTrue result
         → Covers (state_in_bytes version bytes.now point.place) (state_after s.now c.now) }

@@ -2,7 +2,7 @@
 ghost use Rattle.std.specs.Prelude.{◌≡◌, ◌≤◌, ◌+◌, ◌^◌, length, map, Ok, OnOk, IfOk, IfErr};
 ghost use Rattle.std.specs.List.{All};
 ghost use Rattle.depth_cert.specs.Answers.{IsFaultOf};
-ghost use Rattle.depth_cert.specs.Grammar.{node_after, last_number_read};
+ghost use Rattle.depth_cert.specs.Grammar.{node_after, last_number};
 ghost use Rattle.depth_cert.specs.Nodes.{count_points};
 ghost use Rattle.packed_cert.specs.NodesInBytes.{node_in_bytes, nodes_in_bytes, AreNodePlaces, HasLastExit};
 ghost use Rattle.packed_cert.specs.PointsInBytes.{HasLastState};
@@ -61,7 +61,7 @@ pub(crate) fn read_node(
 /// Returns the number of the key that the reader of nodes read last, which the next key's number
 /// must be above; `None` if no node was read.
 fn last_key_number(nodes: &[NodePlaces]) -> Option<u64>
-    ensures { result ≡ last_number_read (map (λ n. n.number) nodes.now) }
+    ensures { result ≡ last_number (map (λ n. n.number) nodes.now) }
 {
     match nodes.last() {
         None => None,

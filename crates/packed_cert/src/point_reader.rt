@@ -7,7 +7,7 @@ ghost use Rattle.std.specs.Prelude.{◌≡◌, ◌≤◌, ◌<◌, ◌+◌, ◌-
 ghost use Rattle.depth_cert.specs.Grammar.{state_at, points_at};
 ghost use Rattle.depth_cert.specs.Answers.{IsFaultOf};
 ghost use Rattle.packed_cert.specs.ValuesInBytes.{AreValuesInBytes};
-ghost use Rattle.packed_cert.specs.ChangedRows.{ChangesOnlyRow, RowBeginsAtPlace, IsWholeRow};
+ghost use Rattle.packed_cert.specs.ChangedRows.{ChangesOnlyRow, IsRowOfValuesAt, IsWholeRow};
 ghost use Rattle.packed_cert.specs.PointsInBytes.{AreStatePlaces, AscendByAddress, HasLastState, PointsHaveStates, points_in_bytes};
 ghost use Rattle.packed_cert.specs.RepeatedBytes.{IsRepeatedStateAt};
 ghost use Rattle.packed_cert.specs.Moves.{AllDifferOnlyInRows};
@@ -116,7 +116,7 @@ pub(crate) fn read_or_skip_state(
     ensures err { IfErr result (λ e. state_at version c.old ≡ Err e) }
     ensures held { IfOk result (λ r. AreStatePlaces version bytes.now out.new r.at) }
     ensures row { IfOk result (λ r. ChangesOnlyRow out.old.regs out.new.regs r.row) }
-    ensures from { IfOk result (λ r. RowBeginsAtPlace bytes.now r.at.values r.row) }
+    ensures from { IfOk result (λ r. IsRowOfValuesAt bytes.now r.at.values r.row) }
     ensures again { IfOk result (λ r. IsTrue r.same → out.new ≡ out.old) }
     ensures bytes { c.new.bytes ≡ c.old.bytes }
 {
@@ -154,7 +154,7 @@ pub(crate) fn read_state_fields(
     ensures held { IfOk result
         (λ r. AreValuesInBytes version bytes.now out.new.regs r.0 c.new.place) }
     ensures row { IfOk result (λ r. ChangesOnlyRow out.old.regs out.new.regs r.1) }
-    ensures from { IfOk result (λ r. RowBeginsAtPlace bytes.now r.0 r.1) }
+    ensures from { IfOk result (λ r. IsRowOfValuesAt bytes.now r.0 r.1) }
     ensures bytes { c.new.bytes ≡ c.old.bytes }
 {
     let start = c.place();
@@ -183,7 +183,7 @@ pub(crate) fn read_changed_state(
     ensures err { IfErr result (λ e. state_at version c.old ≡ Err e) }
     ensures held { IfOk result (λ r. AreStatePlaces version bytes.now out.new r.at) }
     ensures row { IfOk result (λ r. ChangesOnlyRow out.old.regs out.new.regs r.row) }
-    ensures from { IfOk result (λ r. RowBeginsAtPlace bytes.now r.at.values r.row) }
+    ensures from { IfOk result (λ r. IsRowOfValuesAt bytes.now r.at.values r.row) }
     ensures other { IfOk result (λ r. r.same ≡ false) }
     ensures bytes { c.new.bytes ≡ c.old.bytes }
 {
@@ -208,8 +208,8 @@ fn with_whole_row_if_first(read: ReadState, first: bool) -> ReadState
     requires { read.at.values < 2 ^ 32 }
     ensures first { IsTrue first → IsWholeRow 27 result.row × (result.same ≡ false) }
     ensures later { IsFalse first → result ≡ read }
-    ensures from { (bytes : List ℕ) → RowBeginsAtPlace bytes read.at.values read.row
-        → RowBeginsAtPlace bytes read.at.values result.row }
+    ensures from { (bytes : List ℕ) → IsRowOfValuesAt bytes read.at.values read.row
+        → IsRowOfValuesAt bytes read.at.values result.row }
 {
     if !first {
         return read;

@@ -4,7 +4,7 @@ ghost use Rattle.std.specs.Prelude.{◌≡◌, ◌<◌, ◌↔◌, if◌then◌e
 ghost use Rattle.value_domain.specs.Values.{any_val, IsBelow};
 ghost use Rattle.value_domain.specs.State.{AreWellFormed, AreBelow, is_lower_slot};
 ghost use Rattle.depth_cert.specs.Exits.{values_after_return};
-ghost use Rattle.packed_cert.specs.ValuesInBytes.{place_after_value, decoded_value, decoded_values, PointsToValue, PointsToValues};
+ghost use Rattle.packed_cert.specs.ValuesInBytes.{offset_after_value, decoded_value, decoded_values, PointsToValue, PointsToValues};
 
 use crate::certs::cert_bytes_below_256;
 use crate::covered_values::is_encoded_value_below;
@@ -84,7 +84,7 @@ fn is_restored_below(regs: &[Val; 27], i: usize, low: ValuesAt<'_>, high: Values
 fn next_exit_value_offset(i: usize, low: ValuesAt<'_>) -> usize
     requires { IsTrue (is_lower_slot i) → PointsToValue low }
     ensures { result
-        ≡ (if is_lower_slot i then place_after_value low.entry.bytes.now low.entry.place
+        ≡ (if is_lower_slot i then offset_after_value low.entry.bytes.now low.entry.place
         else low.entry.place) }
 {
     cert_bytes_below_256(low.bytes);

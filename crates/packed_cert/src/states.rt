@@ -3,8 +3,8 @@ ghost use Rattle.std.specs.Prelude.{◌≡◌, ◌≤◌, ◌+◌, ◌↔◌, �
 ghost use Rattle.value_domain.specs.State.{AreWellFormed, Covers};
 ghost use Rattle.vd_transfer.specs.Changes.{state_after};
 ghost use Rattle.depth_cert.specs.Keys.{call_kind};
-ghost use Rattle.packed_cert.specs.ValuesInBytes.{values_in_bytes, HaveValuesInBytes};
-ghost use Rattle.packed_cert.specs.PointsInBytes.{flags_in_bytes, state_in_bytes, HasStateInBytes, IsStateAt};
+ghost use Rattle.packed_cert.specs.ValuesInBytes.{values_in_bytes, ValuesBeginAt};
+ghost use Rattle.packed_cert.specs.PointsInBytes.{flags_in_bytes, state_in_bytes, StateBeginsAt, IsStateAt};
 
 use crate::covered_values::{ToCover, are_values_covered_at};
 use crate::exits::ExitAt;
@@ -38,7 +38,7 @@ impl<'a> Model for StateAt<'a> {
 impl<'a> StateAt<'a> {
     /// Returns the state of a certificate's point at a place of the bytes.
     pub(crate) fn new(bytes: &'a [u8], version: u8, place: usize) -> StateAt<'a>
-        requires { HasStateInBytes version bytes.now place }
+        requires { StateBeginsAt version bytes.now place }
         ensures { result ≡ state_in_bytes version bytes.now place }
     {
         StateAt {
@@ -184,7 +184,7 @@ fn state_locals_at(bytes: &[u8], place: usize, count: u8) -> ArrayVec<bool, 8>
 /// Returns the place of the 27 register values of the state at `place` in a certificate's bytes.
 fn offset_of_register_values(bytes: &[u8], version: u8, place: usize) -> usize
     requires { IsStateAt version bytes.now place }
-    ensures have { HaveValuesInBytes version bytes.now result 27 }
+    ensures have { ValuesBeginAt version bytes.now result 27 }
     ensures values { (state_in_bytes version bytes.now place).regs
         ≡ values_in_bytes version bytes.now result 27 }
 {

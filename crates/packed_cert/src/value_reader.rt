@@ -2,8 +2,8 @@
 // Fast path: a value whose bytes come again isn't read. Bytes are compared for many values at once.
 ghost use Rattle.std.specs.Prelude.{◌≡◌, ◌≤◌, ◌<◌, ◌+◌, ◌-◌, ℕ, List, length, Ok, Err, OnOk, IfOk, IfErr, IfSome};
 ghost use Rattle.packed_cert.specs.RepeatedBytes.{AreBytesRepeated, IsRepeatedStateAt};
-ghost use Rattle.packed_cert.specs.ValuesInBytes.{AreValuesInBytes, place_after_values, value_length_by_tag};
-ghost use Rattle.packed_cert.specs.ChangedRows.{ChangesOnlyRow, RowBeginsAtPlace, IsRowWithReadValue};
+ghost use Rattle.packed_cert.specs.ValuesInBytes.{AreValuesInBytes, offset_after_values, value_length_by_tag};
+ghost use Rattle.packed_cert.specs.ChangedRows.{ChangesOnlyRow, IsRowOfValuesAt, IsRowExtendedTo};
 ghost use Rattle.depth_cert.specs.Grammar.{values_at};
 
 use crate::places::{RepeatedState, StatePlaces, ValueRow, empty_row};
@@ -38,7 +38,7 @@ pub(crate) fn read_changed_values(
     ensures ok { OnOk result (values_at version (length out.old) c.old ≡ Ok (out.new, c.new)) }
     ensures err { IfErr result (λ e. values_at version (length out.old) c.old ≡ Err e) }
     ensures row { IfOk result (ChangesOnlyRow out.old out.new) }
-    ensures from { IfOk result (RowBeginsAtPlace bytes.now c.old.place) }
+    ensures from { IfOk result (IsRowOfValuesAt bytes.now c.old.place) }
     ensures bytes { c.new.bytes ≡ c.old.bytes }
 {
     let mut row = empty_row();
@@ -106,7 +106,7 @@ pub(crate) fn read_or_skip_values(
     ensures ok { OnOk result (values_at version (length out.old) c.old ≡ Ok (out.new, c.new)) }
     ensures err { IfErr result (λ e. values_at version (length out.old) c.old ≡ Err e) }
     ensures row { IfOk result (ChangesOnlyRow out.old out.new) }
-    ensures from { IfOk result (RowBeginsAtPlace bytes.now c.old.place) }
+    ensures from { IfOk result (IsRowOfValuesAt bytes.now c.old.place) }
     ensures bytes { c.new.bytes ≡ c.old.bytes }
 {
     if let Some(state) = before {
@@ -131,9 +131,9 @@ fn row_extended_to(row: ValueRow, i: u8, place: u32) -> ValueRow
     requires order { row.first ≤ row.behind }
     requires behind { row.behind ≤ i }
     requires number { i < 27 }
-    ensures read { IsRowWithReadValue row i result }
-    ensures from { (bytes : List ℕ) (x : ℕ) → RowBeginsAtPlace bytes x row
-        → place ≡ place_after_values bytes x i → RowBeginsAtPlace bytes x result }
+    ensures read { IsRowExtendedTo row i result }
+    ensures from { (bytes : List ℕ) (x : ℕ) → IsRowOfValuesAt bytes x row
+        → place ≡ offset_after_values bytes x i → IsRowOfValuesAt bytes x result }
 {
     if row.behind == 0 {
         return ValueRow {

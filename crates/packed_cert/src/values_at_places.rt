@@ -4,7 +4,7 @@ ghost use Rattle.value_domain.specs.declared.values.Val.{Val};
 ghost use Rattle.value_domain.specs.declared.values.Val.TheVariants.{Set};
 ghost use Rattle.value_domain.specs.Sets.{AreSetWords};
 ghost use Rattle.value_domain.specs.Values.{IsWellFormed, IsBelow, IsInLattice};
-ghost use Rattle.packed_cert.specs.ValuesInBytes.{words_in_bytes, value_in_bytes, HasValueInBytes, values_in_bytes, HaveValuesInBytes};
+ghost use Rattle.packed_cert.specs.ValuesInBytes.{words_in_bytes, value_in_bytes, ValueBeginsAt, values_in_bytes, ValuesBeginAt};
 ghost use Rattle.value_domain.specs.State.{AreInLattice};
 ghost use Rattle.tcd_base.specs.Bytes.{word_in_bytes};
 
@@ -16,7 +16,7 @@ use value_domain::{Bounds, Val, is_value, set_span, set_words, write_any};
 /// Returns true if an abstract value is below the one at a place of a certificate's bytes.
 pub(crate) fn is_below_value_at(v: &Val, bytes: &[u8], version: u8, place: usize) -> bool
     requires well { IsWellFormed v.now }
-    requires stands { HasValueInBytes version bytes.now place }
+    requires stands { ValueBeginsAt version bytes.now place }
     ensures { IsTrue result ↔ IsBelow v.now (value_in_bytes version bytes.now place) }
 {
     let tag = bytes[place];
@@ -38,7 +38,7 @@ pub(crate) fn is_below_value_at(v: &Val, bytes: &[u8], version: u8, place: usize
 /// Returns true if each of the `n` values at a place of a certificate's bytes is in the lattice of
 /// the plan and the format.
 pub(crate) fn are_values_at(b: &Bounds, bytes: &[u8], version: u8, place: usize, n: usize) -> bool
-    requires { HaveValuesInBytes version bytes.now place n }
+    requires { ValuesBeginAt version bytes.now place n }
     ensures { IsTrue result ↔ AreInLattice b.now (values_in_bytes version bytes.now place n) }
 {
     let _most_words = b.most_words();
@@ -57,7 +57,7 @@ pub(crate) fn are_values_at(b: &Bounds, bytes: &[u8], version: u8, place: usize,
 /// Decodes and returns the abstract value at a place of a certificate's bytes.
 #[inline(never)]
 pub(crate) fn value_at_offset(bytes: &[u8], version: u8, place: usize) -> Val
-    requires { HasValueInBytes version bytes.now place }
+    requires { ValueBeginsAt version bytes.now place }
     ensures { result ≡ value_in_bytes version bytes.now place }
 {
     let mut out = Val::any();
@@ -68,7 +68,7 @@ pub(crate) fn value_at_offset(bytes: &[u8], version: u8, place: usize) -> Val
 /// Reads the abstract value at a place of a certificate's bytes over `out`, without a cursor.
 /// Nothing is written if `out` is that Set of two or more words already.
 pub(crate) fn read_value_at_offset(bytes: &[u8], version: u8, place: usize, out: &mut Val)
-    requires { HasValueInBytes version bytes.now place }
+    requires { ValueBeginsAt version bytes.now place }
     ensures { out.new ≡ value_in_bytes version bytes.now place }
 {
     let tag = bytes[place];
@@ -137,7 +137,7 @@ fn is_set_of_words_at(v: &Val, bytes: &[u8], place: usize, n: usize) -> bool
 /// the format.
 #[inline(never)]
 fn is_value_at(b: &Bounds, bytes: &[u8], version: u8, place: usize) -> bool
-    requires { HasValueInBytes version bytes.now place }
+    requires { ValueBeginsAt version bytes.now place }
     ensures { IsTrue result ↔ IsInLattice b.now (value_in_bytes version bytes.now place) }
 {
     is_value(b, &value_at_offset(bytes, version, place))

@@ -1,8 +1,8 @@
 // The type `PointWalk`: the points of a node one after another, with room for one state.
 ghost use Rattle.std.specs.Prelude.{◌≡◌, ◌≤◌, ◌<◌, ◌-◌, ◌↔◌, [], drop, IfSome, IsTrue};
-ghost use Rattle.packed_cert.specs.PointsInBytes.{state_in_bytes, HasStateInBytes};
+ghost use Rattle.packed_cert.specs.PointsInBytes.{state_in_bytes, StateBeginsAt};
 ghost use Rattle.packed_cert.specs.ChangedRows.{ChangesOnlyRow};
-ghost use Rattle.packed_cert.specs.ValuesInBytes.{values_in_bytes, HaveValuesInBytes};
+ghost use Rattle.packed_cert.specs.ValuesInBytes.{values_in_bytes, ValuesBeginAt};
 ghost use Rattle.packed_cert.specs.Moves.{DiffersOnlyInRow};
 
 use crate::next_covers::is_covered_by_next_point;
@@ -169,7 +169,7 @@ impl<'a> PointWalk<'a> {
 /// Overwrites `room`, the state before a point of a certificate, with the point's state. Only
 /// values of the point's row are read. Returns that row, empty for the same state.
 fn read_state_of_point(bytes: &[u8], version: u8, point: PointPlace, room: &mut State) -> ValueRow
-    requires state { HasStateInBytes version bytes.now point.place }
+    requires state { StateBeginsAt version bytes.now point.place }
     requires moved { DiffersOnlyInRow version bytes.now room.old point }
     ensures state { room.new ≡ state_in_bytes version bytes.now point.place }
     ensures row { ChangesOnlyRow room.old.regs room.new.regs result }
@@ -194,7 +194,7 @@ fn read_row_values(bytes: &[u8], version: u8, point: PointPlace, out: &mut [Val;
         (state_in_bytes version bytes.now point.place).regs point.row }
     requires few { point.row.behind ≤ 27 }
     requires have { 0 < point.row.behind
-        → HaveValuesInBytes version bytes.now point.row.from (27 - point.row.first) }
+        → ValuesBeginAt version bytes.now point.row.from (27 - point.row.first) }
     requires stand { 0 < point.row.behind
         → drop point.row.first (state_in_bytes version bytes.now point.place).regs
         ≡ values_in_bytes version bytes.now point.row.from (27 - point.row.first) }

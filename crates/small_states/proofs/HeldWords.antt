@@ -5,7 +5,7 @@ use Rattle.std.proofs.lemmas.List.{length-drop, take_all}
 use Rattle.value_domain.specs.declared.values.Val.{Val}
 use Rattle.value_domain.specs.declared.values.Val.TheVariants.{Set, Span}
 use Rattle.value_domain.specs.Limits.{Limits}
-use Rattle.value_domain.specs.Sets.{Among, IsAscending, Within}
+use Rattle.value_domain.specs.Sets.{Among, IsAscending, AreAmong}
 use Rattle.value_domain.specs.Values.{IsMember, IsInLattice, cover, members, words_of, join_of}
 use Rattle.value_domain.proofs.CoverLaws.{cover-same}
 use Rattle.value_domain.proofs.ExtentLaws.{among_append, append_left, append_right}
@@ -67,7 +67,7 @@ set_of (Set own) words e = let same : words ≡ own = cc in ap Set (sym same)
 set_of (Span lo last step) words e = absurd cc
 
 -- words with a greater one than all of the others aren't among them
-pub past_greatest : (held words : List ℕ) → IsAscending held → 1 ≤ length words → get_or held (length held - 1) 0 < get_or words (length words - 1) 0 → Within words held → ⊥
+pub past_greatest : (held words : List ℕ) → IsAscending held → 1 ≤ length words → get_or held (length held - 1) 0 < get_or words (length words - 1) 0 → AreAmong words held → ⊥
 past_greatest held words rising some over within =
     let p = among_place held (get_or words (length words - 1) 0) (within (get_or words (length words - 1) 0) (among_get words (length words - 1) (omega arith))) in
     elim (cases_lt p.0 (length held - 1)) [
@@ -78,14 +78,14 @@ past_greatest held words rising some over within =
           omega (arith, here, over, p.2)
     ]
 
-pub all_held : (held words : List ℕ) (n : ℕ) → n ≤ length words → ((j : ℕ) → j < n → Among (get_or words j 0) held) → length words ≤ n → Within words held
+pub all_held : (held words : List ℕ) (n : ℕ) → n ≤ length words → ((j : ℕ) → j < n → Among (get_or words j 0) held) → length words ≤ n → AreAmong words held
 all_held held words n end have all z i =
     let p = among_place words z i in
     subst (λ (y : ℕ). Among y held) p.2 (have p.0 (omega (arith, p.1)))
 
 -- all of the words are held exactly if none is missing
 pub held_all : (held words : List ℕ) (n : ℕ) → n ≤ length words → ((j : ℕ) → j < n → Among (get_or words j 0) held) → (n < length words → Among (get_or words n 0) held → ⊥)
-    → IsTrue (nat_eq n (length words)) ↔ Within words held
+    → IsTrue (nat_eq n (length words)) ↔ AreAmong words held
 held_all held words n end have missing = (
   (λ t. all_held held words n end have (let e = eqb-true n (length words) t in omega (arith, e))),
   (λ within. elim (cases_lt n (length words)) [
@@ -95,7 +95,7 @@ held_all held words n end have missing = (
 )
 
 -- a set joined with some of its own words
-pub join_words : (b : Limits) (v w : Val) (held words : List ℕ) → v ≡ Set held → w ≡ Set words → Within words held → IsInLattice b v → v ≡ join_of b v w
+pub join_words : (b : Limits) (v w : Val) (held words : List ℕ) → v ≡ Set held → w ≡ Set words → AreAmong words held → IsInLattice b v → v ≡ join_of b v w
 join_words b v w held words ve we within value =
     sym
     (join_below b v w value

@@ -4,7 +4,7 @@ use Rattle.std.proofs.lemmas.Bool.{lt-ltb}
 use Rattle.std.proofs.lemmas.Bool.Decides.{nat_tests}
 use Rattle.tcd_base.specs.BitFields.{sext_of}
 use Rattle.csa_chain.specs.MemoryBytes.{load_result}
-use Rattle.value_domain.specs.Sets.{Among, Within, sorted_set_of, alignment_log2, IsExtent}
+use Rattle.value_domain.specs.Sets.{Among, AreAmong, sorted_set_of, alignment_log2, IsExtent}
 use Rattle.value_domain.specs.Limits.{Limits, AreLimits}
 use Rattle.value_domain.specs.declared.values.Val.{Val}
 use Rattle.value_domain.specs.declared.values.Val.TheVariants.{Span}
@@ -69,7 +69,7 @@ extended_le size x (inr (inr e)) le = let l : x ≤ 2 ^ 32 - 1 = rw e at le in r
 
 module _ (size : ℕ) (is : IsAccessSize size) where
   -- 129 of the signed words
-  some_signed : Within ((2 ^ 32 - 1) ∷ multiples_in_range 0 127 0) (all_loaded_words size true)
+  some_signed : AreAmong ((2 ^ 32 - 1) ∷ multiples_in_range 0 127 0) (all_loaded_words size true)
   some_signed z i =
       elim i [
         | inl e ↦

@@ -12,7 +12,7 @@ use Rattle.tcd_base.specs.Ranges.{IsWithinRange, IsInOneRange, is_within_range}
 use Rattle.tcd_plan.specs.MappedAddresses.{IsInDevice}
 use Rattle.value_domain.specs.declared.values.Val.{Val}
 use Rattle.value_domain.specs.declared.values.Val.TheVariants.{Set, Span}
-use Rattle.value_domain.specs.Sets.{Among, Within}
+use Rattle.value_domain.specs.Sets.{Among, AreAmong}
 use Rattle.value_domain.specs.Limits.{Limits}
 use Rattle.value_domain.specs.Values.{IsInLattice, IsBelow, multiples_in_range}
 use Rattle.value_domain.proofs.SetLaws.{distinct-rising, length-distinct}
@@ -71,7 +71,7 @@ module _ (plan : PlanData) (ok : IsPlan plan) where
       ]
 
   -- what a peripheral may answer is a word
-  answers_within : (size : ℕ) (signed : Bool) (xs : List ℕ) (o : Option Device) → device_of_loads plan size xs ≡ o → Within (answers_to_load size signed o) (all_loaded_words size signed)
+  answers_within : (size : ℕ) (signed : Bool) (xs : List ℕ) (o : Option Device) → device_of_loads plan size xs ≡ o → AreAmong (answers_to_load size signed o) (all_loaded_words size signed)
   answers_within size signed xs None e z i = i
   answers_within size signed xs (Some d) e z i =
       let found = only_words size xs d e in
@@ -82,7 +82,7 @@ module _ (plan : PlanData) (ok : IsPlan plan) where
       subst (λ n. Among z (all_loaded_words n signed)) (sym found.0) (subst (λ (y : ℕ). Among y (all_loaded_words 4 signed)) (extended-word signed z small) (anything_has 4 signed z small))
 
   given_within : (image : ImageData) → HasImageBytes image → (size : ℕ) (signed : Bool) (x : ℕ) (o : Option ℕ) → rom_number image plan x size ≡ o
-      → Within (loaded_word_or_answers size signed (device_of_loads plan size (x ∷ [])) o) (all_loaded_words size signed)
+      → AreAmong (loaded_word_or_answers size signed (device_of_loads plan size (x ∷ [])) o) (all_loaded_words size signed)
   given_within image bytes size signed x None e z i = answers_within size signed (x ∷ []) (device_of_loads plan size (x ∷ [])) refl z i
   given_within image bytes size signed x (Some w) e z i =
       elim i [
@@ -125,7 +125,7 @@ found_fewer p q x rest (c ∷ ds) d apart narrow at e =
     ]
 
 module _ (plan : PlanData) (ok : IsPlan plan) where
-  device_fewer : (size : ℕ) (xs ys : List ℕ) (d : Device) (x : ℕ) → Among x xs → Within xs ys → device_of_loads plan size ys ≡ Some d → device_of_loads plan size xs ≡ Some d
+  device_fewer : (size : ℕ) (xs ys : List ℕ) (d : Device) (x : ℕ) → Among x xs → AreAmong xs ys → device_of_loads plan size ys ≡ Some d → device_of_loads plan size xs ≡ Some d
   device_fewer size xs ys d x i there e =
       let found = only_words plan ok size ys d e in
       let devices = map (λ d. d.range) plan.devices in
@@ -156,7 +156,7 @@ module _ (plan : PlanData) (ok : IsPlan plan) where
 
   module _ (image : ImageData) (bytes : HasImageBytes image) (size : ℕ) (signed : Bool) where
     -- what an address gives is among what a Span that has it gives
-    given_answers : (x : ℕ) (ys : List ℕ) (o : Option Device) → Among x ys → device_of_loads plan size ys ≡ o → Within (loaded_words_at image plan size signed x) (answers_to_load size signed o)
+    given_answers : (x : ℕ) (ys : List ℕ) (o : Option Device) → Among x ys → device_of_loads plan size ys ≡ o → AreAmong (loaded_words_at image plan size signed x) (answers_to_load size signed o)
     given_answers x ys None i e z j = given_within plan ok image bytes size signed x (rom_number image plan x size) refl z j
     given_answers x ys (Some d) i e z j =
         let rom = no_rom image size x ys d i e in
@@ -164,7 +164,7 @@ module _ (plan : PlanData) (ok : IsPlan plan) where
         let at_rom : Among z (loaded_word_or_answers size signed (device_of_loads plan size (x ∷ [])) None) = subst (λ (n : Option ℕ). Among z (loaded_word_or_answers size signed (device_of_loads plan size (x ∷ [])) n)) rom j in
         subst (λ (n : Option Device). Among z (answers_to_load size signed n)) device at_rom
 
-    answers_answers : (xs ys : List ℕ) (x : ℕ) (o : Option Device) → Among x xs → Within xs ys → device_of_loads plan size ys ≡ o → Within (answers_to_load size signed (device_of_loads plan size xs)) (answers_to_load size signed o)
+    answers_answers : (xs ys : List ℕ) (x : ℕ) (o : Option Device) → Among x xs → AreAmong xs ys → device_of_loads plan size ys ≡ o → AreAmong (answers_to_load size signed (device_of_loads plan size xs)) (answers_to_load size signed o)
     answers_answers xs ys x None i there e z j = answers_within plan ok size signed xs (device_of_loads plan size xs) refl z j
     answers_answers xs ys x (Some d) i there e z j = subst (λ (n : Option Device). Among z (answers_to_load size signed n)) (device_fewer size xs ys d x i there e) j
 

@@ -20,7 +20,7 @@ use Rattle.value_domain.specs.Limits.{Limits}
 use Rattle.value_domain.specs.Values.{IsWellFormed, cover, members, multiples_in_range}
 use Rattle.value_domain.proofs.CoverLaws.{cover_holds, among_range, among_member, has_step}
 use Rattle.tcd_base.proofs.RangeLaws.{in_one, IsInOne-front, IsInOne-behind, within_true}
-use Rattle.store_ranges.specs.Loads.{HoldsLoads, answers_to_load, device_of_loads, loaded_words_at, number_in_image, loaded_word_or_answers, rom_number}
+use Rattle.store_ranges.specs.Loads.{HoldsLoadedWords, answers_to_load, device_of_loads, loaded_words_at, number_in_image, loaded_word_or_answers, rom_number}
 use Rattle.store_ranges.proofs.Covers.{anything_has}
 use Rattle.store_ranges.proofs.Finds.{found_all, found_true, found_device}
 use Rattle.store_ranges.proofs.LoadLaws.{all_at, among_flat}
@@ -181,12 +181,12 @@ module _ (image : ImageData) (plan : PlanData) (ok : IsPlan plan) (mem : Memory)
         | inr f ↦ absurd (let g : None ≡ Some w = rw f at e in cc)
       ]
 
-pub set_sound : (b : Limits) (image : ImageData) (plan : PlanData) (ws : List ℕ) (size : ℕ) (signed : Bool) → IsPlan plan → HoldsLoads image plan (Set ws) size signed (cover b (flat_map (loaded_words_at image plan size signed) ws))
+pub set_sound : (b : Limits) (image : ImageData) (plan : PlanData) (ws : List ℕ) (size : ℕ) (signed : Bool) → IsPlan plan → HoldsLoadedWords image plan (Set ws) size signed (cover b (flat_map (loaded_words_at image plan size signed) ws))
 set_sound b image plan ws size signed ok mem x input bytes memory rom small answer i =
     cover_holds b (flat_map (loaded_words_at image plan size signed) ws) _
     (among_flat (loaded_words_at image plan size signed) x _ ws i (given_has image plan ok mem bytes memory rom input x size signed (rom_number image plan x size) small answer refl))
 
-pub span_sound : (b : Limits) (image : ImageData) (plan : PlanData) (v : Val) (size : ℕ) (signed : Bool) → IsPlan plan → IsWellFormed v → HoldsLoads image plan v size signed (cover b (answers_to_load size signed (device_of_loads plan size (members v))))
+pub span_sound : (b : Limits) (image : ImageData) (plan : PlanData) (v : Val) (size : ℕ) (signed : Bool) → IsPlan plan → IsWellFormed v → HoldsLoadedWords image plan v size signed (cover b (answers_to_load size signed (device_of_loads plan size (members v))))
 span_sound b image plan v size signed ok well mem x input bytes memory rom small answer m =
     cover_holds b (answers_to_load size signed (device_of_loads plan size (members v))) _
     (answers_has image plan ok mem bytes memory rom input x size signed (members v) (device_of_loads plan size (members v)) small answer (among_member v x (has_step v well) m) refl)

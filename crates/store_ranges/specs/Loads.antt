@@ -64,7 +64,7 @@ load_value_of b image plan (Span lo last step) size signed = cover b (answers_to
 
 -- the value v holds each word that a load from a member of `at` gives, in the plan's memory with
 -- the image's bytes in rom, and with a peripheral's input within its bounds
-abbrev pub HoldsLoads : ImageData → PlanData → Val → ℕ → Bool → Val → Type 0
-HoldsLoads image plan at size signed v =
+abbrev pub HoldsLoadedWords : ImageData → PlanData → Val → ℕ → Bool → Val → Type 0
+HoldsLoadedWords image plan at size signed v =
     (mem : Memory) (x input : ℕ) → HasOnlyBytes mem → IsPlanMemory plan mem → HoldsRom image plan mem → input < 2 ^ 32
     → MayAnswerLoad plan input (Some (x, size)) → IsMember x at → IsMember (load_result signed size (loaded_number mem input x size)) v

@@ -5,7 +5,7 @@ ghost use Rattle.csa_chain.specs.MemoryBytes.{load_result};
 ghost use Rattle.value_domain.specs.Values.{IsInLattice, cover, members};
 ghost use Rattle.value_domain.specs.declared.values.Val.TheVariants.{Set, Span};
 ghost use Rattle.store_ranges.specs.Accesses.{IsAccessSize};
-ghost use Rattle.store_ranges.specs.Loads.{HoldsLoads, all_loaded_words, answers_to_load, device_of_loads, first_device_holding, loaded_words_at, load_value_of};
+ghost use Rattle.store_ranges.specs.Loads.{HoldsLoadedWords, all_loaded_words, answers_to_load, device_of_loads, first_device_holding, loaded_words_at, load_value_of};
 
 use crate::ranges::device_of_accesses;
 use crate::rom::rom_number;
@@ -31,7 +31,7 @@ pub fn load_of(b: &Bounds, image: &Image, plan: &Plan, at: &Val, size: u8, signe
     requires size { IsAccessSize size }
     ensures loaded { result ≡ load_value_of b.now image.now plan.now at.now size signed }
     ensures value { IsInLattice b.now result }
-    ensures sound { HoldsLoads image.now plan.now at.now size signed result }
+    ensures sound { HoldsLoadedWords image.now plan.now at.now size signed result }
 {
     let mut out = Val::any();
     write_load(b, image, plan, at, LoadKind { size, signed }, &mut out);
@@ -45,7 +45,7 @@ pub fn write_load(b: &Bounds, image: &Image, plan: &Plan, at: &Val, load: LoadKi
     requires size { IsAccessSize load.size }
     ensures loaded { out.new ≡ load_value_of b.now image.now plan.now at.now load.size load.signed }
     ensures value { IsInLattice b.now out.new }
-    ensures sound { HoldsLoads image.now plan.now at.now load.size load.signed out.new }
+    ensures sound { HoldsLoadedWords image.now plan.now at.now load.size load.signed out.new }
 {
     // Reading the plan gives the facts that hold of every plan.
     let _areas = plan.areas;

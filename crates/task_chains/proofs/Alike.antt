@@ -16,7 +16,7 @@ use Rattle.tc_machine.specs.declared.events.Event.{Event}
 use Rattle.tc_machine.specs.declared.events.End.TheVariants.{Running}
 use Rattle.tc_machine.specs.declared.state.Machine.{Machine}
 use Rattle.tc_machine.specs.Machine.{if_running, IsMachine}
-use Rattle.tc_machine.specs.Instructions.{wrapping_sum, target_of, does}
+use Rattle.tc_machine.specs.Instructions.{wrapping_sum, target_address, after_instruction}
 use Rattle.tc_machine.specs.SavesAndRestores.{context_of, with_context_saved, save}
 use Rattle.tc_machine.specs.Fetching.{fetched_instruction}
 use Rattle.tc_machine.specs.Handlers.{at_handler_entry, after_interrupt}
@@ -178,22 +178,22 @@ module _ {plan : PlanData} (ok : IsPlan plan) (Kept : ℕ → Type 0) (kept : (x
 
   -- ---- a call
   abbrev entered : Target → ℕ → Machine
-  entered to k = record (with_context_saved m true) { a = set m.a 11 (wrapping_sum m.pc k); pc = target_of m to }
+  entered to k = record (with_context_saved m true) { a = set m.a 11 (wrapping_sum m.pc k); pc = target_address m to }
 
-  target_same : (to : Target) → target_of v to ≡ target_of m to
+  target_same : (to : Target) → target_address v to ≡ target_address m to
   target_same (target.Rel by) = refl
   target_same (target.Abs x) = refl
   target_same (target.Reg r) = refl
 
-  call-is : (e : Event) (to : Target) (k : ℕ) → does m e (Call to) k ≡ entered to k
+  call-is : (e : Event) (to : Target) (k : ℕ) → after_instruction m e (Call to) k ≡ entered to k
   call-is e to k =
-      does-call m e to k ∙ ap (λ s. if_running s (λ s. record s { a = set s.a 11 (wrapping_sum m.pc k); pc = target_of m to })) (saves true)
-      ∙ then_-running (with_context_saved m true) (λ s. record s { a = set s.a 11 (wrapping_sum m.pc k); pc = target_of m to }) running
+      does-call m e to k ∙ ap (λ s. if_running s (λ s. record s { a = set s.a 11 (wrapping_sum m.pc k); pc = target_address m to })) (saves true)
+      ∙ then_-running (with_context_saved m true) (λ s. record s { a = set s.a 11 (wrapping_sum m.pc k); pc = target_address m to }) running
 
-  view_call-is : (e : Event) (to : Target) (k : ℕ) → does v e (Call to) k ≡ seen_as (entered to k) (with_context_saved v true).mem (with_context_saved v true).pcxi (with_context_saved v true).fcx
+  view_call-is : (e : Event) (to : Target) (k : ℕ) → after_instruction v e (Call to) k ≡ seen_as (entered to k) (with_context_saved v true).mem (with_context_saved v true).pcxi (with_context_saved v true).fcx
   view_call-is e to k =
-      does-call v e to k ∙ ap (λ s. if_running s (λ s. record s { a = set s.a 11 (wrapping_sum v.pc k); pc = target_of v to })) (view_saves true)
-      ∙ then_-running (with_context_saved v true) (λ s. record s { a = set s.a 11 (wrapping_sum v.pc k); pc = target_of v to }) running
+      does-call v e to k ∙ ap (λ s. if_running s (λ s. record s { a = set s.a 11 (wrapping_sum v.pc k); pc = target_address v to })) (view_saves true)
+      ∙ then_-running (with_context_saved v true) (λ s. record s { a = set s.a 11 (wrapping_sum v.pc k); pc = target_address v to }) running
       ∙ ap (λ q. record (seen_as (entered to k) (with_context_saved v true).mem (with_context_saved v true).pcxi (with_context_saved v true).fcx) { pc = q }) (target_same to)
 
   pub Alike-call : (e e2 : Event) (to : Target) (k : ℕ) → is_interrupt_taken m e ≡ false → e2.irq ≡ e.irq → e2.status ≡ e.status → fetched_instruction m ≡ Ok (Call to, k) → fetched_instruction v ≡ Ok (Call to, k) → Alike plan n u word_of chain_of Kept view m (step m e) (step v e2)

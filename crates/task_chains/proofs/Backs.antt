@@ -4,7 +4,7 @@ use Rattle.std.proofs.Common.{◌≡◌, ◌≢◌, ℕ, suc, ◌*◌, ◌/◌, 
 use Rattle.std.proofs.lemmas.Bool.{cases_Bool, eqb-false}
 use Rattle.std.specs.FinMap as map
 use Rattle.csa_chain.specs.MemoryBytes.{Memory, is_mapped}
-use Rattle.csa_chain.specs.Chain.{link_in, link_address, is_area, area_word}
+use Rattle.csa_chain.specs.Chain.{link_in, link_address, is_area_mapped, area_word}
 use Rattle.csa_chain.specs.ContextWords.{ul_of, pie_of, pcpn_of, d_after_upper_restore, a_after_upper_restore, d_after_lower_restore, a_after_lower_restore}
 use Rattle.csa_chain.proofs.MemoryLaws.{is_mapped-with_words}
 use Rattle.csa_chain.proofs.ChainLaws.{SameAreas, SameAreas-written}
@@ -20,7 +20,7 @@ use Rattle.tc_machine.specs.declared.events.Cause.TheVariants.{Csu, Ctyp, NoArea
 use Rattle.tc_machine.specs.declared.events.End.TheVariants.{Running, Dead}
 use Rattle.tc_machine.specs.declared.state.Machine.{Machine}
 use Rattle.tc_machine.specs.Machine.{a11, dead_machine, if_running, IsMachine}
-use Rattle.tc_machine.specs.Instructions.{with_pc_advanced, does}
+use Rattle.tc_machine.specs.Instructions.{with_pc_advanced, after_instruction}
 use Rattle.tc_machine.specs.SavesAndRestores.{is_last_context_of_kind, saved_area_words, last_context, with_area_released, with_context_restored, restore}
 use Rattle.tc_machine.specs.Fetching.{fetched_instruction}
 use Rattle.tc_machine.specs.Stepping.{is_interrupt_taken, step}
@@ -42,20 +42,20 @@ running≢dead cause e = cc
 pub record Restores (m : Machine) (upper : Bool) : Type 0 where
   pub some : link_in m.pcxi ≢ 0
   pub kind : is_last_context_of_kind m upper ≡ true
-  pub area : is_area m.mem (link_in m.pcxi) ≡ true
+  pub area : is_area_mapped m.mem (link_in m.pcxi) ≡ true
 
 pub restores_from : (m : Machine) (upper : Bool) → (restore m upper).end ≡ Running → Restores m upper
 unfolding restore
 restores_from m upper e =
     elim (cases_Bool (link_in m.pcxi == 0)) [
-      | inl none ↦ absurd (running≢dead Csu (sym (ap (λ t. (cond t (dead_machine Csu m) (cond (is_last_context_of_kind m upper) (cond (is_area m.mem (link_in m.pcxi)) (with_context_restored m upper) (dead_machine NoArea m)) (dead_machine Ctyp m))).end) none) ∙ e))
+      | inl none ↦ absurd (running≢dead Csu (sym (ap (λ t. (cond t (dead_machine Csu m) (cond (is_last_context_of_kind m upper) (cond (is_area_mapped m.mem (link_in m.pcxi)) (with_context_restored m upper) (dead_machine NoArea m)) (dead_machine Ctyp m))).end) none) ∙ e))
       | inr some ↦
-          let e1 = sym (ap (λ t. (cond t (dead_machine Csu m) (cond (is_last_context_of_kind m upper) (cond (is_area m.mem (link_in m.pcxi)) (with_context_restored m upper) (dead_machine NoArea m)) (dead_machine Ctyp m))).end) some) ∙ e in
+          let e1 = sym (ap (λ t. (cond t (dead_machine Csu m) (cond (is_last_context_of_kind m upper) (cond (is_area_mapped m.mem (link_in m.pcxi)) (with_context_restored m upper) (dead_machine NoArea m)) (dead_machine Ctyp m))).end) some) ∙ e in
           elim (cases_Bool (is_last_context_of_kind m upper)) [
-            | inr other ↦ absurd (running≢dead Ctyp (sym (ap (λ t. (cond t (cond (is_area m.mem (link_in m.pcxi)) (with_context_restored m upper) (dead_machine NoArea m)) (dead_machine Ctyp m)).end) other) ∙ e1))
+            | inr other ↦ absurd (running≢dead Ctyp (sym (ap (λ t. (cond t (cond (is_area_mapped m.mem (link_in m.pcxi)) (with_context_restored m upper) (dead_machine NoArea m)) (dead_machine Ctyp m)).end) other) ∙ e1))
             | inl kind ↦
-                let e2 = sym (ap (λ t. (cond t (cond (is_area m.mem (link_in m.pcxi)) (with_context_restored m upper) (dead_machine NoArea m)) (dead_machine Ctyp m)).end) kind) ∙ e1 in
-                elim (cases_Bool (is_area m.mem (link_in m.pcxi))) [
+                let e2 = sym (ap (λ t. (cond t (cond (is_area_mapped m.mem (link_in m.pcxi)) (with_context_restored m upper) (dead_machine NoArea m)) (dead_machine Ctyp m)).end) kind) ∙ e1 in
+                elim (cases_Bool (is_area_mapped m.mem (link_in m.pcxi))) [
                   | inr gone ↦ absurd (running≢dead NoArea (sym (ap (λ t. (cond t (with_context_restored m upper) (dead_machine NoArea m)).end) gone) ∙ e2))
                   | inl here ↦ record { some = eqb-false _ _ some; kind = kind; area = here }
                 ]
@@ -151,10 +151,10 @@ module _ {plan : PlanData} (ok : IsPlan plan) (Kept : ℕ → Type 0) (kept : (x
   pub restores : (upper : Bool) → is_last_context_of_kind v upper ≡ true → restore m upper ≡ with_context_restored m upper
   restores upper kind =
       let ls = links_before ok l used is words.bytes view_words.bytes t in
-      restore-is m upper (λ e. ls.0 (sym here ∙ e)) (kind_from upper (same_ul m.core m.pcxi pcxi high) kind) (ap (is_area m.mem) here ∙ ls.2)
+      restore-is m upper (λ e. ls.0 (sym here ∙ e)) (kind_from upper (same_ul m.core m.pcxi pcxi high) kind) (ap (is_area_mapped m.mem) here ∙ ls.2)
 
   pub view_restores : (upper : Bool) → is_last_context_of_kind v upper ≡ true → restore v upper ≡ with_context_restored v upper
-  view_restores upper kind = restore-is v upper (λ e. (t.view_links).0 (sym there ∙ e)) kind (ap (is_area view) there ∙ (t.view_links).2)
+  view_restores upper kind = restore-is v upper (λ e. (t.view_links).0 (sym there ∙ e)) kind (ap (is_area_mapped view) there ∙ (t.view_links).2)
 
   behind : SameBehindFirst (last_context m) (last_context v)
   behind = same_area_words m.mem view (link_in m.pcxi) (link_in pcxi) (λ i lt. ap (λ x. area_word m.mem x (suc i)) here ∙ own.1 i lt ∙ ap (λ x. area_word view x (suc i)) (sym there))
@@ -210,7 +210,7 @@ module _ {plan : PlanData} (ok : IsPlan plan) (Kept : ℕ → Type 0) (kept : (x
 
   -- if both do the same with the restored context, and end alike, the steps are alike
   pub Alike-back : (upper : Bool) (shape : Shape) (size : ℕ) (after : Machine → Machine) (e e2 : Event) → is_last_context_of_kind v upper ≡ true
-      → does m e shape size ≡ if_running (restore m upper) after → does v e2 shape size ≡ if_running (restore v upper) after
+      → after_instruction m e shape size ≡ if_running (restore m upper) after → after_instruction v e2 shape size ≡ if_running (restore v upper) after
       → ((r : Machine) → (after r).end ≡ r.end) → ((r : Machine) (mem : Memory) (p f : ℕ) → after (seen_as r mem p f) ≡ seen_as (after r) mem p f)
       → (after (with_context_restored m upper)).mem ≡ (with_area_released m).mem → (after (with_context_restored m upper)).pcxi ≡ (with_area_released m).pcxi → (after (with_context_restored m upper)).fcx ≡ (with_area_released m).fcx → (after (with_context_restored m upper)).lcx ≡ m.lcx
       → is_interrupt_taken m e ≡ false → e2.irq ≡ e.irq → e2.status ≡ e.status → fetched_instruction m ≡ Ok (shape, size) → fetched_instruction v ≡ Ok (shape, size)
@@ -219,8 +219,8 @@ module _ {plan : PlanData} (ok : IsPlan plan) (Kept : ℕ → Type 0) (kept : (x
       let end_is : (with_context_restored m upper).end ≡ Running = restored_end m upper ∙ running in
       let view_end : (with_context_restored v upper).end ≡ Running = restored_end v upper ∙ running in
       let view_none : is_interrupt_taken v e2 ≡ false = ap (λ q. is_interrupt_taken m (record e { irq = q })) same_irq ∙ none in
-      let m_after : does m e shape size ≡ after (with_context_restored m upper) = m_does ∙ ap (λ r. if_running r after) (restores upper kind) ∙ then_-running (with_context_restored m upper) after end_is in
-      let v_after : does v e2 shape size ≡ seen_as (after (with_context_restored m upper)) (with_area_released v).mem (with_area_released v).pcxi (with_area_released v).fcx =
+      let m_after : after_instruction m e shape size ≡ after (with_context_restored m upper) = m_does ∙ ap (λ r. if_running r after) (restores upper kind) ∙ then_-running (with_context_restored m upper) after end_is in
+      let v_after : after_instruction v e2 shape size ≡ seen_as (after (with_context_restored m upper)) (with_area_released v).mem (with_area_released v).pcxi (with_area_released v).fcx =
       v_does ∙ ap (λ r. if_running r after) (view_restores upper kind) ∙ then_-running (with_context_restored v upper) after view_end ∙ ap after (restored_same upper) ∙ commutes (with_context_restored m upper) (with_area_released v).mem (with_area_released v).pcxi (with_area_released v).fcx
       in
       let after_end : (after (with_context_restored m upper)).end ≡ Running = ends (with_context_restored m upper) ∙ end_is in

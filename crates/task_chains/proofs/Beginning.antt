@@ -3,7 +3,7 @@ use Rattle.std.proofs.Common.{◌≡◌, ◌≢◌, ℕ, zero, suc, ◌+◌, ◌
 use Rattle.std.proofs.lemmas.Bool.{cases_lt}
 use Rattle.std.specs.FinMap as finite
 use Rattle.csa_chain.specs.MemoryBytes.{Memory, is_mapped, with_words, HasOnlyBytes}
-use Rattle.csa_chain.specs.Chain.{link_in, link_address, is_area, area_word, word_with_link}
+use Rattle.csa_chain.specs.Chain.{link_in, link_address, is_area_mapped, area_word, word_with_link}
 use Rattle.csa_chain.specs.ContextWords.{pcxi_word_of, ul_of}
 use Rattle.csa_chain.specs.SeveralChains.{occurrences_of, with_chain, with_chain_word}
 use Rattle.csa_chain.proofs.ChainLaws.{Links, SameAreas, area_word_same, SameArea-written, SameAreas-written}
@@ -26,7 +26,7 @@ use Rattle.tc_machine.specs.declared.events.Event.{Event}
 use Rattle.tc_machine.specs.declared.events.End.TheVariants.{Running}
 use Rattle.tc_machine.specs.declared.state.Machine.{Machine}
 use Rattle.tc_machine.specs.Machine.{a11, is_interrupt_stack_used, if_running, psw_with_status, IsMachine}
-use Rattle.tc_machine.specs.Instructions.{wrapping_sum, with_pc_advanced, does}
+use Rattle.tc_machine.specs.Instructions.{wrapping_sum, with_pc_advanced, after_instruction}
 use Rattle.tc_machine.specs.SavesAndRestores.{is_last_context_of_kind, with_area_released, with_context_restored, restore}
 use Rattle.tc_machine.specs.Fetching.{fetched_instruction}
 use Rattle.tc_machine.specs.Stepping.{is_interrupt_taken, step}
@@ -125,7 +125,7 @@ module _ {plan : PlanData} (ok : IsPlan plan) {n u : ℕ} {word_of : ℕ → ℕ
   small = subst (λ x. x < 2 ^ 20) here (link_in-lt m.pcxi)
 
   stands : (upper : Bool) → is_last_context_of_kind m upper ≡ true → restore m upper ≡ with_context_restored m upper
-  stands upper kind = restore-is m upper (λ e. links_here.0 (sym here ∙ e)) kind (ap (is_area m.mem) here ∙ links_here.2)
+  stands upper kind = restore-is m upper (λ e. links_here.0 (sym here ∙ e)) kind (ap (is_area_mapped m.mem) here ∙ links_here.2)
 
   given_back : (x : Machine) → x.mem ≡ (with_area_released m).mem → x.pcxi ≡ (with_area_released m).pcxi → x.fcx ≡ (with_area_released m).fcx → x.lcx ≡ m.lcx → GivenBack plan n u word_of chain_of m x l used
   given_back x mem_is pcxi_is fcx_is lcx_is =
@@ -289,7 +289,7 @@ module _ {image : ImageData} {plan : PlanData} {tasks : TasksData} {certs : ℕ 
         let at = here wd.ok m k.shared (k.words).bytes (task_lower_area plan u) (task_upper_area plan u ∷ []) links in
         let low_small = small wd.ok m k.shared (k.words).bytes (task_lower_area plan u) (task_upper_area plan u ∷ []) links in
         let kind : is_last_context_of_kind m false ≡ true = ap (λ w. not (ul_of m.core w)) word ∙ ap not (ul_of-pcxi_word m.core 0 false false (task_lower_area plan u) low_small) in
-        let m_does : does m e Rslcx 4 ≡ with_pc_advanced 4 (with_context_restored m false) =
+        let m_does : after_instruction m e Rslcx 4 ≡ with_pc_advanced 4 (with_context_restored m false) =
         does-rslcx m e 4 ∙ ap (λ s. if_running s (with_pc_advanced 4)) (stands wd.ok m k.shared (k.words).bytes (task_lower_area plan u) (task_upper_area plan u ∷ []) links false kind) ∙ then_-running (with_context_restored m false) (with_pc_advanced 4) (restored_end m false ∙ k.running)
         in
         let m_is : step m e ≡ with_event (with_pc_advanced 4 (with_context_restored m false)) e =
@@ -321,7 +321,7 @@ module _ {image : ImageData} {plan : PlanData} {tasks : TasksData} {certs : ℕ 
         → is_interrupt_stack_used (area_word m.mem (task_upper_area plan u) 1) ≡ false → area_word m.mem (task_upper_area plan u) 2 ≡ (task_at tasks u).sp → Goes image plan tasks needs (step m e)
     begins_home pc links kind entry ends io is sp =
         let at = here wd.ok m k.shared (k.words).bytes (task_upper_area plan u) [] links in
-        let m_does : does m e Ret 4 ≡ record (with_context_restored m true) { pc = a11 m / 2 * 2 } =
+        let m_does : after_instruction m e Ret 4 ≡ record (with_context_restored m true) { pc = a11 m / 2 * 2 } =
         does-ret m e 4 ∙ ap (λ s. if_running s (λ r. record r { pc = a11 m / 2 * 2 })) (stands wd.ok m k.shared (k.words).bytes (task_upper_area plan u) [] links true kind) ∙ then_-running (with_context_restored m true) (λ r. record r { pc = a11 m / 2 * 2 }) (restored_end m true ∙ k.running)
         in
         let m_is : step m e ≡ with_event (record (with_context_restored m true) { pc = a11 m / 2 * 2 }) e =

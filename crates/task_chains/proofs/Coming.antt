@@ -15,7 +15,7 @@ use Rattle.tc_machine.specs.declared.events.Event.{Event}
 use Rattle.tc_machine.specs.declared.events.End.TheVariants.{Running}
 use Rattle.tc_machine.specs.declared.state.Machine.{Machine}
 use Rattle.tc_machine.specs.Machine.{reg, a11, if_running, IsMachine}
-use Rattle.tc_machine.specs.Instructions.{wrapping_sum, with_pc_advanced, does}
+use Rattle.tc_machine.specs.Instructions.{wrapping_sum, with_pc_advanced, after_instruction}
 use Rattle.tc_machine.specs.SavesAndRestores.{is_last_context_of_kind, with_area_released, with_context_restored, restore}
 use Rattle.tc_machine.specs.Fetching.{fetched_instruction, fetched_size}
 use Rattle.tc_machine.specs.Stepping.{is_interrupt_taken, load_of_fetched, step}
@@ -28,7 +28,7 @@ use Rattle.tc_machine.proofs.Stays.{stays_step, irq_lt}
 use Rattle.tc_machine.proofs.Steps.{with_event, done-is, step_does, does-nothing, does-ret}
 use Rattle.depth_cert.specs.Certs.{CertData}
 use Rattle.cfg_recover.specs.Code.{IsCode}
-use Rattle.cfg_recover.specs.Frames.{RunFrame, frames_after_return, frames_after_edge, frames_after}
+use Rattle.cfg_recover.specs.Frames.{RunFrame, frames_after_return, frames_after_edge, frames_after_step}
 use Rattle.cfg_recover.specs.StepEdges.{to, ret, irq, edge_way_by_trap, edge_way_in_fetch}
 use Rattle.cfg_recover.proofs.EntryLaws.{reg_lt}
 use Rattle.cfg_recover.proofs.Points.{does-rslcx}
@@ -67,7 +67,7 @@ globals_same plan m v h g =
     record { a0 = ap (λ (l : List ℕ). get_or l 0 0) same; a1 = ap (λ (l : List ℕ). get_or l 1 0) same; a8 = ap (λ (l : List ℕ). get_or l 2 0) same; a9 = ap (λ (l : List ℕ). get_or l 3 0) same }
 
 -- a return ends the newest frame
-first_returns : (tasks : TasksData) (v : Machine) (e : Event) (f : RunFrame) (fs : List RunFrame) → is_interrupt_taken v e ≡ false → fetched_instruction v ≡ Ok (Ret, 4) → AreFirst tasks fs → AreFirst tasks (frames_after v e (f ∷ fs))
+first_returns : (tasks : TasksData) (v : Machine) (e : Event) (f : RunFrame) (fs : List RunFrame) → is_interrupt_taken v e ≡ false → fetched_instruction v ≡ Ok (Ret, 4) → AreFirst tasks fs → AreFirst tasks (frames_after_step v e (f ∷ fs))
 first_returns tasks v e f fs none at first =
     let q = (step v e).pc in
     let way : cond (is_interrupt_taken v e) (irq q) (edge_way_in_fetch v e (fetched_instruction v) q) ≡ ret = ap (λ t. cond t (irq q) (edge_way_in_fetch v e (fetched_instruction v) q)) none ∙ ap (λ (r : Result (Shape × ℕ) Cause). edge_way_in_fetch v e r q) at in
@@ -81,7 +81,7 @@ module _ {image : ImageData} {plan : PlanData} {tasks : TasksData} {certs : ℕ 
     fs = (of.run).frame ∷ (of.run).behind
 
     view_moves : (shape : Shape) → IsCode (view_image_of image tasks u) plan v.pc shape 4 → MayAnswerLoad (view_plan_of plan tasks u) e.input (load_of_fetched v (Ok (shape, 4)))
-        → (is_interrupt_taken v e ≡ false → fetched_instruction v ≡ Ok (shape, 4) → AreFirst tasks (frames_after_return (frames_after v e ((of.run).frame ∷ (of.run).behind)))) → ViewMoved image plan tasks u v e (frames_after v e ((of.run).frame ∷ (of.run).behind)) shape
+        → (is_interrupt_taken v e ≡ false → fetched_instruction v ≡ Ok (shape, 4) → AreFirst tasks (frames_after_return (frames_after_step v e ((of.run).frame ∷ (of.run).behind)))) → ViewMoved image plan tasks u v e (frames_after_step v e ((of.run).frame ∷ (of.run).behind)) shape
     view_moves shape code answers first =
         let none = none_when_off v e off in
         let running = view_running wd.ok wd.are wd.fit own (certs u) (wd.judged u own) (view_few wd u own) v of.run in
@@ -101,11 +101,11 @@ module _ {image : ImageData} {plan : PlanData} {tasks : TasksData} {certs : ℕ 
           next = view_run_step wd.ok wd.are wd.fit own (certs u) (wd.judged u own) (view_few wd u own) v of.run running of.rom seen free links areas e fits2 of.memory none (first none there);
         }
 
-    stays_in : (shape : Shape) → edge_way_by_trap v e shape (step v e).pc ≡ to (step v e).pc → is_interrupt_taken v e ≡ false → fetched_instruction v ≡ Ok (shape, 4) → AreFirst tasks (frames_after_return (frames_after v e ((of.run).frame ∷ (of.run).behind)))
+    stays_in : (shape : Shape) → edge_way_by_trap v e shape (step v e).pc ≡ to (step v e).pc → is_interrupt_taken v e ≡ false → fetched_instruction v ≡ Ok (shape, 4) → AreFirst tasks (frames_after_return (frames_after_step v e ((of.run).frame ∷ (of.run).behind)))
     stays_in shape way none there = first_stays tasks v e (of.run).frame (of.run).behind shape 4 none there way (of.run).first
 
     -- the instruction does nothing
-    nothing_is : ViewMoved image plan tasks u v e (frames_after v e ((of.run).frame ∷ (of.run).behind)) Nothing → step v e ≡ with_event (with_pc_advanced 4 v) e
+    nothing_is : ViewMoved image plan tasks u v e (frames_after_step v e ((of.run).frame ∷ (of.run).behind)) Nothing → step v e ≡ with_event (with_pc_advanced 4 v) e
     nothing_is b =
         let running = view_running wd.ok wd.are wd.fit own (certs u) (wd.judged u own) (view_few wd u own) v of.run in
         step_does v e Nothing 4 running b.none b.at (ap (λ (x : Machine). x.end) (does-nothing v e 4) ∙ running) ∙ ap (λ (x : Machine). with_event x e) (does-nothing v e 4)
@@ -345,18 +345,18 @@ module _ {image : ImageData} {plan : PlanData} {tasks : TasksData} {certs : ℕ 
           (stays_in own m.mem v of seen pause.view_free pause.view_links own_areas view_off m e fits Rslcx refl)
           in
           let running2 = view_running wd.ok wd.are wd.fit own (certs u) (wd.judged u own) (view_few wd u own) v of.run in
-          let v_does : (does v e Rslcx 4).end ≡ Running = sym (ap (λ (y : Machine). y.end) (done-is v e Rslcx 4 b.none b.at)) ∙ done_runs v e running2 b.lives in
+          let v_does : (after_instruction v e Rslcx 4).end ≡ Running = sym (ap (λ (y : Machine). y.end) (done-is v e Rslcx 4 b.none b.at)) ∙ done_runs v e running2 b.lives in
           by_context false (back_runs v false (with_pc_advanced 4) (sym (ap (λ (y : Machine). y.end) (does-rslcx v e 4)) ∙ v_does))
           (λ l used is_l j seen2 is_s kind.
           let t = twins_here l used is_l j seen2 is_s in
           let x = with_event (with_pc_advanced 4 (with_context_restored m false)) e in
-          let m_does : does m e Rslcx 4 ≡ with_pc_advanced 4 (with_context_restored m false) =
+          let m_does : after_instruction m e Rslcx 4 ≡ with_pc_advanced 4 (with_context_restored m false) =
           does-rslcx m e 4 ∙ ap (λ s. if_running s (with_pc_advanced 4)) (restore_stands wd.ok m v k.words words_of_view k.running beside l used is_l j seen2 t false kind) ∙ then_-running (with_context_restored m false) (with_pc_advanced 4) (restored_end m false ∙ k.running)
           in
           let m_is : step m e ≡ with_event (with_pc_advanced 4 (with_context_restored m false)) e =
           step_does m e Rslcx 4 k.running none (at_code 16 pc Rslcx (code_16 image plan tasks wd.are wd.has)) (ap (λ (y : Machine). y.end) m_does ∙ k.running) ∙ ap (λ (y : Machine). with_event y e) m_does
           in
-          let y_does : does v e Rslcx 4 ≡ with_pc_advanced 4 (with_context_restored v false) =
+          let y_does : after_instruction v e Rslcx 4 ≡ with_pc_advanced 4 (with_context_restored v false) =
           does-rslcx v e 4 ∙ ap (λ s. if_running s (with_pc_advanced 4)) (view_comes_back wd.ok m v k.words words_of_view k.running beside l used is_l j seen2 t false kind) ∙ then_-running (with_context_restored v false) (with_pc_advanced 4) (restored_end v false ∙ running2)
           in
           let v_is : step v e ≡ with_event (with_pc_advanced 4 (with_context_restored v false)) e = step_does v e Rslcx 4 running2 b.none b.at v_does ∙ ap (λ (y : Machine). with_event y e) y_does in
@@ -378,15 +378,15 @@ module _ {image : ImageData} {plan : PlanData} {tasks : TasksData} {certs : ℕ 
       pub comes_home : m.pc ≡ tasks.switch + 4 * 17 → SameLower m v → Goes image plan tasks needs (step m e)
       comes_home pc low =
           let b = view_moves own m.mem v of seen pause.view_free pause.view_links own_areas view_off m e fits Ret (view_at 17 pc Ret (view_code_17 image plan tasks wd.are wd.has u)) tt
-          (λ none2 there. AreFirst-left tasks (frames_after v e ((of.run).frame ∷ (of.run).behind)) (first_returns tasks v e (of.run).frame (of.run).behind none2 there (of.run).first))
+          (λ none2 there. AreFirst-left tasks (frames_after_step v e ((of.run).frame ∷ (of.run).behind)) (first_returns tasks v e (of.run).frame (of.run).behind none2 there (of.run).first))
           in
           let running2 = view_running wd.ok wd.are wd.fit own (certs u) (wd.judged u own) (view_few wd u own) v of.run in
-          let v_does : (does v e Ret 4).end ≡ Running = sym (ap (λ (y : Machine). y.end) (done-is v e Ret 4 b.none b.at)) ∙ done_runs v e running2 b.lives in
+          let v_does : (after_instruction v e Ret 4).end ≡ Running = sym (ap (λ (y : Machine). y.end) (done-is v e Ret 4 b.none b.at)) ∙ done_runs v e running2 b.lives in
           by_context true (back_runs v true (λ r. record r { pc = a11 v / 2 * 2 }) (sym (ap (λ (y : Machine). y.end) (does-ret v e 4)) ∙ v_does))
           (λ l used is_l j seen2 is_s kind.
           let t = twins_here l used is_l j seen2 is_s in
           let at = at_code 17 pc Ret (code_17 image plan tasks wd.are wd.has) in
-          let m_does : does m e Ret 4 ≡ record (with_context_restored m true) { pc = a11 m / 2 * 2 } =
+          let m_does : after_instruction m e Ret 4 ≡ record (with_context_restored m true) { pc = a11 m / 2 * 2 } =
           does-ret m e 4 ∙ ap (λ s. if_running s (λ r. record r { pc = a11 m / 2 * 2 })) (restore_stands wd.ok m v k.words words_of_view k.running beside l used is_l j seen2 t true kind)
           ∙ then_-running (with_context_restored m true) (λ r. record r { pc = a11 m / 2 * 2 }) (restored_end m true ∙ k.running)
           in

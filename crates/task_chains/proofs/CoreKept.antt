@@ -1,7 +1,7 @@
 -- A step that isn't MTCR doesn't change LCX, BIV, BTV, ISP or the layout of PCXI.
 use Rattle.std.proofs.Common.{◌≡◌, ℕ, ◌*◌, ◌/◌, ◌^◌, Bool, true, false, cond, inl, inr, Ok, set, refl, sym, subst, bit_or, ◌==◌}
 use Rattle.std.proofs.lemmas.Bool.{cond_both, cases_Bool}
-use Rattle.csa_chain.specs.Chain.{link_in, is_area}
+use Rattle.csa_chain.specs.Chain.{link_in, is_area_mapped}
 use Rattle.csa_chain.specs.ContextWords.{pie_of, pcpn_of}
 use Rattle.csa_chain.specs.MemoryBytes.{Memory}
 use Rattle.tc_isa.specs.declared.shapes.Shape.{Shape}
@@ -12,7 +12,7 @@ use Rattle.tc_machine.specs.declared.events.End.TheVariants.{Running, Dead}
 use Rattle.tc_machine.specs.declared.events.Event.{Event}
 use Rattle.tc_machine.specs.declared.state.Machine.{Machine}
 use Rattle.tc_machine.specs.Machine.{a11, dead_machine, if_end_running, if_running, psw_with_status}
-use Rattle.tc_machine.specs.Instructions.{wrapping_sum, with_pc_advanced, access_address, is_trapping_access, target_of, does}
+use Rattle.tc_machine.specs.Instructions.{wrapping_sum, with_pc_advanced, access_address, is_trapping_access, target_address, after_instruction}
 use Rattle.tc_machine.specs.Handlers.{at_handler_entry, after_trap, after_interrupt}
 use Rattle.tc_machine.specs.Stepping.{is_interrupt_taken, after_fetch_result, machine_after_event, step}
 use Rattle.tc_machine.specs.SavesAndRestores.{is_last_context_of_kind, with_context_saved, save, with_context_restored, restore}
@@ -46,10 +46,10 @@ core_saved m upper = record { lcx = refl; biv = refl; btv = refl; isp = refl; co
 core_save : (m : Machine) (upper : Bool) → SameCore m (save m upper)
 unfolding save
 core_save m upper =
-    cond_both (link_in m.fcx == 0) (dead_machine Fcu m) (cond (is_area m.mem (link_in m.fcx)) (cond (link_in m.fcx == link_in m.lcx) (dead_machine Fcd (with_context_saved m upper)) (with_context_saved m upper)) (dead_machine NoArea m)) (SameCore m)
+    cond_both (link_in m.fcx == 0) (dead_machine Fcu m) (cond (is_area_mapped m.mem (link_in m.fcx)) (cond (link_in m.fcx == link_in m.lcx) (dead_machine Fcd (with_context_saved m upper)) (with_context_saved m upper)) (dead_machine NoArea m)) (SameCore m)
     (λ _. record { lcx = refl; biv = refl; btv = refl; isp = refl; core = refl })
     (λ _.
-    cond_both (is_area m.mem (link_in m.fcx)) (cond (link_in m.fcx == link_in m.lcx) (dead_machine Fcd (with_context_saved m upper)) (with_context_saved m upper)) (dead_machine NoArea m) (SameCore m)
+    cond_both (is_area_mapped m.mem (link_in m.fcx)) (cond (link_in m.fcx == link_in m.lcx) (dead_machine Fcd (with_context_saved m upper)) (with_context_saved m upper)) (dead_machine NoArea m) (SameCore m)
     (λ _. cond_both (link_in m.fcx == link_in m.lcx) (dead_machine Fcd (with_context_saved m upper)) (with_context_saved m upper) (SameCore m) (λ _. record { lcx = refl; biv = refl; btv = refl; isp = refl; core = refl }) (λ _. core_saved m upper))
     (λ _. record { lcx = refl; biv = refl; btv = refl; isp = refl; core = refl }))
 
@@ -57,10 +57,10 @@ core_save m upper =
 pub save_place : (m : Machine) (upper : Bool) → ((save m upper).pc ≡ m.pc) × ((save m upper).ie ≡ m.ie)
 unfolding save
 save_place m upper =
-    cond_both (link_in m.fcx == 0) (dead_machine Fcu m) (cond (is_area m.mem (link_in m.fcx)) (cond (link_in m.fcx == link_in m.lcx) (dead_machine Fcd (with_context_saved m upper)) (with_context_saved m upper)) (dead_machine NoArea m)) (λ (n : Machine). (n.pc ≡ m.pc) × (n.ie ≡ m.ie))
+    cond_both (link_in m.fcx == 0) (dead_machine Fcu m) (cond (is_area_mapped m.mem (link_in m.fcx)) (cond (link_in m.fcx == link_in m.lcx) (dead_machine Fcd (with_context_saved m upper)) (with_context_saved m upper)) (dead_machine NoArea m)) (λ (n : Machine). (n.pc ≡ m.pc) × (n.ie ≡ m.ie))
     (λ _. (refl, refl))
     (λ _.
-    cond_both (is_area m.mem (link_in m.fcx)) (cond (link_in m.fcx == link_in m.lcx) (dead_machine Fcd (with_context_saved m upper)) (with_context_saved m upper)) (dead_machine NoArea m) (λ (n : Machine). (n.pc ≡ m.pc) × (n.ie ≡ m.ie))
+    cond_both (is_area_mapped m.mem (link_in m.fcx)) (cond (link_in m.fcx == link_in m.lcx) (dead_machine Fcd (with_context_saved m upper)) (with_context_saved m upper)) (dead_machine NoArea m) (λ (n : Machine). (n.pc ≡ m.pc) × (n.ie ≡ m.ie))
     (λ _. cond_both (link_in m.fcx == link_in m.lcx) (dead_machine Fcd (with_context_saved m upper)) (with_context_saved m upper) (λ (n : Machine). (n.pc ≡ m.pc) × (n.ie ≡ m.ie)) (λ _. (refl, refl)) (λ _. (refl, refl)))
     (λ _. (refl, refl)))
 
@@ -71,11 +71,11 @@ core_restored m false = record { lcx = refl; biv = refl; btv = refl; isp = refl;
 core_restore : (m : Machine) (upper : Bool) → SameCore m (restore m upper)
 unfolding restore
 core_restore m upper =
-    cond_both (link_in m.pcxi == 0) (dead_machine Csu m) (cond (is_last_context_of_kind m upper) (cond (is_area m.mem (link_in m.pcxi)) (with_context_restored m upper) (dead_machine NoArea m)) (dead_machine Ctyp m)) (SameCore m)
+    cond_both (link_in m.pcxi == 0) (dead_machine Csu m) (cond (is_last_context_of_kind m upper) (cond (is_area_mapped m.mem (link_in m.pcxi)) (with_context_restored m upper) (dead_machine NoArea m)) (dead_machine Ctyp m)) (SameCore m)
     (λ _. record { lcx = refl; biv = refl; btv = refl; isp = refl; core = refl })
     (λ _.
-    cond_both (is_last_context_of_kind m upper) (cond (is_area m.mem (link_in m.pcxi)) (with_context_restored m upper) (dead_machine NoArea m)) (dead_machine Ctyp m) (SameCore m)
-    (λ _. cond_both (is_area m.mem (link_in m.pcxi)) (with_context_restored m upper) (dead_machine NoArea m) (SameCore m) (λ _. core_restored m upper) (λ _. record { lcx = refl; biv = refl; btv = refl; isp = refl; core = refl }))
+    cond_both (is_last_context_of_kind m upper) (cond (is_area_mapped m.mem (link_in m.pcxi)) (with_context_restored m upper) (dead_machine NoArea m)) (dead_machine Ctyp m) (SameCore m)
+    (λ _. cond_both (is_area_mapped m.mem (link_in m.pcxi)) (with_context_restored m upper) (dead_machine NoArea m) (SameCore m) (λ _. core_restored m upper) (λ _. record { lcx = refl; biv = refl; btv = refl; isp = refl; core = refl }))
     (λ _. record { lcx = refl; biv = refl; btv = refl; isp = refl; core = refl }))
 
 core_interrupt : (m : Machine) (irq : ℕ) → SameCore m (after_interrupt m irq)
@@ -89,13 +89,13 @@ core_trap m class tin back =
     (λ r h. record { lcx = h.lcx; biv = h.biv; btv = h.btv; isp = h.isp; core = h.core })
 
 module _ (m : Machine) (e : Event) (size : ℕ) where
-  plainly : (shape : Shape) {n2 : Machine} {mem view : Memory} → Plainly m m (does m e shape size) n2 mem view → SameCore m (does m e shape size)
+  plainly : (shape : Shape) {n2 : Machine} {mem view : Memory} → Plainly m m (after_instruction m e shape size) n2 mem view → SameCore m (after_instruction m e shape size)
   plainly shape {mem = mem} p = subst (SameCore m) (sym p.is) (record { lcx = refl; biv = refl; btv = refl; isp = refl; core = refl })
 
-  through : (shape : Shape) (n : Machine) → does m e shape size ≡ n → SameCore m n → SameCore m (does m e shape size)
+  through : (shape : Shape) (n : Machine) → after_instruction m e shape size ≡ n → SameCore m n → SameCore m (after_instruction m e shape size)
   through shape n is h = subst (SameCore m) (sym is) h
 
-  pub core_does : (shape : Shape) → WritesNoFixedRegister shape → StoresNothing m e shape → SameCore m (does m e shape size)
+  pub core_does : (shape : Shape) → WritesNoFixedRegister shape → StoresNothing m e shape → SameCore m (after_instruction m e shape size)
   core_does (Compute op dst x y) w n = plainly (Compute op dst x y) (plain-compute m m.mem m.pcxi m.fcx e e op dst x y size)
   core_does (Scaled dst base index j) w n = plainly (Scaled dst base index j) (plain-scaled m m.mem m.pcxi m.fcx e e dst base index j size)
   core_does (Load dst base offset width signed after) w n =
@@ -110,7 +110,7 @@ module _ (m : Machine) (e : Event) (size : ℕ) where
       ]
   core_does (Branch test x y by lowers) w n = plainly (Branch test x y by lowers) (plain-branch m m.mem m.pcxi m.fcx e e test x y by lowers size)
   core_does (Jump target) w n = plainly (Jump target) (plain-jump m m.mem m.pcxi m.fcx e e target size)
-  core_does (Call target) w n = through (Call target) _ (does-call m e target size) (core_then m (save m true) (λ s. record s { a = set s.a 11 (wrapping_sum m.pc size); pc = target_of m target }) (core_save m true) (λ r h. record { lcx = h.lcx; biv = h.biv; btv = h.btv; isp = h.isp; core = h.core }))
+  core_does (Call target) w n = through (Call target) _ (does-call m e target size) (core_then m (save m true) (λ s. record s { a = set s.a 11 (wrapping_sum m.pc size); pc = target_address m target }) (core_save m true) (λ r h. record { lcx = h.lcx; biv = h.biv; btv = h.btv; isp = h.isp; core = h.core }))
   core_does Ret w n = through Ret _ (does-ret m e size) (core_then m (restore m true) (λ r. record r { pc = a11 m / 2 * 2 }) (core_restore m true) (λ r h. record { lcx = h.lcx; biv = h.biv; btv = h.btv; isp = h.isp; core = h.core }))
   core_does Rfe w n =
       through Rfe _ (does-rfe m e size)

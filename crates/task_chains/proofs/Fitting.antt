@@ -3,7 +3,7 @@ use Rattle.std.proofs.Common.{◌≡◌, ◌≢◌, ℕ, zero, suc, ◌+◌, ◌
 use Rattle.std.proofs.lemmas.Bool.{cases_Bool, and_parts, and_from, le-leb, leb-true, ltb-true, false≢true, eqb-false, cases_lt}
 use Rattle.std.specs.Prelude.{All}
 use Rattle.std.specs.List.{list_all}
-use Rattle.csa_chain.specs.Chain.{link_in, is_area}
+use Rattle.csa_chain.specs.Chain.{link_in, is_area_mapped}
 use Rattle.tcd_base.specs.declared.range.Range.{Range}
 use Rattle.tcd_plan.specs.declared.plans.Device.{Device}
 use Rattle.tcd_plan.specs.PlanData.{PlanData, IsPlan, is_plan_range, is_plan_device, areas_range, are_all_ranges_disjoint}
@@ -116,10 +116,10 @@ pub saves_from : (m : Machine) (upper : Bool) → (save m upper).end ≡ Running
 unfolding save
 saves_from m upper e =
     elim (cases_Bool (link_in m.fcx == 0)) [
-      | inl none ↦ absurd (running≢dead Fcu (sym (ap (λ t. (cond t (dead_machine Fcu m) (cond (is_area m.mem (link_in m.fcx)) (cond (link_in m.fcx == link_in m.lcx) (dead_machine Fcd (with_context_saved m upper)) (with_context_saved m upper)) (dead_machine NoArea m))).end) none) ∙ e))
+      | inl none ↦ absurd (running≢dead Fcu (sym (ap (λ t. (cond t (dead_machine Fcu m) (cond (is_area_mapped m.mem (link_in m.fcx)) (cond (link_in m.fcx == link_in m.lcx) (dead_machine Fcd (with_context_saved m upper)) (with_context_saved m upper)) (dead_machine NoArea m))).end) none) ∙ e))
       | inr some ↦
-          let e1 = sym (ap (λ t. (cond t (dead_machine Fcu m) (cond (is_area m.mem (link_in m.fcx)) (cond (link_in m.fcx == link_in m.lcx) (dead_machine Fcd (with_context_saved m upper)) (with_context_saved m upper)) (dead_machine NoArea m))).end) some) ∙ e in
-          elim (cases_Bool (is_area m.mem (link_in m.fcx))) [
+          let e1 = sym (ap (λ t. (cond t (dead_machine Fcu m) (cond (is_area_mapped m.mem (link_in m.fcx)) (cond (link_in m.fcx == link_in m.lcx) (dead_machine Fcd (with_context_saved m upper)) (with_context_saved m upper)) (dead_machine NoArea m))).end) some) ∙ e in
+          elim (cases_Bool (is_area_mapped m.mem (link_in m.fcx))) [
             | inr gone ↦ absurd (running≢dead NoArea (sym (ap (λ t. (cond t (cond (link_in m.fcx == link_in m.lcx) (dead_machine Fcd (with_context_saved m upper)) (with_context_saved m upper)) (dead_machine NoArea m)).end) gone) ∙ e1))
             | inl area ↦
                 let e2 = sym (ap (λ t. (cond t (cond (link_in m.fcx == link_in m.lcx) (dead_machine Fcd (with_context_saved m upper)) (with_context_saved m upper)) (dead_machine NoArea m)).end) area) ∙ e1 in

@@ -9,7 +9,7 @@ use Rattle.tc_machine.specs.declared.events.Event.{Event}
 use Rattle.tc_machine.specs.declared.events.End.TheVariants.{Running}
 use Rattle.tc_machine.specs.declared.state.Machine.{Machine}
 use Rattle.tc_machine.specs.Machine.{if_running, IsMachine}
-use Rattle.tc_machine.specs.Instructions.{wrapping_sum, with_pc_advanced, does, is_trapping_instruction}
+use Rattle.tc_machine.specs.Instructions.{wrapping_sum, with_pc_advanced, after_instruction, is_trapping_instruction}
 use Rattle.tc_machine.specs.Handlers.{at_handler_entry}
 use Rattle.tc_machine.specs.SavesAndRestores.{with_context_saved, save}
 use Rattle.tc_machine.specs.Fetching.{fetched_instruction}
@@ -31,14 +31,14 @@ module _ {plan : PlanData} (ok : IsPlan plan) (Kept : ℕ → Type 0) (kept : (x
   v = seen_as m view pcxi fcx
 
   -- if both are alike after the save, the steps are alike
-  Alike-forth : (upper : Bool) (shape : Shape) (size : ℕ) (after after2 : Machine → Machine) → does m e shape size ≡ if_running (save m upper) after → does v e2 shape size ≡ if_running (save v upper) after2
+  Alike-forth : (upper : Bool) (shape : Shape) (size : ℕ) (after after2 : Machine → Machine) → after_instruction m e shape size ≡ if_running (save m upper) after → after_instruction v e2 shape size ≡ if_running (save v upper) after2
       → (after (with_context_saved m upper)).end ≡ m.end → after2 (with_context_saved v upper) ≡ seen_as (after (with_context_saved m upper)) (with_context_saved v upper).mem (with_context_saved v upper).pcxi (with_context_saved v upper).fcx
       → (after (with_context_saved m upper)).mem ≡ (with_context_saved m upper).mem → (after (with_context_saved m upper)).pcxi ≡ (with_context_saved m upper).pcxi → (after (with_context_saved m upper)).fcx ≡ (with_context_saved m upper).fcx → (after (with_context_saved m upper)).lcx ≡ m.lcx
       → fetched_instruction m ≡ Ok (shape, size) → fetched_instruction v ≡ Ok (shape, size) → Alike plan n u word_of chain_of Kept view m (step m e) (step v e2)
   Alike-forth upper shape size after after2 m_does v_does ends same mem_is pcxi_is fcx_is lcx_is at view_at =
       let view_none : is_interrupt_taken v e2 ≡ false = ap (λ q. is_interrupt_taken m (record e { irq = q })) same_irq ∙ none in
-      let m_after : does m e shape size ≡ after (with_context_saved m upper) = m_does ∙ ap (λ s. if_running s after) (saves ok Kept kept m view pcxi fcx words view_words running t room view_room upper) ∙ then_-running (with_context_saved m upper) after running in
-      let v_after : does v e2 shape size ≡ seen_as (after (with_context_saved m upper)) (with_context_saved v upper).mem (with_context_saved v upper).pcxi (with_context_saved v upper).fcx =
+      let m_after : after_instruction m e shape size ≡ after (with_context_saved m upper) = m_does ∙ ap (λ s. if_running s after) (saves ok Kept kept m view pcxi fcx words view_words running t room view_room upper) ∙ then_-running (with_context_saved m upper) after running in
+      let v_after : after_instruction v e2 shape size ≡ seen_as (after (with_context_saved m upper)) (with_context_saved v upper).mem (with_context_saved v upper).pcxi (with_context_saved v upper).fcx =
       v_does ∙ ap (λ s. if_running s after2) (view_saves ok Kept kept m view pcxi fcx words view_words running t room view_room upper) ∙ then_-running (with_context_saved v upper) after2 running ∙ same
       in
       let after_end : (after (with_context_saved m upper)).end ≡ Running = ends ∙ running in

@@ -12,7 +12,7 @@ use Rattle.tc_machine.specs.Fetching.{fetched_instruction, fetched_size}
 use Rattle.tc_machine.specs.Stepping.{is_interrupt_taken, step}
 use Rattle.depth_cert.specs.declared.keys.Key.{Key}
 use Rattle.depth_cert.specs.Keys.{IsKey}
-use Rattle.cfg_recover.specs.Frames.{RunFrame, frames_after_return, frames_after_edge, frames_after}
+use Rattle.cfg_recover.specs.Frames.{RunFrame, frames_after_return, frames_after_edge, frames_after_step}
 use Rattle.cfg_recover.specs.StepEdges.{EdgeWay, to, call, irq, sys, aln, ret, rfe, edge_way_of_shape, edge_way_in_fetch}
 use Rattle.task_chains.specs.Tasks.{TasksData}
 use Rattle.task_chains.specs.SwitchRoutine.{switch_key}
@@ -61,7 +61,7 @@ by_way v e q P goes calls interrupts systems misaligns returns leaves = cond_bot
     by_found (Err cause) = goes
 
 -- the numbers of keys are in range after a step
-pub keys_next : (v : Machine) (e : Event) (f : RunFrame) (fs : List RunFrame) → AreKeys (f ∷ fs) → e.irq < 2 ^ 8 → (step v e).pc < 2 ^ 32 → AreKeys (frames_after v e (f ∷ fs))
+pub keys_next : (v : Machine) (e : Event) (f : RunFrame) (fs : List RunFrame) → AreKeys (f ∷ fs) → e.irq < 2 ^ 8 → (step v e).pc < 2 ^ 32 → AreKeys (frames_after_step v e (f ∷ fs))
 keys_next v e f fs keys irq_lt pc_lt =
     let same : IsKey f.key = keys.0 in
     by_way v e (step v e).pc (λ w. AreKeys (frames_after_edge v.pc (wrapping_sum v.pc (fetched_size (fetched_instruction v))) e.irq w (f ∷ fs)))
@@ -74,7 +74,7 @@ keys_next v e f fs keys irq_lt pc_lt =
     keys.1
 
 -- a step from outside of the routine enters it only at the first instruction
-pub first_next : (tasks : TasksData) (v : Machine) (e : Event) (f : RunFrame) (fs : List RunFrame) → (f.key ≡ switch_key tasks → ⊥) → AreFirst tasks fs → AreFirst tasks (frames_after v e (f ∷ fs))
+pub first_next : (tasks : TasksData) (v : Machine) (e : Event) (f : RunFrame) (fs : List RunFrame) → (f.key ≡ switch_key tasks → ⊥) → AreFirst tasks fs → AreFirst tasks (frames_after_step v e (f ∷ fs))
 first_next tasks v e f fs apart first =
     by_way v e (step v e).pc (λ w. AreFirst tasks (frames_after_edge v.pc (wrapping_sum v.pc (fetched_size (fetched_instruction v))) e.irq w (f ∷ fs)))
     (λ is. absurd (apart is), first)
@@ -86,7 +86,7 @@ first_next tasks v e f fs apart first =
     first
 
 -- an interrupt enters a handler, and the frame below returns to where it was
-pub first_interrupt : (tasks : TasksData) (v : Machine) (e : Event) (f : RunFrame) (fs : List RunFrame) → is_interrupt_taken v e ≡ true → (f.key ≡ switch_key tasks → v.pc ≡ tasks.switch) → AreFirst tasks fs → AreFirst tasks (frames_after v e (f ∷ fs))
+pub first_interrupt : (tasks : TasksData) (v : Machine) (e : Event) (f : RunFrame) (fs : List RunFrame) → is_interrupt_taken v e ≡ true → (f.key ≡ switch_key tasks → v.pc ≡ tasks.switch) → AreFirst tasks fs → AreFirst tasks (frames_after_step v e (f ∷ fs))
 first_interrupt tasks v e f fs taken at first =
     subst (λ t. AreFirst tasks (frames_after_edge v.pc (wrapping_sum v.pc (fetched_size (fetched_instruction v))) e.irq (cond t (irq (step v e).pc) (edge_way_in_fetch v e (fetched_instruction v) (step v e).pc)) (f ∷ fs))) (sym taken)
     (λ is. absurd (let k : 2 ≡ 1 = ap (λ (k : Key). k.kind) is in omega arith), (at, first))

@@ -14,7 +14,7 @@ use Rattle.tc_machine.specs.declared.events.Event.{Event}
 use Rattle.tc_machine.specs.declared.events.End.TheVariants.{Running, Dead}
 use Rattle.tc_machine.specs.declared.state.Machine.{Machine}
 use Rattle.tc_machine.specs.Machine.{reg}
-use Rattle.tc_machine.specs.Instructions.{wrapping_sum, with_pc_advanced, access_address, is_trapping_access, does}
+use Rattle.tc_machine.specs.Instructions.{wrapping_sum, with_pc_advanced, access_address, is_trapping_access, after_instruction}
 use Rattle.tc_machine.specs.SavesAndRestores.{save}
 use Rattle.tc_machine.specs.Fetching.{fetched_instruction, fetched_size}
 use Rattle.std.specs.Prelude.{IfSome}
@@ -30,7 +30,7 @@ use Rattle.value_domain.specs.Limits.{Limits}
 use Rattle.depth_cert.specs.Certs.{CertData}
 use Rattle.cfg_recover.specs.RulesHoldOrFail.{limits_of_cert}
 use Rattle.cfg_recover.specs.Code.{IsCode, HasCode}
-use Rattle.cfg_recover.specs.Frames.{RunFrame, frames_after_return, frames_after_edge, frames_after}
+use Rattle.cfg_recover.specs.Frames.{RunFrame, frames_after_return, frames_after_edge, frames_after_step}
 use Rattle.cfg_recover.specs.StepEdges.{to, irq, edge_way_by_trap, edge_way_in_fetch}
 use Rattle.cfg_recover.proofs.CodeLaws.{IsCode-bounded, IsCode-one, IsCode-sized}
 use Rattle.task_chains.specs.Tasks.{TasksData, count}
@@ -68,14 +68,14 @@ code_to image plan tasks u p shape size c = record { even = c.even; bytes = c.by
 
 -- an instruction that stays in its frame leaves the older frames as they are
 pub first_stays : (tasks : TasksData) (v : Machine) (e : Event) (f : RunFrame) (fs : List RunFrame) (shape : Shape) (size : ℕ) → is_interrupt_taken v e ≡ false → fetched_instruction v ≡ Ok (shape, size) → edge_way_by_trap v e shape (step v e).pc ≡ to (step v e).pc → AreFirst tasks fs
-    → AreFirst tasks (frames_after_return (frames_after v e (f ∷ fs)))
+    → AreFirst tasks (frames_after_return (frames_after_step v e (f ∷ fs)))
 first_stays tasks v e f fs shape size none at is first =
     let q = (step v e).pc in
     let way : cond (is_interrupt_taken v e) (irq q) (edge_way_in_fetch v e (fetched_instruction v) q) ≡ to q = ap (λ t. cond t (irq q) (edge_way_in_fetch v e (fetched_instruction v) q)) none ∙ ap (λ (r : Result (Shape × ℕ) Cause). edge_way_in_fetch v e r q) at ∙ is in
     subst (λ w. AreFirst tasks (frames_after_return (frames_after_edge v.pc (wrapping_sum v.pc (fetched_size (fetched_instruction v))) e.irq w (f ∷ fs)))) (sym way) first
 
-disable_is : (m : Machine) (e : Event) → does m e Disable 4 ≡ record (with_pc_advanced 4 m) { ie = false }
-unfolding does
+disable_is : (m : Machine) (e : Event) → after_instruction m e Disable 4 ≡ record (with_pc_advanced 4 m) { ie = false }
+unfolding after_instruction
 disable_is m e = refl
 
 module _ {image : ImageData} {plan : PlanData} {tasks : TasksData} {certs : ℕ → CertData} {needs : ℕ → ℕ} (wd : World image plan tasks certs needs) (m : Machine) {u : ℕ} {word_of : ℕ → ℕ} {chain_of : ℕ → List ℕ} (k : AllKept image plan tasks needs m u word_of chain_of)
@@ -106,7 +106,7 @@ module _ {image : ImageData} {plan : PlanData} {tasks : TasksData} {certs : ℕ 
 
   -- the task is still the current one
   module _ (e2 : Event) (fits2 : Fits (view_plan_of plan tasks u) (seen_as m mem pcxi fcx) e2) (a : Alike plan (count tasks) u word_of chain_of (IsKept plan tasks) mem m (step m e) (step (seen_as m mem pcxi fcx) e2))
-      (next : NextRun image plan tasks u (step (seen_as m mem pcxi fcx) e2) (frames_after (seen_as m mem pcxi fcx) e2 ((of.run).frame ∷ (of.run).behind))) where
+      (next : NextRun image plan tasks u (step (seen_as m mem pcxi fcx) e2) (frames_after_step (seen_as m mem pcxi fcx) e2 ((of.run).frame ∷ (of.run).behind))) where
     still_now : current_task tasks (step m e).mem ≡ u
     still_now = block_same tasks m.mem (step m e).mem (λ x low high. a.outside x (inr (low, high))) (count tasks) (omega arith) ∙ here_now
 
@@ -127,7 +127,7 @@ module _ {image : ImageData} {plan : PlanData} {tasks : TasksData} {certs : ℕ 
     paused2 : Paused plan (step m e).mem (step m e).pcxi (a.chains u) a.seen (step m e).lcx a.view a.view_pcxi a.view_fcx
     paused2 = paused_after wd m k mem pcxi fcx seen of paused e e2 fits2 (IsKept plan tasks) (λ x in_rom. inl in_rom) a next.run
 
-    runs_on : AreFirst tasks (frames_after (seen_as m mem pcxi fcx) e2 ((of.run).frame ∷ (of.run).behind)) → Goes image plan tasks needs (step m e)
+    runs_on : AreFirst tasks (frames_after_step (seen_as m mem pcxi fcx) e2 ((of.run).frame ∷ (of.run).behind)) → Goes image plan tasks needs (step m e)
     runs_on all =
         let enters : IsInRoutine tasks (step v e2).pc → (step v e2).pc ≡ tasks.switch =
         view_enters wd.ok wd.are wd.fit own (certs u) (wd.judged u own) (view_few wd u own) (step v e2) next.run (subst (AreFirst tasks) (sym next.frames_are) all)
@@ -145,7 +145,7 @@ module _ {image : ImageData} {plan : PlanData} {tasks : TasksData} {certs : ℕ 
       (λ is. elim (in_or_out tasks m.pc) [ inl inside ↦ at_first inside | inr out ↦ absurd (view_out_of_routine wd.ok wd.are wd.fit own (certs u) (wd.judged u own) (view_few wd u own) v of.run out is) ]) (of.run).first
       in
       let next = view_run_interrupt wd.ok wd.are wd.fit own (certs u) (wd.judged u own) (view_few wd u own) v of.run k.running of.rom seen paused.view_free paused.view_links paused.view_areas e fits2 taken
-      (AreFirst-left tasks (frames_after v e ((of.run).frame ∷ (of.run).behind)) all)
+      (AreFirst-left tasks (frames_after_step v e ((of.run).frame ∷ (of.run).behind)) all)
       in
       runs_on e fits2 a next all
 
@@ -184,15 +184,15 @@ module _ {image : ImageData} {plan : PlanData} {tasks : TasksData} {certs : ℕ 
         outside_step wd.ok (view_ok wd u own) (IsKept plan tasks) is_kept m mem pcxi fcx b limits p.state e p.shape p.size at same none
         (record { own_room = own_room wd m k mem pcxi fcx seen of paused e e2 fits2; all_room = room_for_all wd m k mem pcxi fcx seen of paused e e2 fits2 }) (store_is p.shape p.size at) (runs_too wd m k mem pcxi fcx seen of paused e e2 fits2)
 
-    next_by : AreFirst tasks (frames_after_return (frames_after (seen_as m mem pcxi fcx) e2 ((of.run).frame ∷ (of.run).behind)))
-        → NextRun image plan tasks u (step (seen_as m mem pcxi fcx) e2) (frames_after (seen_as m mem pcxi fcx) e2 ((of.run).frame ∷ (of.run).behind))
+    next_by : AreFirst tasks (frames_after_return (frames_after_step (seen_as m mem pcxi fcx) e2 ((of.run).frame ∷ (of.run).behind)))
+        → NextRun image plan tasks u (step (seen_as m mem pcxi fcx) e2) (frames_after_step (seen_as m mem pcxi fcx) e2 ((of.run).frame ∷ (of.run).behind))
     next_by first = view_run_step wd.ok wd.are wd.fit own (certs u) (wd.judged u own) (view_few wd u own) v of.run k.running of.rom seen paused.view_free paused.view_links paused.view_areas e2 fits2 of.memory none first
 
     -- outside of the routine
     goes_outside : (IsInRoutine tasks m.pc → ⊥) → Goes image plan tasks needs (step m e)
     goes_outside out =
         let all = first_next tasks v e2 (of.run).frame (of.run).behind (view_out_of_routine wd.ok wd.are wd.fit own (certs u) (wd.judged u own) (view_few wd u own) v of.run out) (of.run).first in
-        runs_on e2 fits2 alike (next_by (AreFirst-left tasks (frames_after v e2 ((of.run).frame ∷ (of.run).behind)) all)) all
+        runs_on e2 fits2 alike (next_by (AreFirst-left tasks (frames_after_step v e2 ((of.run).frame ∷ (of.run).behind)) all)) all
 
     -- the first instruction of the routine disables interrupts
     goes_in : m.pc ≡ tasks.switch → p.shape ≡ Disable → p.size ≡ 4 → Goes image plan tasks needs (step m e)
@@ -230,9 +230,9 @@ module _ {image : ImageData} {plan : PlanData} {tasks : TasksData} {certs : ℕ 
         let first = first_stays tasks v e2 (of.run).frame (of.run).behind p.shape p.size none there (ap (λ (s : Shape). edge_way_by_trap v e2 s (step v e2).pc) is) (of.run).first in
         let at_4 : fetched_instruction m ≡ Ok (Svlcx, 4) = here ∙ (λ i. Ok (is i, long i)) in
         let after_runs : (step m e).end ≡ Running = sym (ap (λ (x : Machine). x.end) alike.is) ∙ runs_too wd m k mem pcxi fcx seen of paused e e2 fits2 in
-        let does_runs : (does m e Svlcx 4).end ≡ Running = sym (ap (λ (x : Machine). x.end) (done-is m e Svlcx 4 none at_4)) ∙ done_runs m e k.running after_runs in
+        let does_runs : (after_instruction m e Svlcx 4).end ≡ Running = sym (ap (λ (x : Machine). x.end) (done-is m e Svlcx 4 none at_4)) ∙ done_runs m e k.running after_runs in
         let save_runs : (save m false).end ≡ Running = dead≢running (save m false).end (save m false) (with_pc_advanced 4) refl (sym (ap (λ (x : Machine). x.end) (does-svlcx m e 4)) ∙ does_runs) in
-        let does_is : does m e Svlcx 4 ≡ with_pc_advanced 4 (save m false) = does-svlcx m e 4 ∙ then_-running (save m false) (with_pc_advanced 4) save_runs in
+        let does_is : after_instruction m e Svlcx 4 ≡ with_pc_advanced 4 (save m false) = does-svlcx m e 4 ∙ then_-running (save m false) (with_pc_advanced 4) save_runs in
         let next_is : step m e ≡ with_event (with_pc_advanced 4 (save m false)) e = step_does m e Svlcx 4 k.running none at_4 does_runs ∙ ap (λ (x : Machine). with_event x e) does_is in
         let place = save_place m false in
         let small : tasks.switch + 72 ≤ 2 ^ 32 = rom_fits wd.ok tasks.switch 72 (wd.has 71 (omega arith)).in_rom in

@@ -6,7 +6,7 @@ use Rattle.elf_image.specs.Images.{ImageData}
 use Rattle.tcd_plan.specs.PlanData.{PlanData, IsPlan}
 use Rattle.tc_isa.specs.declared.shapes.Shape.{Shape}
 use Rattle.tc_isa.specs.declared.shapes.Shape.TheVariants.{Load}
-use Rattle.tc_isa.specs.InBounds.{IsShape}
+use Rattle.tc_isa.specs.InBounds.{IsShapeInBounds}
 use Rattle.value_domain.specs.declared.states.State.{State}
 use Rattle.value_domain.specs.Limits.{Limits}
 use Rattle.value_domain.specs.State.{Covers}
@@ -22,21 +22,21 @@ use Rattle.cfg_recover.specs.Assignments.{assignment_of_cert, IsAssignmentBelow}
 use Rattle.cfg_recover.proofs.CodeLaws.{IsCode-bounded}
 use Rattle.task_chains.specs.Tasks.{TasksData}
 use Rattle.task_chains.specs.Rule17.{LoadMissesAreasAndRoutine, KeepsRule17ByShape, KeepsRule17AtCertPoint, BreaksRule17, at_point}
-use Rattle.task_chains.specs.Rule17Growth.{TaskFaultsGrow, TaskFaultsRefute}
+use Rattle.task_chains.specs.Rule17Growth.{Rule17FaultsAreMonotone, BrokenRule17IsNotKept}
 use Rattle.cfg_recover.proofs.AccessGrowth.{access_grows}
 use Rattle.cfg_recover.proofs.KnownPlaces.{above, limits_same, setting}
 
 -- ---- a load from a smaller state
 module _ (b : Limits) (p : PlanData) (s t : State) (low : MeetSoundnessPremises b p s) (high : MeetSoundnessPremises b p t) (c : Covers t s) where
   -- if a load misses the areas and the routine from a state, it does from each smaller one
-  loads_shrink : (tasks : TasksData) (shape : Shape) → IsShape shape → LoadMissesAreasAndRoutine b p tasks t shape → LoadMissesAreasAndRoutine b p tasks s shape
+  loads_shrink : (tasks : TasksData) (shape : Shape) → IsShapeInBounds shape → LoadMissesAreasAndRoutine b p tasks t shape → LoadMissesAreasAndRoutine b p tasks s shape
   unfolding address_of_access
   loads_shrink tasks (Load dst base offset size signed after) is h =
       let below = access_grows b p s t low high c base offset after is.1 is.2 in
       ((λ x m. h.0 x (below x m)), (λ x m. h.1 x (below x m)))
   loads_shrink tasks _ is h = h
 
-  apart_shrinks : (tasks : TasksData) (key : Key) (at : ℕ) (shape : Shape) → IsShape shape → KeepsRule17ByShape b p tasks key at t shape → KeepsRule17ByShape b p tasks key at s shape
+  apart_shrinks : (tasks : TasksData) (key : Key) (at : ℕ) (shape : Shape) → IsShapeInBounds shape → KeepsRule17ByShape b p tasks key at t shape → KeepsRule17ByShape b p tasks key at s shape
   apart_shrinks tasks key at shape is h = record { inside = h.inside; at = h.at; loads = loads_shrink tasks shape is h.loads; links = h.links; level = h.level }
 
 -- ---- the law
@@ -59,9 +59,9 @@ module _ (view : ImageData) (plan : PlanData) (tasks : TasksData) (lower upper :
       let up : BreaksRule17 view plan tasks upper (a.node).key (a.place).addr = at_point a.node a.place a.member a.stands (λ holds. wrong (holds_below node a.node q a.place has stands a.member a.stands a.key a.addr a.covers holds)) in
       subst (λ x. BreaksRule17 view plan tasks upper node.key x) a.addr (subst (λ (k : Key). BreaksRule17 view plan tasks upper k (a.place).addr) a.key up)
 
-pub task_faults_grow : TaskFaultsGrow
+pub task_faults_grow : Rule17FaultsAreMonotone
 task_faults_grow view plan tasks lower upper k p ok low_cert up_cert same low_ok up_ok below fails = fails_above view plan tasks lower upper ok low_cert up_cert same low_ok up_ok below k p fails
 
-pub task_faults_refute : TaskFaultsRefute
+pub task_faults_refute : BrokenRule17IsNotKept
 task_faults_refute view plan tasks cert _ _ (at_point node q has stands wrong) keeps =
     wrong (All-contains (λ z. KeepsRule17AtCertPoint view plan tasks cert node z) node.points q (All-contains (λ (n : NodeData). All (λ z. KeepsRule17AtCertPoint view plan tasks cert n z) n.points) cert.nodes node keeps has) stands)

@@ -17,10 +17,10 @@ use Rattle.tc_machine.specs.PlanAreas.{first_link, area_link_or_zero}
 use Rattle.tc_machine.specs.Machine.{is_interrupt_stack_used}
 use Rattle.tc_machine.proofs.PlanLaws.{link_lt}
 use Rattle.task_chains.specs.declared.task_lists.Task.{Task}
-use Rattle.tcd_plan.specs.Cutting.{cut_range_parts, cut_plan_ranges}
+use Rattle.tcd_plan.specs.Cutting.{range_outside, ranges_outside}
 use Rattle.tcd_plan.proofs.CutLaws.{two_left, one_left}
 use Rattle.task_chains.specs.TaskStarts.{task_upper_area, task_lower_area, areas_held_at_start, IsTaskReady}
-use Rattle.task_chains.specs.TaskGuardLaws.{EveryTaskIsReady, EveryPlanFits, EveryTasksStart}
+use Rattle.task_chains.specs.TaskGuardLaws.{EquationsMakeTaskReady, EquationsMakeTasksFit, EquationsMakeTasksStart}
 use Rattle.task_chains.proofs.DeviceLaws.{length-devices}
 
 -- ---- a task before its first turn
@@ -45,7 +45,7 @@ not_is psw e = by_test (is_interrupt_stack_used psw) refl
     by_test false h = refl
     by_test true h = absurd (let one = eqb-true (psw / 2 ^ 9 % 2) 1 h in omega arith)
 
-pub every_ready : EveryTaskIsReady
+pub every_ready : EquationsMakeTaskReady
 every_ready core plan switch block list mem i t there ends psw sp link first second entry word =
     let same : 2 * (i + 1 - 1) ≡ 2 * i = omega arith in
     let is = task_is list (i + 1) t (record { entry = 0; sp = 0 }) there in
@@ -82,10 +82,10 @@ module _ (x n : ℕ) where
   ]
 
   -- the number of parts that are left of one range and of others
-  left_step : (s : Range) (rs : List Range) → length (cut_plan_ranges x n (s ∷ rs)) ≡ length (cut_range_parts x n s) + length (cut_plan_ranges x n rs)
-  left_step s rs = length-append (cut_range_parts x n s) (cut_plan_ranges x n rs)
+  left_step : (s : Range) (rs : List Range) → length (ranges_outside x n (s ∷ rs)) ≡ length (range_outside x n s) + length (ranges_outside x n rs)
+  left_step s rs = length-append (range_outside x n s) (ranges_outside x n rs)
 
-  others_left : (r : Range) (rs : List Range) → r.at ≤ x → x + n ≤ r.at + r.len → list_all (are_ranges_disjoint r) rs ≡ true → length (cut_plan_ranges x n rs) ≤ length rs
+  others_left : (r : Range) (rs : List Range) → r.at ≤ x → x + n ≤ r.at + r.len → list_all (are_ranges_disjoint r) rs ≡ true → length (ranges_outside x n rs) ≤ length rs
   others_left r [] low high apart = omega arith
   others_left r (s ∷ rs) low high apart =
       let parts = and_parts (are_ranges_disjoint r s) (list_all (are_ranges_disjoint r) rs) apart in
@@ -96,7 +96,7 @@ module _ (x n : ℕ) where
   in_list s r (z ∷ zs) zero lt at all = ap (are_ranges_disjoint s) (sym at) ∙ (and_parts (are_ranges_disjoint s z) (list_all (are_ranges_disjoint s) zs) all).0
   in_list s r (z ∷ zs) (suc k) lt at all = in_list s r zs k (omega arith) at (and_parts (are_ranges_disjoint s z) (list_all (are_ranges_disjoint s) zs) all).1
 
-  left_all : (rs : List Range) (r : Range) (k : ℕ) → r.at ≤ x → x + n ≤ r.at + r.len → k < length rs → get_or rs k r ≡ r → are_all_ranges_disjoint rs ≡ true → length (cut_plan_ranges x n rs) ≤ length rs + 1
+  left_all : (rs : List Range) (r : Range) (k : ℕ) → r.at ≤ x → x + n ≤ r.at + r.len → k < length rs → get_or rs k r ≡ r → are_all_ranges_disjoint rs ≡ true → length (ranges_outside x n rs) ≤ length rs + 1
   left_all [] r k low high lt at apart = absurd (omega arith)
   left_all (s ∷ rs) r zero low high lt at apart =
       let parts = and_parts (list_all (are_ranges_disjoint s) rs) (are_all_ranges_disjoint rs) apart in
@@ -113,16 +113,16 @@ module _ (x n : ℕ) where
   in_one_of (s ∷ rs) r zero low high lt at = inl (subst (λ (z : Range). z.at ≤ x) (sym at) low, subst (λ (z : Range). x + n ≤ z.at + z.len) (sym at) high)
   in_one_of (s ∷ rs) r (suc k) low high lt at = inr (in_one_of rs r k low high (omega arith) at)
 
-pub every_fit : EveryPlanFits
+pub every_fit : EquationsMakeTasksFit
 every_fit plan switch block list r ok has low high few own =
     let n = 4 * length list + 4 in
     let rest = map (λ (d : Device). d.range) plan.devices ++ areas_range plan ∷ [] in
     let all : are_all_ranges_disjoint (plan.rom ++ (plan.ram ++ rest)) ≡ true = subst (λ l. are_all_ranges_disjoint l ≡ true) (append_assoc (plan.rom ++ plan.ram) (map (λ (d : Device). d.range) plan.devices) (areas_range plan ∷ []) ∙ append_assoc plan.rom plan.ram rest) ok.apart in
     let left = left_all block n plan.ram r has.0 low high has.1 has.2 (all_apart-front plan.ram rest (all_apart-behind plan.rom (plan.ram ++ rest) all)) in
-    record { in_ram = in_one_of block n plan.ram r has.0 low high has.1 has.2; room = omega (arith, length-devices plan.devices (cut_plan_ranges block n plan.ram)); own_stack = own }
+    record { in_ram = in_one_of block n plan.ram r has.0 low high has.1 has.2; room = omega (arith, length-devices plan.devices (ranges_outside block n plan.ram)); own_stack = own }
 
 -- ---- start states
-pub every_tasks_start : EveryTasksStart
+pub every_tasks_start : EquationsMakeTasksStart
 every_tasks_start image plan switch block t ts d a psw fcx mem ok are d_count d_words a_count a_words psw_word small mapped rom room current ready next last more none sp globals is io =
     let first : first_link plan < 2 ^ 20 = let some = ok.areas.some in let lt = link_lt ok 0 (omega arith) in omega arith in
     let limit : first_link plan + (plan.areas - plan.reserve) < 2 ^ 20 = let some = ok.areas.some in let r = ok.areas.reserved in link_lt ok (plan.areas - plan.reserve) (omega arith) in

@@ -27,7 +27,7 @@ use Rattle.depth_cert.specs.Certs.{CertData}
 use Rattle.cfg_recover.specs.RulesHoldOrFail.{certified_need}
 use Rattle.task_chains.specs.Tasks.{TasksData, AreTasks, count, block_size}
 use Rattle.task_chains.specs.SwitchRoutine.{routine_size, HasRoutine, IsInRoutine}
-use Rattle.task_chains.specs.Views.{view_image_of, view_plan_of, FitPlan}
+use Rattle.task_chains.specs.Views.{view_image_of, view_plan_of, TasksFitPlan}
 use Rattle.task_chains.specs.TaskStarts.{block_word}
 use Rattle.task_chains.specs.SafeTasks.{IsSoundTaskCert}
 use Rattle.task_chains.proofs.Alike.{seen_as, Alike}
@@ -46,7 +46,7 @@ use Rattle.task_chains.proofs.WaitsKept.{waits_kept}
 pub record World (image : ImageData) (plan : PlanData) (tasks : TasksData) (certs : ℕ → CertData) (needs : ℕ → ℕ) : Type 0 where
   pub ok : IsPlan plan
   pub are : AreTasks tasks
-  pub fit : FitPlan plan tasks
+  pub fit : TasksFitPlan plan tasks
   pub has : HasRoutine image plan tasks
   pub judged : (w : ℕ) → w < count tasks → IsSoundTaskCert image plan tasks (certs w) w
   pub enough : (w : ℕ) → w < count tasks → certified_need (view_image_of image tasks w) (view_plan_of plan tasks w) (certs w) ≤ needs w
@@ -65,7 +65,7 @@ in_or_out tasks x =
 pub block_same : (tasks : TasksData) (m n : Memory) → ((x : ℕ) → tasks.block ≤ x → x < tasks.block + block_size tasks → finite.get n x ≡ finite.get m x) → (j : ℕ) → j ≤ count tasks → block_word tasks n j ≡ block_word tasks m j
 block_same tasks m n same j le = word_at_agrees m n (tasks.block + 4 * j) (λ i lt. same (tasks.block + 4 * j + i) (omega arith) (omega arith))
 
-module _ {plan : PlanData} (ok : IsPlan plan) {tasks : TasksData} (fit : FitPlan plan tasks) where
+module _ {plan : PlanData} (ok : IsPlan plan) {tasks : TasksData} (fit : TasksFitPlan plan tasks) where
   -- the block is in ram
   pub block_in_ram : (x : ℕ) → tasks.block ≤ x → x < tasks.block + block_size tasks → IsInOneRange x 1 plan.ram
   block_in_ram x low high = subst (λ y. IsInOneRange y 1 plan.ram) (let e : tasks.block + (x - tasks.block) ≡ x = omega arith in e) (in_one tasks.block (block_size tasks) (x - tasks.block) plan.ram (omega arith) fit.in_ram)

@@ -13,7 +13,7 @@ use Rattle.tc_machine.specs.declared.events.Cause.{Cause}
 use Rattle.tc_machine.specs.declared.events.End.TheVariants.{Running}
 use Rattle.tc_machine.specs.declared.state.Machine.{Machine}
 use Rattle.tc_machine.specs.Machine.{reg, a11, if_running, IsMachine}
-use Rattle.tc_machine.specs.Instructions.{wrapping_sum, with_pc_advanced, access_address, is_trapping_access, target_of, does, is_trapping_instruction}
+use Rattle.tc_machine.specs.Instructions.{wrapping_sum, with_pc_advanced, access_address, is_trapping_access, target_address, after_instruction, is_trapping_instruction}
 use Rattle.tc_machine.specs.Handlers.{at_handler_entry, after_interrupt}
 use Rattle.tc_machine.specs.Stepping.{is_interrupt_taken, after_fetch_result, machine_after_event, step}
 use Rattle.tc_machine.specs.SavesAndRestores.{with_context_saved, save, is_last_context_of_kind, with_context_restored, restore}
@@ -24,7 +24,7 @@ use Rattle.tc_machine.proofs.Areas.{Areas}
 use Rattle.vd_transfer.specs.Registers.{WritesNoFixedRegister}
 use Rattle.depth_cert.specs.declared.keys.Key.{Key}
 use Rattle.cfg_recover.specs.Entries.{call_key, handler_key}
-use Rattle.cfg_recover.specs.Frames.{RunFrame, frames_after_edge, frames_after}
+use Rattle.cfg_recover.specs.Frames.{RunFrame, frames_after_edge, frames_after_step}
 use Rattle.cfg_recover.specs.StepEdges.{EdgeWay, irq, aln, edge_way_of_shape, edge_way_by_trap, edge_way_in_fetch}
 use Rattle.cfg_recover.proofs.Points.{does-rfe, does-svlcx, does-rslcx, does-bisr, does-syscall, does-trapped}
 use Rattle.cfg_recover.proofs.Went.{changed}
@@ -61,7 +61,7 @@ module _ {plan : PlanData} (ok : IsPlan plan) (level : ℕ) (v : Machine) (words
   room_on upper next g = rooms upper (dead_runs (save v upper) next g)
 
   abbrev Next : Type 0
-  Next = Leveled level (step v e) (frames_after v e (f ∷ fs))
+  Next = Leveled level (step v e) (frames_after_step v e (f ∷ fs))
 
   -- ---- an interrupt
   pub level_interrupt : is_interrupt_taken v e ≡ true → Next
@@ -71,11 +71,11 @@ module _ {plan : PlanData} (ok : IsPlan plan) (level : ℕ) (v : Machine) (words
       let runs2 : (if_running (save v true) next).end ≡ Running = sym (ap (λ (x : Machine). x.end) done_is) ∙ done_runs v e running runs in
       let is : machine_after_event v e ≡ next (with_context_saved v true) = done_is ∙ ap (λ s. if_running s next) (saves_on true next runs2) ∙ then_-running (with_context_saved v true) next running in
       let step_is : step v e ≡ with_event (next (with_context_saved v true)) e = step-is v e running (ap (λ (x : Machine). x.end) is ∙ running) ∙ ap (λ (x : Machine). with_event x e) is in
-      let keys_are : keys_of (frames_after v e (f ∷ fs)) ≡ handler_key 2 (step v e).pc e.irq ∷ keys_of (f ∷ fs) =
+      let keys_are : keys_of (frames_after_step v e (f ∷ fs)) ≡ handler_key 2 (step v e).pc e.irq ∷ keys_of (f ∷ fs) =
       ap (λ t. keys_of (frames_after_edge v.pc (wrapping_sum v.pc (fetched_size (fetched_instruction v))) e.irq (cond t (irq (step v e).pc) (edge_way_in_fetch v e (fetched_instruction v) (step v e).pc)) (f ∷ fs))) taken
       in
-      subst (λ (x : Machine). Leveled level x (frames_after v e (f ∷ fs))) (sym step_is)
-      (leveled_upper ok level v words running f fs l free areas e (room_on true next runs2) (with_event (next (with_context_saved v true)) e) (frames_after v e (f ∷ fs)) (handler_key 2 (step v e).pc e.irq) refl refl refl keys_are
+      subst (λ (x : Machine). Leveled level x (frames_after_step v e (f ∷ fs))) (sym step_is)
+      (leveled_upper ok level v words running f fs l free areas e (room_on true next runs2) (with_event (next (with_context_saved v true)) e) (frames_after_step v e (f ∷ fs)) (handler_key 2 (step v e).pc e.irq) refl refl refl keys_are
       (λ k. absurd (let t : 2 ≡ 1 = k in omega arith)) (λ base. absurd (not_base 2 (step v e).pc e.irq base)))
 
   -- ---- an instruction
@@ -83,42 +83,42 @@ module _ {plan : PlanData} (ok : IsPlan plan) (level : ℕ) (v : Machine) (words
     abbrev way : EdgeWay
     way = edge_way_by_trap v e shape (step v e).pc
 
-    keys_are : keys_of (frames_after v e (f ∷ fs)) ≡ keys_of (frames_after_edge v.pc (wrapping_sum v.pc (fetched_size (fetched_instruction v))) e.irq way (f ∷ fs))
+    keys_are : keys_of (frames_after_step v e (f ∷ fs)) ≡ keys_of (frames_after_edge v.pc (wrapping_sum v.pc (fetched_size (fetched_instruction v))) e.irq way (f ∷ fs))
     keys_are =
         ap (λ t. keys_of (frames_after_edge v.pc (wrapping_sum v.pc (fetched_size (fetched_instruction v))) e.irq (cond t (irq (step v e).pc) (edge_way_in_fetch v e (fetched_instruction v) (step v e).pc)) (f ∷ fs))) none
         ∙ ap (λ (r : Result (Shape × ℕ) Cause). keys_of (frames_after_edge v.pc (wrapping_sum v.pc (fetched_size (fetched_instruction v))) e.irq (edge_way_in_fetch v e r (step v e).pc) (f ∷ fs))) at
 
-    does_runs : (does v e shape size).end ≡ Running
+    does_runs : (after_instruction v e shape size).end ≡ Running
     does_runs = sym (ap (λ (x : Machine). x.end) (done-is v e shape size none at)) ∙ done_runs v e running runs
 
-    step_is : (x : Machine) → does v e shape size ≡ x → step v e ≡ with_event x e
+    step_is : (x : Machine) → after_instruction v e shape size ≡ x → step v e ≡ with_event x e
     step_is x is = step_does v e shape size running none at does_runs ∙ ap (λ (y : Machine). with_event y e) is
 
-    to_step : (x : Machine) → does v e shape size ≡ x → Leveled level (with_event x e) (frames_after v e (f ∷ fs)) → Next
-    to_step x is h = subst (λ (y : Machine). Leveled level y (frames_after v e (f ∷ fs))) (sym (step_is x is)) h
+    to_step : (x : Machine) → after_instruction v e shape size ≡ x → Leveled level (with_event x e) (frames_after_step v e (f ∷ fs)) → Next
+    to_step x is h = subst (λ (y : Machine). Leveled level y (frames_after_step v e (f ∷ fs))) (sym (step_is x is)) h
 
     -- instructions that stay in their frame
-    plain_on : (mem : Memory) → mem ≡ v.mem → Plainly v v (does v e shape size) (does v e shape size) mem v.mem → keys_of (frames_after_edge v.pc (wrapping_sum v.pc (fetched_size (fetched_instruction v))) e.irq way (f ∷ fs)) ≡ keys_of (f ∷ fs) → Next
+    plain_on : (mem : Memory) → mem ≡ v.mem → Plainly v v (after_instruction v e shape size) (after_instruction v e shape size) mem v.mem → keys_of (frames_after_edge v.pc (wrapping_sum v.pc (fetched_size (fetched_instruction v))) e.irq way (f ∷ fs)) ≡ keys_of (f ∷ fs) → Next
     plain_on mem same p stay =
         to_step (changed v p.d p.a p.pc p.ie mem) p.is
-        (leveled_plain ok level v words running f fs l free areas e (with_event (changed v p.d p.a p.pc p.ie mem) e) (frames_after v e (f ∷ fs))
+        (leveled_plain ok level v words running f fs l free areas e (with_event (changed v p.d p.a p.pc p.ie mem) e) (frames_after_step v e (f ∷ fs))
         (subst (λ y. SameAreas v.mem y l.seen) (sym same) (areas_same v.mem l.seen)) refl refl refl (keys_are ∙ stay))
 
     -- instructions that save
-    forth : (upper : Bool) (next : Machine → Machine) → does v e shape size ≡ if_running (save v upper) next → (save v upper ≡ with_context_saved v upper → (next (with_context_saved v upper)).end ≡ v.end) → (length (l.seen) < plan.areas - plan.reserve → Leveled level (with_event (next (with_context_saved v upper)) e) (frames_after v e (f ∷ fs))) → Next
+    forth : (upper : Bool) (next : Machine → Machine) → after_instruction v e shape size ≡ if_running (save v upper) next → (save v upper ≡ with_context_saved v upper → (next (with_context_saved v upper)).end ≡ v.end) → (length (l.seen) < plan.areas - plan.reserve → Leveled level (with_event (next (with_context_saved v upper)) e) (frames_after_step v e (f ∷ fs))) → Next
     forth upper next is ends h =
         let runs2 : (if_running (save v upper) next).end ≡ Running = sym (ap (λ (x : Machine). x.end) is) ∙ does_runs in
         to_step (next (with_context_saved v upper)) (is ∙ ap (λ s. if_running s next) (saves_on upper next runs2) ∙ then_-running (with_context_saved v upper) next running) (h (room_on upper next runs2))
 
     -- instructions that restore
-    back : (upper : Bool) (next : Machine → Machine) → does v e shape size ≡ if_running (restore v upper) next
-        → ((j : ℕ) (rest : List ℕ) → l.seen ≡ j ∷ rest → is_last_context_of_kind v upper ≡ true → Leveled level (with_event (next (with_context_restored v upper)) e) (frames_after v e (f ∷ fs))) → Next
+    back : (upper : Bool) (next : Machine → Machine) → after_instruction v e shape size ≡ if_running (restore v upper) next
+        → ((j : ℕ) (rest : List ℕ) → l.seen ≡ j ∷ rest → is_last_context_of_kind v upper ≡ true → Leveled level (with_event (next (with_context_restored v upper)) e) (frames_after_step v e (f ∷ fs))) → Next
     back upper next is h =
         let r = restores_from v upper (back_runs v upper next (sym (ap (λ (x : Machine). x.end) is) ∙ does_runs)) in
-        let done_is : does v e shape size ≡ next (with_context_restored v upper) = is ∙ ap (λ s. if_running s next) (restore-is v upper r.some r.kind r.area) ∙ then_-running (with_context_restored v upper) next (restored_end v upper ∙ running) in
+        let done_is : after_instruction v e shape size ≡ next (with_context_restored v upper) = is ∙ ap (λ s. if_running s next) (restore-is v upper r.some r.kind r.area) ∙ then_-running (with_context_restored v upper) next (restored_end v upper ∙ running) in
         to_step (next (with_context_restored v upper)) done_is (by_list l.seen refl r.some r.kind)
       where
-        by_list : (ls : List ℕ) → l.seen ≡ ls → link_in v.pcxi ≢ 0 → is_last_context_of_kind v upper ≡ true → Leveled level (with_event (next (with_context_restored v upper)) e) (frames_after v e (f ∷ fs))
+        by_list : (ls : List ℕ) → l.seen ≡ ls → link_in v.pcxi ≢ 0 → is_last_context_of_kind v upper ≡ true → Leveled level (with_event (next (with_context_restored v upper)) e) (frames_after_step v e (f ∷ fs))
         by_list [] is_l some kind = absurd (some (subst (Links v.mem v.pcxi) is_l l.links))
         by_list (j ∷ rest) is_l some kind = h j rest is_l kind
 
@@ -130,7 +130,7 @@ module _ {plan : PlanData} (ok : IsPlan plan) (level : ℕ) (v : Machine) (words
       ap (λ t. keys_of (frames_after_edge v.pc (wrapping_sum v.pc (fetched_size (fetched_instruction v))) e.irq (cond t (aln (step v e).pc) (edge_way_of_shape shape (step v e).pc)) (f ∷ fs))) traps_is
       in
       forth shape size none at true next (does-trapped v e size shape traps_is) (λ _. refl)
-      (λ room. leveled_upper ok level v words running f fs l free areas e room (with_event (next (with_context_saved v true)) e) (frames_after v e (f ∷ fs)) (handler_key 4 (step v e).pc (f.key).prio) refl refl refl
+      (λ room. leveled_upper ok level v words running f fs l free areas e room (with_event (next (with_context_saved v true)) e) (frames_after_step v e (f ∷ fs)) (handler_key 4 (step v e).pc (f.key).prio) refl refl refl
       (keys_are shape size none at ∙ stay) (λ k. absurd (let t : 4 ≡ 1 = k in omega arith)) (λ base. absurd (not_base 4 (step v e).pc (f.key).prio base)))
 
   not_trapped : (shape : Shape) → is_trapping_instruction v e shape ≡ false → keys_of (frames_after_edge v.pc (wrapping_sum v.pc (fetched_size (fetched_instruction v))) e.irq (edge_way_of_shape shape (step v e).pc) (f ∷ fs)) ≡ keys_of (f ∷ fs)
@@ -155,34 +155,34 @@ module _ {plan : PlanData} (ok : IsPlan plan) (level : ℕ) (v : Machine) (words
   level_step (Branch test x y by lowers) size none at writes ends no_bisr stores = plain_on (Branch test x y by lowers) size none at v.mem refl (plain-branch v v.mem v.pcxi v.fcx e e test x y by lowers size) refl
   level_step (Jump target) size none at writes ends no_bisr stores = plain_on (Jump target) size none at v.mem refl (plain-jump v v.mem v.pcxi v.fcx e e target size) refl
   level_step (Call target) size none at writes ends no_bisr stores =
-      let next : Machine → Machine = λ s. record s { a = set s.a 11 (wrapping_sum v.pc size); pc = target_of v target } in
+      let next : Machine → Machine = λ s. record s { a = set s.a 11 (wrapping_sum v.pc size); pc = target_address v target } in
       forth (Call target) size none at true next (does-call v e target size) (λ _. refl)
-      (λ room. leveled_upper ok level v words running f fs l free areas e room (with_event (next (with_context_saved v true)) e) (frames_after v e (f ∷ fs)) (call_key f.key (step v e).pc) refl refl refl (keys_are (Call target) size none at)
+      (λ room. leveled_upper ok level v words running f fs l free areas e room (with_event (next (with_context_saved v true)) e) (frames_after_step v e (f ∷ fs)) (call_key f.key (step v e).pc) refl refl refl (keys_are (Call target) size none at)
       (λ k base. base) (λ base. (refl, base)))
   level_step Ret size none at writes ends no_bisr stores =
       let next : Machine → Machine = λ r. record r { pc = a11 v / 2 * 2 } in
       back Ret size none at true next (does-ret v e size)
-      (λ j rest is kind. leveled_upper_back ok level v words running f fs l free areas e j rest is (with_event (next (with_context_restored v true)) e) (frames_after v e (f ∷ fs)) refl refl refl (keys_are Ret size none at) kind (λ k. refl) (λ k. absurd (k ends)) (inl ends))
+      (λ j rest is kind. leveled_upper_back ok level v words running f fs l free areas e j rest is (with_event (next (with_context_restored v true)) e) (frames_after_step v e (f ∷ fs)) refl refl refl (keys_are Ret size none at) kind (λ k. refl) (λ k. absurd (k ends)) (inl ends))
   level_step Rfe size none at writes ends no_bisr stores =
       let next : Machine → Machine = λ r. record r { pc = a11 v / 2 * 2; ie = pie_of v.core v.pcxi; ccpn = pcpn_of v.core v.pcxi } in
       back Rfe size none at true next (does-rfe v e size)
-      (λ j rest is kind. leveled_upper_back ok level v words running f fs l free areas e j rest is (with_event (next (with_context_restored v true)) e) (frames_after v e (f ∷ fs)) refl refl refl (keys_are Rfe size none at) kind (λ k. absurd (ends k)) (λ k. refl) (inr ends))
+      (λ j rest is kind. leveled_upper_back ok level v words running f fs l free areas e j rest is (with_event (next (with_context_restored v true)) e) (frames_after_step v e (f ∷ fs)) refl refl refl (keys_are Rfe size none at) kind (λ k. absurd (ends k)) (λ k. refl) (inr ends))
   level_step Svlcx size none at writes ends no_bisr stores =
       forth Svlcx size none at false (with_pc_advanced size) (does-svlcx v e size) (λ _. refl)
-      (λ room. leveled_lower ok level v words running f fs l free areas e room (with_event (with_pc_advanced size (with_context_saved v false)) e) (frames_after v e (f ∷ fs)) refl refl refl (keys_are Svlcx size none at) (λ base. refl))
+      (λ room. leveled_lower ok level v words running f fs l free areas e room (with_event (with_pc_advanced size (with_context_saved v false)) e) (frames_after_step v e (f ∷ fs)) refl refl refl (keys_are Svlcx size none at) (λ base. refl))
   level_step Rslcx size none at writes ends no_bisr stores =
       back Rslcx size none at false (with_pc_advanced size) (does-rslcx v e size)
-      (λ j rest is kind. leveled_lower_back ok level v words running f fs l free areas e j rest is (with_event (with_pc_advanced size (with_context_restored v false)) e) (frames_after v e (f ∷ fs)) refl refl refl refl (keys_are Rslcx size none at) (not-true (ul_of v.core v.pcxi) kind))
+      (λ j rest is kind. leveled_lower_back ok level v words running f fs l free areas e j rest is (with_event (with_pc_advanced size (with_context_restored v false)) e) (frames_after_step v e (f ∷ fs)) refl refl refl refl (keys_are Rslcx size none at) (not-true (ul_of v.core v.pcxi) kind))
   level_step (Bisr c) size none at writes ends no_bisr stores =
       let next : Machine → Machine = λ s. record (with_pc_advanced size s) { ccpn = c; ie = true } in
       forth (Bisr c) size none at false next (does-bisr v e size c) (λ _. refl)
-      (λ room. leveled_lower ok level v words running f fs l free areas e room (with_event (next (with_context_saved v false)) e) (frames_after v e (f ∷ fs)) refl refl refl (keys_are (Bisr c) size none at) (λ base. absurd (no_bisr base)))
+      (λ room. leveled_lower ok level v words running f fs l free areas e room (with_event (next (with_context_saved v false)) e) (frames_after_step v e (f ∷ fs)) refl refl refl (keys_are (Bisr c) size none at) (λ base. absurd (no_bisr base)))
   level_step Enable size none at writes ends no_bisr stores = plain_on Enable size none at v.mem refl (plain-enable v v.mem v.pcxi v.fcx e e size) refl
   level_step Disable size none at writes ends no_bisr stores = plain_on Disable size none at v.mem refl (plain-disable v v.mem v.pcxi v.fcx e e size) refl
   level_step (Syscall tin) size none at writes ends no_bisr stores =
       let next : Machine → Machine = λ s. record (at_handler_entry v s (wrapping_sum v.pc size) (bit_or v.btv (6 * 2 ^ 5))) { d = set s.d 15 tin } in
       forth (Syscall tin) size none at true next (does-syscall v e size tin) (λ _. refl)
-      (λ room. leveled_upper ok level v words running f fs l free areas e room (with_event (next (with_context_saved v true)) e) (frames_after v e (f ∷ fs)) (handler_key 3 (step v e).pc (f.key).prio) refl refl refl (keys_are (Syscall tin) size none at)
+      (λ room. leveled_upper ok level v words running f fs l free areas e room (with_event (next (with_context_saved v true)) e) (frames_after_step v e (f ∷ fs)) (handler_key 3 (step v e).pc (f.key).prio) refl refl refl (keys_are (Syscall tin) size none at)
       (λ k. absurd (let t : 3 ≡ 1 = k in omega arith)) (λ base. absurd (not_base 3 (step v e).pc (f.key).prio base)))
   level_step (Mfcr dst number) size none at writes ends no_bisr stores = plain_on (Mfcr dst number) size none at v.mem refl (plain-mfcr v v.mem v.pcxi v.fcx e e dst number size refl) refl
   level_step (Mtcr src number) size none at writes ends no_bisr stores = absurd writes

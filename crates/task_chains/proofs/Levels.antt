@@ -2,7 +2,7 @@
 -- and isn't on the interrupt stack has the start's CCPN.
 use Rattle.std.proofs.Common.{◌≡◌, ◌≢◌, ℕ, ◌^◌, ◌<◌, ◌⊎◌, inl, inr, Bool, true, false, List, [], ◌∷◌, length, get_or, refl, sym, ◌∙◌, subst, arith}
 use Rattle.csa_chain.specs.MemoryBytes.{Memory, with_words}
-use Rattle.csa_chain.specs.Chain.{link_address, is_area, area_word}
+use Rattle.csa_chain.specs.Chain.{link_address, is_area_mapped, area_word}
 use Rattle.csa_chain.specs.ContextWords.{ul_of, pcpn_of, pcxi_word_of}
 use Rattle.csa_chain.proofs.ChainLaws.{SameAreas, Avoids, area_word_same, SameAreas-written, area_word-written}
 use Rattle.csa_chain.proofs.ContextLaws.{ul_of-pcxi_word, pcpn_of-pcxi_word}
@@ -60,7 +60,7 @@ Levels-from : (core : Core) (level : ℕ) (mem : Memory) (word l : ℕ) (ls : Li
 Levels-from core level mem word l ls keys b is e h = subst (λ b. EndsFrame level (pcpn_of core word) b keys × Levels core level mem (area_word mem l 0) ls (frames_under b keys)) (sym is) (e, h)
 
 -- ---- saves
-module _ (core : Core) (level : ℕ) (mem : Memory) (pcxi k : ℕ) (used : List ℕ) (context : List ℕ) (long : length context ≡ 16) (first : get_or context 0 0 ≡ pcxi) (word : pcxi < 2 ^ 32) (here : is_area mem k ≡ true) (apart : Avoids k used)
+module _ (core : Core) (level : ℕ) (mem : Memory) (pcxi k : ℕ) (used : List ℕ) (context : List ℕ) (long : length context ≡ 16) (first : get_or context 0 0 ≡ pcxi) (word : pcxi < 2 ^ 32) (here : is_area_mapped mem k ≡ true) (apart : Avoids k used)
     (small : k < 2 ^ 20) (ccpn : ℕ) (ccpn_lt : ccpn < 2 ^ 8) (ie : Bool) where
   saved_first : area_word (with_words mem (link_address k) context) k 0 ≡ pcxi
   saved_first = area_word-written mem k context 0 (omega arith) here (omega arith) (subst (λ x. x < 2 ^ 32) (sym first) word) ∙ first

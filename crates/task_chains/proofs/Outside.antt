@@ -11,7 +11,7 @@ use Rattle.elf_image.specs.Images.{ImageData, image_byte}
 use Rattle.tcd_plan.specs.PlanData.{PlanData, IsPlan}
 use Rattle.tc_isa.specs.declared.shapes.Arg.{Arg}
 use Rattle.tc_isa.specs.declared.shapes.Arg.TheVariants.{Reg, Word}
-use Rattle.tc_isa.specs.InBounds.{IsArg}
+use Rattle.tc_isa.specs.InBounds.{IsArgInBounds}
 use Rattle.cfg_recover.proofs.EntryLaws.{reg_lt}
 use Rattle.cfg_recover.proofs.CodeLaws.{IsCode-bounded}
 use Rattle.tc_isa.specs.declared.shapes.Shape.{Shape}
@@ -21,7 +21,7 @@ use Rattle.tc_machine.specs.declared.events.End.{End}
 use Rattle.tc_machine.specs.declared.events.End.TheVariants.{Running, Dead}
 use Rattle.tc_machine.specs.declared.state.Machine.{Machine}
 use Rattle.tc_machine.specs.Machine.{reg, a11, if_running, if_end_running, IsMachine, core_register}
-use Rattle.tc_machine.specs.Instructions.{wrapping_sum, with_pc_advanced, access_address, is_trapping_access, target_of, does, is_trapping_instruction}
+use Rattle.tc_machine.specs.Instructions.{wrapping_sum, with_pc_advanced, access_address, is_trapping_access, target_address, after_instruction, is_trapping_instruction}
 use Rattle.tc_machine.specs.Handlers.{at_handler_entry, after_interrupt}
 use Rattle.tc_machine.specs.Stepping.{is_interrupt_taken, after_fetch_result, machine_after_event, step}
 use Rattle.tc_machine.specs.SavesAndRestores.{is_last_context_of_kind, restore, with_context_saved, save}
@@ -149,7 +149,7 @@ module _ {image view : ImageData} {plan : PlanData} (ok : IsPlan plan) {tasks : 
         (λ i less. subst (λ x. Agrees mem m.mem ((x + i) % 2 ^ 32)) is (byte_agrees (access_address v base offset after) i size less load_misses.0 load_misses.1)) lt
 
   -- ---- addresses are words
-  access_lt : (base : Arg) (offset : ℕ) (after : Bool) → IsArg base → access_address m base offset after < 2 ^ 32
+  access_lt : (base : Arg) (offset : ℕ) (after : Bool) → IsArgInBounds base → access_address m base offset after < 2 ^ 32
   access_lt base offset false is = omega arith
   access_lt (Reg r) offset true is = reg_lt m k.words r
   access_lt (Word w) offset true is = is
@@ -206,27 +206,27 @@ module _ {image view : ImageData} {plan : PlanData} (ok : IsPlan plan) {tasks : 
     there : fetched_instruction v ≡ Ok (shape, size)
     there = fetched_code view (view_plan_of plan tasks u) v shape size view_ok k.view_rom at.code
 
-    runs_on : (step v e2).end ≡ Running → (does v e2 shape size).end ≡ Running
+    runs_on : (step v e2).end ≡ Running → (after_instruction v e2 shape size).end ≡ Running
     runs_on runs = sym (ap (λ (x : Machine). x.end) (done-is v e2 shape size none there)) ∙ done_runs v e2 k.running runs
 
-    plainly : (mem2 : Memory) → ((x : ℕ) → IsInAreas plan x → finite.get mem2 x ≡ finite.get m.mem x) → ((x : ℕ) → is_mapped mem2 x ≡ is_mapped m.mem x) → Plainly m v (does m e shape size) (does v e2 shape size) mem2 mem
+    plainly : (mem2 : Memory) → ((x : ℕ) → IsInAreas plan x → finite.get mem2 x ≡ finite.get m.mem x) → ((x : ℕ) → is_mapped mem2 x ≡ is_mapped m.mem x) → Plainly m v (after_instruction m e shape size) (after_instruction v e2 shape size) mem2 mem
         → ((x : ℕ) → Kept x → finite.get mem2 x ≡ finite.get m.mem x) → AlikeStep e2
     plainly mem2 areas maps p keeps = Alike-plain ok Kept m mem pcxi fcx k.running k.twins mem2 areas maps e e2 shape shape size p keeps none refl refl here there
 
-    same_memory : Plainly m v (does m e shape size) (does v e2 shape size) m.mem mem → AlikeStep e2
+    same_memory : Plainly m v (after_instruction m e shape size) (after_instruction v e2 shape size) m.mem mem → AlikeStep e2
     same_memory p = plainly m.mem (λ x at. refl) (λ x. refl) p (λ x is. refl)
 
-    rooms_for : Rooms e2 → (upper : Bool) (next : Machine → Machine) → does v e2 shape size ≡ if_running (save v upper) next → (next (with_context_saved v upper)).mem ≡ (with_context_saved v upper).mem → (next (with_context_saved v upper)).pcxi ≡ (with_context_saved v upper).pcxi → (step v e2).end ≡ Running
+    rooms_for : Rooms e2 → (upper : Bool) (next : Machine → Machine) → after_instruction v e2 shape size ≡ if_running (save v upper) next → (next (with_context_saved v upper)).mem ≡ (with_context_saved v upper).mem → (next (with_context_saved v upper)).pcxi ≡ (with_context_saved v upper).pcxi → (step v e2).end ≡ Running
         → (sum_of_first n (λ w. length (chain_of w)) < plan.areas - plan.reserve) × (length seen < plan.areas - plan.reserve)
     rooms_for rooms upper next is mem_is pcxi_is runs =
         let room = rooms.own_room upper (save_runs upper next (sym (ap (λ (x : Machine). x.end) is) ∙ runs_on runs)) in
-        let does_is : does v e2 shape size ≡ next (with_context_saved v upper) = is ∙ ap (λ s. if_running s next) (view_stands upper room) ∙ then_-running (with_context_saved v upper) next k.running in
+        let does_is : after_instruction v e2 shape size ≡ next (with_context_saved v upper) = is ∙ ap (λ s. if_running s next) (view_stands upper room) ∙ then_-running (with_context_saved v upper) next k.running in
         let step_at : step v e2 ≡ with_event (next (with_context_saved v upper)) e2 = step_does v e2 shape size k.running none there (runs_on runs) ∙ ap (λ (x : Machine). with_event x e2) does_is in
         (rooms.all_room upper room (ap (λ (x : Machine). x.mem) step_at ∙ mem_is) (ap (λ (x : Machine). x.pcxi) step_at ∙ pcxi_is), room)
 
     -- ---- restores
     -- the view restores a context, so both have one
-    with_context : (upper : Bool) (next : Machine → Machine) → does v e2 shape size ≡ if_running (restore v upper) next → (step v e2).end ≡ Running
+    with_context : (upper : Bool) (next : Machine → Machine) → after_instruction v e2 shape size ≡ if_running (restore v upper) next → (step v e2).end ≡ Running
         → ((l : ℕ) (used : List ℕ) → chain_of u ≡ l ∷ used → (j : ℕ) (seen2 : List ℕ) → Twins plan n u word_of chain_of (j ∷ seen2) m.mem m.pcxi m.fcx m.lcx mem pcxi fcx → is_last_context_of_kind v upper ≡ true → AlikeStep e2) → AlikeStep e2
     with_context upper next is runs step_of =
         let r = restores_from v upper (back_runs v upper next (sym (ap (λ (x : Machine). x.end) is) ∙ runs_on runs)) in
@@ -276,7 +276,7 @@ module _ {image view : ImageData} {plan : PlanData} (ok : IsPlan plan) {tasks : 
   outside_step (Branch test x y by lowers) size at same none rooms store runs = same_memory (Branch test x y by lowers) size at same none (plain-branch m mem pcxi fcx e e test x y by lowers size)
   outside_step (Jump to) size at same none rooms store runs = same_memory (Jump to) size at same none (plain-jump m mem pcxi fcx e e to size)
   outside_step (Call to) size at same none rooms store runs =
-      let r = rooms_for (Call to) size at same none rooms true (λ s. record s { a = set s.a 11 (wrapping_sum v.pc size); pc = target_of v to }) (does-call v e to size) refl refl runs in
+      let r = rooms_for (Call to) size at same none rooms true (λ s. record s { a = set s.a 11 (wrapping_sum v.pc size); pc = target_address v to }) (does-call v e to size) refl refl runs in
       Alike-call ok Kept kept m mem pcxi fcx k.words k.view_words k.running k.twins r.0 r.1 e e to size none refl refl (here (Call to) size at same none) (there (Call to) size at same none)
   outside_step Ret size at same none rooms store runs =
       with_context Ret size at same none true (λ r. record r { pc = a11 v / 2 * 2 }) (does-ret v e size) runs

@@ -19,7 +19,7 @@ use Rattle.tc_machine.specs.declared.events.Event.{Event}
 use Rattle.tc_machine.specs.declared.events.End.TheVariants.{Running}
 use Rattle.tc_machine.specs.declared.state.Machine.{Machine}
 use Rattle.tc_machine.specs.Machine.{reg, with_reg, core_register}
-use Rattle.tc_machine.specs.Instructions.{wrapping_sum, operand_value, with_pc_advanced, access_address, with_base_incremented, is_trapping_access, misaligned_access_trap, target_of, does}
+use Rattle.tc_machine.specs.Instructions.{wrapping_sum, operand_value, with_pc_advanced, access_address, with_base_incremented, is_trapping_access, misaligned_access_trap, target_address, after_instruction}
 use Rattle.tc_machine.specs.Fetching.{fetched_instruction}
 use Rattle.tc_machine.specs.Stepping.{is_interrupt_taken, step}
 use Rattle.tcd_plan.specs.MappedAddresses.{IsInAreas}
@@ -77,41 +77,41 @@ module _ (m : Machine) (view : Memory) (pcxi fcx : ℕ) (e e2 : Event) where
     view_is = ap (with_pc_advanced k) (ap (with_reg v r) same ∙ with_reg-is v r w);
   }
 
-  pub plain-compute : (op : Op) (dst : ℕ) (x y : Arg) (k : ℕ) → Plainly m v (does m e (Compute op dst x y) k) (does v e2 (Compute op dst x y) k) m.mem view
-  unfolding does
+  pub plain-compute : (op : Op) (dst : ℕ) (x y : Arg) (k : ℕ) → Plainly m v (after_instruction m e (Compute op dst x y) k) (after_instruction v e2 (Compute op dst x y) k) m.mem view
+  unfolding after_instruction
   plain-compute op dst x y k = set_one k dst (alu_of op (operand_value m x) (operand_value m y)) (alu_of op (operand_value v x) (operand_value v y)) (λ i. alu_of op (arg-same x i) (arg-same y i))
 
-  pub plain-scaled : (dst base index j k : ℕ) → Plainly m v (does m e (Scaled dst base index j) k) (does v e2 (Scaled dst base index j) k) m.mem view
-  unfolding does
+  pub plain-scaled : (dst base index j k : ℕ) → Plainly m v (after_instruction m e (Scaled dst base index j) k) (after_instruction v e2 (Scaled dst base index j) k) m.mem view
+  unfolding after_instruction
   plain-scaled dst base index j k = set_one k dst (wrapping_sum (reg m base) (reg m index * 2 ^ j)) _ refl
 
-  pub plain-mfcr : (dst number k : ℕ) → core_register v e2 number ≡ core_register m e number → Plainly m v (does m e (Mfcr dst number) k) (does v e2 (Mfcr dst number) k) m.mem view
-  unfolding does
+  pub plain-mfcr : (dst number k : ℕ) → core_register v e2 number ≡ core_register m e number → Plainly m v (after_instruction m e (Mfcr dst number) k) (after_instruction v e2 (Mfcr dst number) k) m.mem view
+  unfolding after_instruction
   plain-mfcr dst number k same = set_one k dst (core_register m e number) (core_register v e2 number) same
 
-  pub plain-enable : (k : ℕ) → Plainly m v (does m e Enable k) (does v e2 Enable k) m.mem view
-  unfolding does
+  pub plain-enable : (k : ℕ) → Plainly m v (after_instruction m e Enable k) (after_instruction v e2 Enable k) m.mem view
+  unfolding after_instruction
   plain-enable k = record { d = m.d; a = m.a; pc = wrapping_sum m.pc k; ie = true; is = refl; view_is = refl }
 
-  pub plain-disable : (k : ℕ) → Plainly m v (does m e Disable k) (does v e2 Disable k) m.mem view
-  unfolding does
+  pub plain-disable : (k : ℕ) → Plainly m v (after_instruction m e Disable k) (after_instruction v e2 Disable k) m.mem view
+  unfolding after_instruction
   plain-disable k = record { d = m.d; a = m.a; pc = wrapping_sum m.pc k; ie = false; is = refl; view_is = refl }
 
-  pub plain-nothing : (k : ℕ) → Plainly m v (does m e Nothing k) (does v e2 Nothing k) m.mem view
-  unfolding does
+  pub plain-nothing : (k : ℕ) → Plainly m v (after_instruction m e Nothing k) (after_instruction v e2 Nothing k) m.mem view
+  unfolding after_instruction
   plain-nothing k = record { d = m.d; a = m.a; pc = wrapping_sum m.pc k; ie = m.ie; is = refl; view_is = refl }
 
-  target_same : (to : Target) → target_of v to ≡ target_of m to
+  target_same : (to : Target) → target_address v to ≡ target_address m to
   target_same (target.Rel by) = refl
   target_same (target.Abs x) = refl
   target_same (target.Reg r) = refl
 
-  pub plain-jump : (to : Target) (k : ℕ) → Plainly m v (does m e (Jump to) k) (does v e2 (Jump to) k) m.mem view
-  unfolding does
-  plain-jump to k = record { d = m.d; a = m.a; pc = target_of m to; ie = m.ie; is = refl; view_is = λ i. record v { pc = target_same to i } }
+  pub plain-jump : (to : Target) (k : ℕ) → Plainly m v (after_instruction m e (Jump to) k) (after_instruction v e2 (Jump to) k) m.mem view
+  unfolding after_instruction
+  plain-jump to k = record { d = m.d; a = m.a; pc = target_address m to; ie = m.ie; is = refl; view_is = λ i. record v { pc = target_same to i } }
 
-  pub plain-branch : (test : Cond) (x : ℕ) (y : Arg) (by : ℕ) (lowers : Bool) (k : ℕ) → Plainly m v (does m e (Branch test x y by lowers) k) (does v e2 (Branch test x y by lowers) k) m.mem view
-  unfolding does
+  pub plain-branch : (test : Cond) (x : ℕ) (y : Arg) (by : ℕ) (lowers : Bool) (k : ℕ) → Plainly m v (after_instruction m e (Branch test x y by lowers) k) (after_instruction v e2 (Branch test x y by lowers) k) m.mem view
+  unfolding after_instruction
   plain-branch test x y by false k = record {
     d = m.d;
     a = m.a;
@@ -145,8 +145,8 @@ module _ (m : Machine) (view : Memory) (pcxi fcx : ℕ) (e e2 : Event) where
 
   pub plain-load : (dst : ℕ) (base : Arg) (offset size : ℕ) (signed after : Bool) (k : ℕ) → is_trapping_access e (access_address m base offset after) size ≡ false → e2.aln ≡ e.aln
       → loaded_number view e2.input (access_address m base offset after) size ≡ loaded_number m.mem e.input (access_address m base offset after) size
-      → Plainly m v (does m e (Load dst base offset size signed after) k) (does v e2 (Load dst base offset size signed after) k) m.mem view
-  unfolding does
+      → Plainly m v (after_instruction m e (Load dst base offset size signed after) k) (after_instruction v e2 (Load dst base offset size signed after) k) m.mem view
+  unfolding after_instruction
   plain-load dst base offset size signed after k none same_aln same =
       let w = load_result signed size (loaded_number m.mem e.input (access_address m base offset after) size) in
       let b = based base offset after in
@@ -164,8 +164,8 @@ module _ (m : Machine) (view : Memory) (pcxi fcx : ℕ) (e e2 : Event) where
 
   pub plain-store : (src : ℕ) (base : Arg) (offset size : ℕ) (after : Bool) (k : ℕ) → is_trapping_access e (access_address m base offset after) size ≡ false → e2.aln ≡ e.aln
       → with_bytes view (access_address m base offset after) (reg m src) size ≡ view
-      → Plainly m v (does m e (Store src base offset size after) k) (does v e2 (Store src base offset size after) k) (with_bytes m.mem (access_address m base offset after) (reg m src) size) view
-  unfolding does
+      → Plainly m v (after_instruction m e (Store src base offset size after) k) (after_instruction v e2 (Store src base offset size after) k) (with_bytes m.mem (access_address m base offset after) (reg m src) size) view
+  unfolding after_instruction
   plain-store src base offset size after k none same_aln same =
       let x = access_address m base offset after in
       let b = based base offset after in
@@ -234,7 +234,7 @@ module _ {plan : PlanData} (ok : IsPlan plan) (Kept : ℕ → Type 0) {n u : ℕ
       view_areas = t.view_areas;
     }
 
-    pub Alike-plain : (e e2 : Event) (shape shape2 : Shape) (size : ℕ) → Plainly m (seen_as m view pcxi fcx) (does m e shape size) (does (seen_as m view pcxi fcx) e2 shape2 size) mem view → ((x : ℕ) → Kept x → map.get mem x ≡ map.get m.mem x)
+    pub Alike-plain : (e e2 : Event) (shape shape2 : Shape) (size : ℕ) → Plainly m (seen_as m view pcxi fcx) (after_instruction m e shape size) (after_instruction (seen_as m view pcxi fcx) e2 shape2 size) mem view → ((x : ℕ) → Kept x → map.get mem x ≡ map.get m.mem x)
         → is_interrupt_taken m e ≡ false → e2.irq ≡ e.irq → e2.status ≡ e.status → fetched_instruction m ≡ Ok (shape, size) → fetched_instruction (seen_as m view pcxi fcx) ≡ Ok (shape2, size)
         → Alike plan n u word_of chain_of Kept view m (step m e) (step (seen_as m view pcxi fcx) e2)
     Alike-plain e e2 shape shape2 size p keeps none same_irq same_status at view_at =

@@ -35,7 +35,7 @@ use Rattle.cfg_recover.specs.LocalRules.{LocalRuleHolds}
 use Rattle.cfg_recover.specs.LocalFaults.{IsFaultless}
 use Rattle.cfg_recover.specs.RulesHoldOrFail.{limits_of_cert, RuleHolds, RulesHoldAtNode, Accepts}
 use Rattle.cfg_recover.specs.MovesAreOwed.{IsInState}
-use Rattle.cfg_recover.specs.Frames.{RunFrame, frames_after, frames_from, frames, AreAllFramesHeld}
+use Rattle.cfg_recover.specs.Frames.{RunFrame, frames_after_step, frames_from, frames, AreAllFramesHeld}
 use Rattle.cfg_recover.specs.EdgeAndFrameLaws.{FramesHeld}
 use Rattle.depth_cert.proofs.KeyLaws.{found_in}
 use Rattle.cfg_recover.proofs.CodeLaws.{IsCode-bounded}
@@ -53,9 +53,9 @@ AllFit-snoc : (plan : PlanData) (m : Machine) (es : List Event) (e : Event) → 
 AllFit-snoc plan m [] e all fit = (fit, tt)
 AllFit-snoc plan m (d ∷ es) e all fit = (all.0, AllFit-snoc plan (step m d) es e all.1 fit)
 
-frames-snoc : (m : Machine) (es : List Event) (e : Event) (fs : List RunFrame) → frames_from m (es ++ e ∷ []) fs ≡ frames_after (run m es) e (frames_from m es fs)
+frames-snoc : (m : Machine) (es : List Event) (e : Event) (fs : List RunFrame) → frames_from m (es ++ e ∷ []) fs ≡ frames_after_step (run m es) e (frames_from m es fs)
 frames-snoc m [] e fs = refl
-frames-snoc m (d ∷ es) e fs = frames-snoc (step m d) es e (frames_after m d fs)
+frames-snoc m (d ∷ es) e fs = frames-snoc (step m d) es e (frames_after_step m d fs)
 
 -- a run reaches this state, in these frames
 pub record Reached (image : ImageData) (plan : PlanData) (v : Machine) (fs : List RunFrame) : Type 0 where
@@ -69,14 +69,14 @@ pub record Reached (image : ImageData) (plan : PlanData) (v : Machine) (fs : Lis
 pub Reached-start : (image : ImageData) (plan : PlanData) (v : Machine) → Starts image plan v → Reached image plan v (record { key = start_key image plan; at = v.pc } ∷ [])
 Reached-start image plan v starts = record { from = v; events = []; starts = starts; fit = tt; is = refl; frames_are = refl }
 
-pub Reached-step : (image : ImageData) (plan : PlanData) (v : Machine) (fs : List RunFrame) (e : Event) → Reached image plan v fs → Fits plan v e → Reached image plan (step v e) (frames_after v e fs)
+pub Reached-step : (image : ImageData) (plan : PlanData) (v : Machine) (fs : List RunFrame) (e : Event) → Reached image plan v fs → Fits plan v e → Reached image plan (step v e) (frames_after_step v e fs)
 Reached-step image plan v fs e r fits = record {
   from = r.from;
   events = r.events ++ e ∷ [];
   starts = r.starts;
   fit = AllFit-snoc plan r.from r.events e r.fit (subst (λ (x : Machine). Fits plan x e) r.is fits);
   is = ap (λ (x : Machine). step x e) r.is ∙ sym (run-snoc r.from r.events e);
-  frames_are = (λ i. frames_after (r.is i) e (r.frames_are i)) ∙ sym (frames-snoc r.from r.events e (record { key = start_key image plan; at = (r.from).pc } ∷ []));
+  frames_are = (λ i. frames_after_step (r.is i) e (r.frames_are i)) ∙ sym (frames-snoc r.from r.events e (record { key = start_key image plan; at = (r.from).pc } ∷ []));
 }
 
 -- ---- what is at a point

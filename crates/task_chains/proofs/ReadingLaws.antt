@@ -8,7 +8,7 @@ use Rattle.task_chains.specs.declared.task_lists.Task.{Task}
 use Rattle.task_chains.specs.declared.task_lists.TasksErr.{TasksErr}
 use Rattle.task_chains.specs.declared.task_lists.TasksErr.TheVariants.{BadLine, NotRam, NoRoom, OnIsp, Count}
 use Rattle.task_chains.specs.Tasks.{TasksData, AreTasks, count}
-use Rattle.task_chains.specs.Views.{FitPlan}
+use Rattle.task_chains.specs.Views.{TasksFitPlan}
 use Rattle.task_chains.specs.TaskListText.{LinesNameTasks, IsBlockInRam, HasRoomForViews, IsTaskErr, IsResultOfTaskText, tasks_with, HasFirstSevenTasks, IsTasksDraftOfParts}
 
 -- ---- what a draft says
@@ -42,7 +42,7 @@ module _ (plan : PlanData) (tasks : TasksData) (are : AreTasks tasks) where
   pub on_isp : (lines : List (List ℕ)) (fields : PlanData) → fields ≡ plan → IsBlockInRam plan tasks → HasRoomForViews plan tasks → fields.start_is ≡ true → IsTaskErr plan lines tasks OnIsp
   on_isp lines fields same ram room is = (few, ram, room, sym (ap (λ (p : PlanData). p.start_is) same) ∙ is)
 
-  pub they_fit : (fields : PlanData) → fields ≡ plan → IsBlockInRam plan tasks → HasRoomForViews plan tasks → fields.start_is ≡ false → FitPlan plan tasks
+  pub they_fit : (fields : PlanData) → fields ≡ plan → IsBlockInRam plan tasks → HasRoomForViews plan tasks → fields.start_is ≡ false → TasksFitPlan plan tasks
   they_fit fields same ram room is = record { in_ram = ram; room = room; own_stack = sym (ap (λ (p : PlanData). p.start_is) same) ∙ is }
 
 -- ---- tasks read one after another

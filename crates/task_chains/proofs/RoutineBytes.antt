@@ -1,7 +1,7 @@
 -- The bytes of the routine, by its words.
 use Rattle.std.proofs.Common.{◌≡◌, ℕ, ◌+◌, ◌*◌, ◌/◌, ◌%◌, ◌^◌, List, [], ◌∷◌, refl, sym, ap, ◌∙◌, arith}
 use Rattle.std.specs.List.{flat_map}
-use Rattle.tc_isa.specs.Spelling.{word_by_form}
+use Rattle.tc_isa.specs.Spelling.{word_of_fields}
 use Rattle.tcd_base.specs.Bytes.{four_bytes}
 use Rattle.tc_isa.specs.NamedInstructions.{adjusted_upper_half, lower_half}
 use Rattle.task_chains.specs.SwitchRoutine.{switch_routine_of, view_routine_of, bytes_of_instructions}
@@ -69,7 +69,7 @@ module _ (n b : ℕ) where
   fifth_of = 4 * n / 64 % 16 * 2 ^ 28 + 4 * n / 1024 * 2 ^ 22 + 4 * n % 64 * 2 ^ 16 + 2 * 2 ^ 12 + 0 * 2 ^ 8 + 89
 
   spelled : bytes_of_instructions (switch_routine_of n b) ≡ by_words first_of second_of third_of fourth_of fifth_of
-  unfolding word_by_form
+  unfolding word_of_fields
   spelled = refl
 
   pub routine_by_words : by_words (movh_word (adjusted_upper_half b)) (lea_word (lower_half b)) (load_word (4 * n)) (jne_word n) (store_word (4 * n)) ≡ bytes_of_instructions (switch_routine_of n b)
@@ -79,7 +79,7 @@ module _ (n b : ℕ) where
       ∙ ap (λ x. by_words (movh_word (adjusted_upper_half b)) (lea_word (lower_half b)) (load_word (4 * n)) (jne_word n) x) (store_is (4 * n)))
 
   view_spelled : bytes_of_instructions (view_routine_of n b) ≡ by_view_words first_of second_of fourth_of
-  unfolding word_by_form
+  unfolding word_of_fields
   view_spelled = refl
 
   pub view_by_words : by_view_words (movh_word (adjusted_upper_half b)) (lea_word (lower_half b)) (jne_word n) ≡ bytes_of_instructions (view_routine_of n b)

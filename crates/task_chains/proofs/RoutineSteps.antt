@@ -10,7 +10,7 @@ use Rattle.tc_isa.specs.declared.shapes.Shape.TheVariants.{Load, Store, Mfcr, No
 use Rattle.tc_machine.specs.declared.events.Event.{Event}
 use Rattle.tc_machine.specs.declared.state.Machine.{Machine}
 use Rattle.tc_machine.specs.Machine.{reg, with_reg, core_register}
-use Rattle.tc_machine.specs.Instructions.{wrapping_sum, with_pc_advanced, is_trapping_access, misaligned_access_trap, does}
+use Rattle.tc_machine.specs.Instructions.{wrapping_sum, with_pc_advanced, is_trapping_access, misaligned_access_trap, after_instruction}
 use Rattle.task_chains.specs.Tasks.{TasksData, count, block_size}
 use Rattle.task_chains.specs.TaskStarts.{block_word}
 use Rattle.task_chains.proofs.Alike.{seen_as}
@@ -87,8 +87,8 @@ module _ (m : Machine) (view : Memory) (pcxi fcx : ℕ) (e e2 : Event) where
 
   -- the machine loads a word; the view reads a core register that is an input
   pub plain-taken : (dst r offset number k : ℕ) → is_trapping_access e (wrapping_sum (reg m r) offset) 4 ≡ false → core_register v e2 number ≡ loaded_number m.mem e.input (wrapping_sum (reg m r) offset) 4
-      → Plainly m v (does m e (Load dst (Reg r) offset 4 false false) k) (does v e2 (Mfcr dst number) k) m.mem view
-  unfolding does
+      → Plainly m v (after_instruction m e (Load dst (Reg r) offset 4 false false) k) (after_instruction v e2 (Mfcr dst number) k) m.mem view
+  unfolding after_instruction
   plain-taken dst r offset number k none same =
       let p = set_one m view pcxi fcx e e2 k dst (loaded_number m.mem e.input (wrapping_sum (reg m r) offset) 4) (core_register v e2 number) same in
       record {
@@ -101,14 +101,14 @@ module _ (m : Machine) (view : Memory) (pcxi fcx : ℕ) (e e2 : Event) where
       }
 
   -- the machine reads PCXI; the view reads a core register that is an input
-  pub plain-pcxi : (dst number k : ℕ) → core_register v e2 number ≡ m.pcxi → Plainly m v (does m e (Mfcr dst 0xfe00) k) (does v e2 (Mfcr dst number) k) m.mem view
-  unfolding does
+  pub plain-pcxi : (dst number k : ℕ) → core_register v e2 number ≡ m.pcxi → Plainly m v (after_instruction m e (Mfcr dst 0xfe00) k) (after_instruction v e2 (Mfcr dst number) k) m.mem view
+  unfolding after_instruction
   plain-pcxi dst number k same = set_one m view pcxi fcx e e2 k dst m.pcxi (core_register v e2 number) same
 
   -- the machine stores a word; the view does nothing
   pub plain-put : (src r offset k : ℕ) → is_trapping_access e (wrapping_sum (reg m r) offset) 4 ≡ false
-      → Plainly m v (does m e (Store src (Reg r) offset 4 false) k) (does v e2 Nothing k) (with_bytes m.mem (wrapping_sum (reg m r) offset) (reg m src) 4) view
-  unfolding does
+      → Plainly m v (after_instruction m e (Store src (Reg r) offset 4 false) k) (after_instruction v e2 Nothing k) (with_bytes m.mem (wrapping_sum (reg m r) offset) (reg m src) 4) view
+  unfolding after_instruction
   plain-put src r offset k none = record {
     d = m.d;
     a = m.a;

@@ -26,8 +26,8 @@ use Rattle.tc_machine.proofs.PlanLaws.{length-links_up}
 use Rattle.task_chains.specs.declared.task_lists.Task.{Task}
 use Rattle.task_chains.specs.Tasks.{TasksData}
 use Rattle.task_chains.specs.TaskStarts.{block_word, current_task}
-use Rattle.task_chains.specs.SafeTasks.{previous_task, owner, chain_word, IsAllowedTaskStore, AreTasksSafeAt}
-use Rattle.task_chains.specs.SafeTasksInWords.{OwnsChain, IsSafeTaskStore, HasSafeTaskParts, SafeTasksSay, TaskPartsAreSafe}
+use Rattle.task_chains.specs.SafeTasks.{previous_task, owner, chain_head, IsAllowedTaskStore, AreTasksSafeAt}
+use Rattle.task_chains.specs.SafeTasksInWords.{OwnsChain, IsSafeTaskStore, HasSafeTaskParts, SafeTasksHaveParts, PartsMakeTasksSafe}
 use Rattle.task_chains.proofs.Places.{sum_below-less, place_of, among, one_place, area_times, area_of, each_of}
 use Rattle.task_chains.proofs.Together.{owner_now, place_here}
 use Rattle.task_chains.proofs.Twins.{areas_once}
@@ -198,7 +198,7 @@ module _ (image : ImageData) {plan : PlanData} (ok : IsPlan plan) (switch block 
       let a = safe.areas in
       let c = safe.code_in_rom in
       let own = owner group m in
-      let link = λ (u : ℕ) (lt : u < n). walks m.mem (chain_word group m u) (a.chain_of u) (Links-chain_within m.mem 4096 (chain_word group m u) (a.chain_of u) (a.chains u lt)).0 in
+      let link = λ (u : ℕ) (lt : u < n). walks m.mem (chain_head group m u) (a.chain_of u) (Links-chain_within m.mem 4096 (chain_head group m u) (a.chain_of u) (a.chains u lt)).0 in
       record {
         running = safe.running;
         own = own;
@@ -232,7 +232,7 @@ module _ (image : ImageData) {plan : PlanData} (ok : IsPlan plan) (switch block 
     few_free : length p.free ≤ 4096
     few_free = let all = p.count in let few = (ok.areas).few in omega arith
 
-    walk_at : (u : ℕ) → u < n → IsAreaWalk m.mem (chain_word group m u) (p.used u)
+    walk_at : (u : ℕ) → u < n → IsAreaWalk m.mem (chain_head group m u) (p.used u)
     walk_at u lt =
         let is = owner_is switch block list m p.own p.owns in
         elim (cases_eq u p.own) [
@@ -264,7 +264,7 @@ module _ (image : ImageData) {plan : PlanData} (ok : IsPlan plan) (switch block 
       areas = record {
         chain_of = p.used;
         free = p.free;
-        chains = λ u lt. chain_within-Links m.mem 4096 (chain_word group m u) (p.used u) (links_of m.mem (chain_word group m u) (p.used u) (walk_at u lt)) (few_used u lt);
+        chains = λ u lt. chain_within-Links m.mem 4096 (chain_head group m u) (p.used u) (links_of m.mem (chain_head group m u) (p.used u) (walk_at u lt)) (few_used u lt);
         free_chain = chain_within-Links m.mem 4096 m.fcx p.free (links_of m.mem m.fcx p.free p.free_walk) few_free;
         share = record {
           each = each_of plan n p.used p.free p.places p.once p.areas;
@@ -283,7 +283,7 @@ module _ (image : ImageData) {plan : PlanData} (ok : IsPlan plan) (switch block 
     }
 
 -- ---- runs
-pub safe_tasks_say : SafeTasksSay
+pub safe_tasks_say : SafeTasksHaveParts
 safe_tasks_say image plan switch block list needs states events n e ok safe walk start fits last =
     let r = every_run plan states events n walk fits in
     let here = safe (states 0) (first_events n events) e start r.0 (subst (λ (m : Machine). Fits plan m e) (sym r.1) last) in
@@ -309,7 +309,7 @@ fits_after plan m (d ∷ es) e all zero lt = all.0
 fits_after plan m (d ∷ es) e all (suc k) lt =
     subst (λ (s : Machine). Fits plan s (get_or es k e)) (sym (one_later m (λ j. get_or (d ∷ es) j e) k)) (fits_after plan (step m d) es e all.1 k (omega arith))
 
-pub parts_are_safe : TaskPartsAreSafe
+pub parts_are_safe : PartsMakeTasksSafe
 parts_are_safe image plan switch block list needs ok parts m es e start all fits =
     let events = λ (k : ℕ). get_or es k e in
     let here =

@@ -8,7 +8,7 @@ use Rattle.tc_machine.specs.PlanAreas.{consecutive_links, first_link, plan_areas
 use Rattle.tc_machine.proofs.PlanLaws.{length-links_up}
 use Rattle.csa_chain.specs.SeveralChains.{sum_of_first, ChainsPartitionAreas}
 use Rattle.task_chains.specs.Tasks.{TasksData, count}
-use Rattle.task_chains.specs.SafeTasks.{chain_word, AreAreasPartitioned}
+use Rattle.task_chains.specs.SafeTasks.{chain_head, AreAreasPartitioned}
 use Rattle.csa_chain.proofs.SeveralLaws.{sum_below-at, first_avoids_rest}
 use Rattle.task_chains.proofs.Twins.{areas_once, reserve_of}
 use Rattle.task_chains.proofs.Switch.{Shared}
@@ -54,7 +54,7 @@ module _ {plan : PlanData} (ok : IsPlan plan) (tasks : TasksData) (m : Machine) 
       let avoids = first_avoids_rest n chain_of f (front ++ reserve_of plan) (plan_areas plan) share (areas_once plan) in
       absurd (head_of plan.reserve (first_link plan + (plan.areas - plan.reserve)) f ((ok.areas).reserved) (behind f front (reserve_of plan) avoids) (sym l.1 ∙ at ∙ s.lcx_is))
 
-  pub areas_shared : ((w : ℕ) → w < n → chain_word tasks m w ≡ word_of w) → ((w : ℕ) → w < n → length (chain_of w) ≤ needs w) → AreAreasPartitioned plan tasks needs m
+  pub areas_shared : ((w : ℕ) → w < n → chain_head tasks m w ≡ word_of w) → ((w : ℕ) → w < n → length (chain_of w) ≤ needs w) → AreAreasPartitioned plan tasks needs m
   areas_shared words within = record {
     chain_of = chain_of;
     free = s.free;
@@ -62,7 +62,7 @@ module _ {plan : PlanData} (ok : IsPlan plan) (tasks : TasksData) (m : Machine) 
         let here = sum_below-at n (λ w. length (chain_of w)) w lt in
         let a = all in
         let few = (ok.areas).few in
-        chain_within-Links m.mem 4096 (chain_word tasks m w) (chain_of w) (subst (λ x. Links m.mem x (chain_of w)) (sym (words w lt)) (s.links w lt)) (omega arith);
+        chain_within-Links m.mem 4096 (chain_head tasks m w) (chain_of w) (subst (λ x. Links m.mem x (chain_of w)) (sym (words w lt)) (s.links w lt)) (omega arith);
     free_chain = (let a = all in let few = (ok.areas).few in chain_within-Links m.mem 4096 m.fcx s.free s.free_links (omega arith));
     share = s.share;
     within_need = within;

@@ -1,7 +1,7 @@
 -- What the tasks share at the start.
 use Rattle.std.proofs.Common.{◌≡◌, ℕ, zero, suc, ◌+◌, ◌-◌, ◌*◌, ◌%◌, ◌^◌, ◌<◌, ◌≤◌, inl, inr, Bool, true, false, cond, List, [], ◌∷◌, ◌++◌, length, refl, sym, ap, ◌∙◌, subst, arith, nat_lt, ◌==◌}
 use Rattle.std.proofs.lemmas.Bool.{cases_eq, lt-ltb, le-ltb, ltb-true}
-use Rattle.csa_chain.specs.Chain.{link_in, is_area, area_word}
+use Rattle.csa_chain.specs.Chain.{link_in, is_area_mapped, area_word}
 use Rattle.csa_chain.proofs.ChainLaws.{Links, are_mapped_from}
 use Rattle.csa_chain.proofs.ContextLaws.{link_in-pcxi_word}
 use Rattle.elf_image.specs.Images.{ImageData}
@@ -73,7 +73,7 @@ module _ (image : ImageData) (plan : PlanData) (ok : IsPlan plan) (tasks : Tasks
   abbrev held : ℕ
   held = areas_held_at_start tasks
 
-  area_mapped : (i : ℕ) → i < plan.areas → is_area m.mem (first_link plan + i) ≡ true
+  area_mapped : (i : ℕ) → i < plan.areas → is_area_mapped m.mem (first_link plan + i) ≡ true
   area_mapped i lt = are_mapped_from m.mem _ 64 (λ j h. (start.memory _).1 (let at = link_address-area ok i lt in inr (inr (omega arith, omega arith))))
 
   -- a task that is ready has two areas

@@ -2,7 +2,7 @@
 -- machine and that task's view are alike again.
 use Rattle.std.proofs.Common.{◌≡◌, ℕ, zero, suc, ◌+◌, ◌-◌, ◌*◌, ◌/◌, ◌^◌, ◌<◌, Bool, true, false, not, List, [], ◌∷◌, ◌++◌, get_or, Ok, refl, sym, ap, ◌∙◌, arith}
 use Rattle.csa_chain.specs.MemoryBytes.{Memory}
-use Rattle.csa_chain.specs.Chain.{link_in, is_area, area_word}
+use Rattle.csa_chain.specs.Chain.{link_in, is_area_mapped, area_word}
 use Rattle.csa_chain.specs.ContextWords.{ul_of}
 use Rattle.csa_chain.proofs.ChainLaws.{Links}
 use Rattle.tcd_plan.specs.PlanData.{PlanData, IsPlan}
@@ -11,7 +11,7 @@ use Rattle.tc_machine.specs.declared.events.Event.{Event}
 use Rattle.tc_machine.specs.declared.events.End.TheVariants.{Running}
 use Rattle.tc_machine.specs.declared.state.Machine.{Machine}
 use Rattle.tc_machine.specs.Machine.{reg, a11, if_running, IsMachine}
-use Rattle.tc_machine.specs.Instructions.{with_pc_advanced, does}
+use Rattle.tc_machine.specs.Instructions.{with_pc_advanced, after_instruction}
 use Rattle.tc_machine.specs.SavesAndRestores.{is_last_context_of_kind, last_context, with_area_released, with_context_restored, restore}
 use Rattle.tc_machine.specs.Fetching.{fetched_instruction}
 use Rattle.tc_machine.specs.Stepping.{is_interrupt_taken, step}
@@ -85,8 +85,8 @@ Shared-from t = record {
   fcx_word = t.fcx_word;
 }
 
-pub does-mtcr_pcxi : (m : Machine) (e : Event) (src k : ℕ) → does m e (Mtcr src 0xfe00) k ≡ record (with_pc_advanced k m) { pcxi = reg m src }
-unfolding does
+pub does-mtcr_pcxi : (m : Machine) (e : Event) (src k : ℕ) → after_instruction m e (Mtcr src 0xfe00) k ≡ record (with_pc_advanced k m) { pcxi = reg m src }
+unfolding after_instruction
 does-mtcr_pcxi m e src k = refl
 
 -- ---- until its contexts are back
@@ -150,10 +150,10 @@ module _ {plan : PlanData} (ok : IsPlan plan) {n u : ℕ} {word_of : ℕ → ℕ
   pub comes_back : (upper : Bool) → is_last_context_of_kind v upper ≡ true → restore m upper ≡ with_context_restored m upper
   comes_back upper kind =
       let ls = links_before ok l used is words.bytes view_words.bytes t in
-      restore-is m upper (λ e. ls.0 (sym here ∙ e)) (kind_from upper kind) (ap (is_area m.mem) here ∙ ls.2)
+      restore-is m upper (λ e. ls.0 (sym here ∙ e)) (kind_from upper kind) (ap (is_area_mapped m.mem) here ∙ ls.2)
 
   pub view_comes_back : (upper : Bool) → is_last_context_of_kind v upper ≡ true → restore v upper ≡ with_context_restored v upper
-  view_comes_back upper kind = restore-is v upper (λ e. (t.view_links).0 (sym there ∙ e)) kind (ap (is_area v.mem) there ∙ (t.view_links).2)
+  view_comes_back upper kind = restore-is v upper (λ e. (t.view_links).0 (sym there ∙ e)) kind (ap (is_area_mapped v.mem) there ∙ (t.view_links).2)
 
   behind : SameBehindFirst (last_context m) (last_context v)
   behind = same_area_words m.mem v.mem (link_in m.pcxi) (link_in v.pcxi) (λ i lt. ap (λ x. area_word m.mem x (suc i)) here ∙ own.1 i lt ∙ ap (λ x. area_word v.mem x (suc i)) (sym there))
@@ -185,10 +185,10 @@ module _ {plan : PlanData} (ok : IsPlan plan) {n u : ℕ} {word_of : ℕ → ℕ
   switched_back s kind e e2 none same_irq same_status size at view_at =
       let view_none : is_interrupt_taken v e2 ≡ false = (λ i. is_interrupt_taken (record m { ie = beside.ie i; ccpn = beside.ccpn i }) (record e { irq = same_irq i })) ∙ none in
       let view_running : v.end ≡ Running = beside.end ∙ running in
-      let m_after : does m e Ret size ≡ record (with_context_restored m true) { pc = a11 m / 2 * 2 } =
+      let m_after : after_instruction m e Ret size ≡ record (with_context_restored m true) { pc = a11 m / 2 * 2 } =
       does-ret m e size ∙ ap (λ r. if_running r (λ r. record r { pc = a11 m / 2 * 2 })) (comes_back true kind) ∙ then_-running (with_context_restored m true) (λ r. record r { pc = a11 m / 2 * 2 }) (restored_end m true ∙ running)
       in
-      let v_after : does v e2 Ret size ≡ seen_as (record (with_context_restored m true) { pc = a11 m / 2 * 2 }) (with_area_released v).mem (with_area_released v).pcxi (with_area_released v).fcx =
+      let v_after : after_instruction v e2 Ret size ≡ seen_as (record (with_context_restored m true) { pc = a11 m / 2 * 2 }) (with_area_released v).mem (with_area_released v).pcxi (with_area_released v).fcx =
       does-ret v e2 size ∙ ap (λ r. if_running r (λ r. record r { pc = a11 v / 2 * 2 })) (view_comes_back true kind) ∙ then_-running (with_context_restored v true) (λ r. record r { pc = a11 v / 2 * 2 }) (restored_end v true ∙ view_running)
       ∙ ap (λ (r : Machine). record r { pc = a11 v / 2 * 2 }) (upper_back s)
       ∙ (λ i. seen_as (record (with_context_restored m true) { pc = s.back i / 2 * 2; ie = beside.ie i; ccpn = beside.ccpn i; biv = beside.biv i; btv = beside.btv i; isp = beside.isp i; core = beside.core i; end = beside.end i; lcx = beside.lcx i }) (with_area_released v).mem (with_area_released v).pcxi (with_area_released v).fcx)

@@ -23,7 +23,7 @@ use Rattle.tc_machine.specs.declared.events.Cause.{Cause}
 use Rattle.tc_machine.specs.declared.events.Event.{Event}
 use Rattle.tc_machine.specs.declared.state.Machine.{Machine}
 use Rattle.tc_machine.specs.Machine.{reg}
-use Rattle.tc_machine.specs.Instructions.{wrapping_sum, is_trapping_access, does}
+use Rattle.tc_machine.specs.Instructions.{wrapping_sum, is_trapping_access, after_instruction}
 use Rattle.tc_machine.specs.Fetching.{fetched_instruction}
 use Rattle.std.specs.Prelude.{IfSome}
 use Rattle.tc_machine.specs.Stepping.{is_interrupt_taken, load_of_fetched, store_of_fetched, stored, step}
@@ -140,7 +140,7 @@ module _ {image : ImageData} {plan : PlanData} {tasks : TasksData} {certs : ℕ 
 
       -- both are alike again, and the machine is at the routine's next instruction
       turns : (j : ℕ) → 1 ≤ j → j ≤ 14 → MayAnswerLoad (view_plan_of plan tasks u) input (load_of_fetched (seen_as m mem pcxi fcx) (Ok (shape2, 4))) → ((q : ℕ) → edge_way_by_trap (seen_as m mem pcxi fcx) (record e { input = input }) shape2 q ≡ to q)
-          → (mem2 : Memory) → Plainly m (seen_as m mem pcxi fcx) (does m e shape 4) (does (seen_as m mem pcxi fcx) (record e { input = input }) shape2 4) mem2 mem
+          → (mem2 : Memory) → Plainly m (seen_as m mem pcxi fcx) (after_instruction m e shape 4) (after_instruction (seen_as m mem pcxi fcx) (record e { input = input }) shape2 4) mem2 mem
           → ((x : ℕ) → IsInAreas plan x → finite.get mem2 x ≡ finite.get m.mem x) → ((x : ℕ) → is_mapped mem2 x ≡ is_mapped m.mem x) → ((x : ℕ) → IsInOneRange x 1 plan.rom → finite.get mem2 x ≡ finite.get m.mem x)
           → ((w : ℕ) → w < count tasks → w ≢ u → block_word tasks mem2 w ≡ block_word tasks m.mem w)
           → InRoutine tasks (step m e) u j word_of → Goes image plan tasks needs (step m e)
@@ -204,7 +204,7 @@ module _ {image : ImageData} {plan : PlanData} {tasks : TasksData} {certs : ℕ 
       -- an instruction that both have, and that doesn't change memory
       same_turn : (j : ℕ) → 1 ≤ j → j ≤ 14 → (shape : Shape) → IsCode image plan (tasks.switch + 4 * i) shape 4 → IsCode (view_image_of image tasks u) plan (tasks.switch + 4 * i) shape 4
           → MayAnswerLoad (view_plan_of plan tasks u) e.input (load_of_fetched (seen_as m mem pcxi fcx) (Ok (shape, 4))) → ((q : ℕ) → edge_way_by_trap (seen_as m mem pcxi fcx) e shape q ≡ to q)
-          → Plainly m (seen_as m mem pcxi fcx) (does m e shape 4) (does (seen_as m mem pcxi fcx) e shape 4) m.mem mem → InRoutine tasks (step m e) u j word_of → Goes image plan tasks needs (step m e)
+          → Plainly m (seen_as m mem pcxi fcx) (after_instruction m e shape 4) (after_instruction (seen_as m mem pcxi fcx) e shape 4) m.mem mem → InRoutine tasks (step m e) u j word_of → Goes image plan tasks needs (step m e)
       same_turn j some most shape c c2 answers way p next =
           turns r.off shape shape e.input fits.input (at_here shape c) (view_here shape c2) j some most answers way m.mem p (λ x at. refl) (λ x. refl) (λ x at. refl) (λ w lt apart. refl) next
 

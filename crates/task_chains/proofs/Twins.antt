@@ -3,7 +3,7 @@
 use Rattle.std.proofs.Common.{◌≡◌, ◌≢◌, ℕ, zero, suc, ◌+◌, ◌-◌, ◌/◌, ◌^◌, ◌<◌, ◌≤◌, Bool, true, false, List, [], ◌∷◌, ◌++◌, length, get_or, refl, sym, ap, ◌∙◌, subst, arith, inl, inr}
 use Rattle.std.proofs.lemmas.Bool.{cases_eq}
 use Rattle.csa_chain.specs.MemoryBytes.{Memory, with_words, HasOnlyBytes}
-use Rattle.csa_chain.specs.Chain.{link_in, link_address, is_area, area_word, word_with_link}
+use Rattle.csa_chain.specs.Chain.{link_in, link_address, is_area_mapped, area_word, word_with_link}
 use Rattle.csa_chain.specs.ContextWords.{pcxi_word_of}
 use Rattle.csa_chain.specs.ContextWordLaws.{IsListOfWords}
 use Rattle.csa_chain.proofs.WordLaws.{area_word-lt}
@@ -112,7 +112,7 @@ Avoids-behind f (x ∷ xs) ys h = Avoids-behind f xs ys h.1
 pub record HasShared (plan : PlanData) (n : ℕ) (chain_of : ℕ → List ℕ) (mem : Memory) (fcx lcx : ℕ) : Type 0 where
   pub front : List ℕ
   pub some : link_in fcx ≢ 0
-  pub area : is_area mem (link_in fcx) ≡ true
+  pub area : is_area_mapped mem (link_in fcx) ≡ true
   pub not_last : link_in fcx ≢ link_in lcx
   pub links : Links mem fcx (link_in fcx ∷ front ++ reserve_of plan)
   pub share : ChainsPartitionAreas n chain_of (link_in fcx ∷ front ++ reserve_of plan) (plan_areas plan)
@@ -151,7 +151,7 @@ module _ {plan : PlanData} (ok : IsPlan plan) {n u : ℕ} {word_of : ℕ → ℕ
     v = has_free ok (plan.areas - plan.reserve) (omega arith) view view_fcx lcx seen t.view_free t.view_areas view_room
 
     -- a word of the context that was saved
-    saved_word : (m : Memory) (l i : ℕ) (ws : List ℕ) → IsListOfWords 16 ws → is_area m l ≡ true → i < 16 → area_word (with_words m (link_address l) ws) l i ≡ get_or ws i 0
+    saved_word : (m : Memory) (l i : ℕ) (ws : List ℕ) → IsListOfWords 16 ws → is_area_mapped m l ≡ true → i < 16 → area_word (with_words m (link_address l) ws) l i ≡ get_or ws i 0
     saved_word m l i ws ws_are here lt = let long = ws_are.0 in area_word-written m l ws i (omega arith) here (omega arith) (ws_are.1 i 0 (omega arith))
 
     avoids_own : Avoids (link_in fcx) (chain_of u)

@@ -10,7 +10,7 @@ use Rattle.tc_machine.specs.PlanAreas.{first_link}
 use Rattle.tc_machine.specs.Starting.{Starts, HasGlobals}
 use Rattle.tc_machine.proofs.PlanLaws.{link_lt}
 use Rattle.task_chains.specs.Tasks.{TasksData, task_at}
-use Rattle.task_chains.specs.Views.{view_image_of, view_plan_of, FitPlan}
+use Rattle.task_chains.specs.Views.{view_image_of, view_plan_of, TasksFitPlan}
 use Rattle.csa_chain.proofs.SeveralLaws.{cond_other}
 use Rattle.task_chains.proofs.ViewStart.{IsViewStart}
 use Rattle.task_chains.proofs.Alike.{seen_as}
@@ -36,7 +36,7 @@ first_small : {plan : PlanData} → IsPlan plan → first_link plan < 2 ^ 32
 first_small {plan = plan} ok = let some = (ok.areas).some in let lt = link_lt ok 0 (omega arith) in omega arith
 
 -- the view starts as the machine, with its own memory, PCXI 0 and all areas free
-pub view_begins : {plan : PlanData} → IsPlan plan → (image : ImageData) (tasks : TasksData) → FitPlan plan tasks → (u : ℕ) → 0 < u → (m : Machine) → Begun plan tasks u m → (start : Memory) → IsViewStart (view_image_of image tasks u) plan tasks u m.mem start
+pub view_begins : {plan : PlanData} → IsPlan plan → (image : ImageData) (tasks : TasksData) → TasksFitPlan plan tasks → (u : ℕ) → 0 < u → (m : Machine) → Begun plan tasks u m → (start : Memory) → IsViewStart (view_image_of image tasks u) plan tasks u m.mem start
     → Starts (view_image_of image tasks u) (view_plan_of plan tasks u) (seen_as m start 0 (first_link plan))
 view_begins {plan = plan} ok image tasks fit u later m b start s =
     let w = b.words in

@@ -4,7 +4,7 @@ use Rattle.std.specs.Prelude.{sum_by, slice_index_or}
 use Rattle.std.specs.List.{list_all}
 use Rattle.std.proofs.lemmas.List.{length-map}
 use Rattle.std.proofs.lemmas.List.Sums.{sum_by-cons}
-use Rattle.elf_image.specs.Images.{ImageData, SegmentData, IsImage, AreSegmentBytes, is_segment, are_segments_disjoint, are_all_segments_disjoint}
+use Rattle.elf_image.specs.Images.{ImageData, SegmentData, IsImage, HoldOnlyBytes, is_segment, are_segments_disjoint, are_all_segments_disjoint}
 use Rattle.task_chains.specs.Tasks.{TasksData, AreTasks, count}
 use Rattle.task_chains.specs.SwitchRoutine.{view_routine_bytes}
 use Rattle.task_chains.specs.Views.{with_view_routine_from, view_segment, view_image_of}
@@ -64,7 +64,7 @@ module _ (tasks : TasksData) where
       ∙ ap (λ k. k + sum_by (λ (z : SegmentData). length z.bytes) (map (view_segment tasks) ss)) (length-with s.at s.bytes) ∙ ap (λ k. length s.bytes + k) (sum_same ss)
       ∙ sym (sum_by-cons (λ (z : SegmentData). length z.bytes) s ss)
 
-  pub view_is_image : (image : ImageData) (u : ℕ) → IsImage image → AreTasks tasks → u < count tasks → AreSegmentBytes (view_image_of image tasks u).segments → IsImage (view_image_of image tasks u)
+  pub view_is_image : (image : ImageData) (u : ℕ) → IsImage image → AreTasks tasks → u < count tasks → HoldOnlyBytes (view_image_of image tasks u).segments → IsImage (view_image_of image tasks u)
   view_is_image image u ok are lt bytes = record {
     entry = (are.words u (record { entry = 0; sp = 0 }) lt).0;
     few = omega (arith, length-map image.segments (view_segment tasks), ok.few);

@@ -30,7 +30,7 @@ use Rattle.value_domain.specs.Limits.{Limits}
 use Rattle.cfg_recover.proofs.CodeLaws.{IsCode-suits}
 use Rattle.csa_chain.proofs.MemoryLaws.{get-with_bytes_other}
 use Rattle.task_chains.specs.Tasks.{TasksData, AreTasks, block_size}
-use Rattle.task_chains.specs.Views.{view_plan_of, FitPlan}
+use Rattle.task_chains.specs.Views.{view_plan_of, TasksFitPlan}
 use Rattle.task_chains.specs.Devices.{any_word_device, view_devices}
 use Rattle.task_chains.proofs.Alike.{seen_as}
 use Rattle.task_chains.proofs.Plain.{address-same}
@@ -90,7 +90,7 @@ loaded_outside m input x small fits gone =
     whole : (w : ℕ) → w < 2 ^ 32 → w % 2 ^ 8 + 2 ^ 8 * (w / 2 ^ 8 % 2 ^ 8 + 2 ^ 8 * (w / 2 ^ 8 / 2 ^ 8 % 2 ^ 8 + 2 ^ 8 * (w / 2 ^ 8 / 2 ^ 8 / 2 ^ 8 % 2 ^ 8 + 2 ^ 8 * 0))) ≡ w
     whole w lt = omega arith
 
-module _ {plan : PlanData} (ok : IsPlan plan) (tasks : TasksData) (are : AreTasks tasks) (fit : FitPlan plan tasks) (u : ℕ) where
+module _ {plan : PlanData} (ok : IsPlan plan) (tasks : TasksData) (are : AreTasks tasks) (fit : TasksFitPlan plan tasks) (u : ℕ) where
   -- ---- where accesses lie
   abbrev devs : List Range
   devs = map (λ (d : Device). d.range) plan.devices

@@ -10,12 +10,12 @@ use Rattle.tcd_plan.specs.declared.plans.Device.{Device}
 use Rattle.tcd_plan.specs.PlanData.{PlanData, IsPlan, is_plan_range, is_plan_device, areas_range, are_all_ranges_disjoint}
 use Rattle.tcd_base.specs.Ranges.{IsInOneRange}
 use Rattle.tcd_plan.specs.MappedAddresses.{IsInDevice, IsStoreInRange}
-use Rattle.tcd_plan.specs.Cutting.{cut_plan_ranges}
+use Rattle.tcd_plan.specs.Cutting.{ranges_outside}
 use Rattle.tcd_base.proofs.RangeLaws.{in_one, IsInOne-front, IsInOne-behind}
 use Rattle.tcd_plan.proofs.ApartLaws.{device_ranges, HaveBytes, HaveBytes-ranges, HaveBytes-append, all_apart-before, all_apart-behind, all_apart-front, all_apart-append}
 use Rattle.tcd_plan.proofs.CutLaws.{IsInOne-parts, in_ranges_without, ranges_without_ranges, ranges_without_apart}
 use Rattle.task_chains.specs.Tasks.{TasksData, AreTasks, count, block_size}
-use Rattle.task_chains.specs.Views.{view_plan_of, FitPlan}
+use Rattle.task_chains.specs.Views.{view_plan_of, TasksFitPlan}
 use Rattle.task_chains.specs.Devices.{any_word_device, view_devices}
 use Rattle.task_chains.specs.SafeTasks.{MissesBlock}
 
@@ -41,12 +41,12 @@ ranges_of_any [] = refl
 ranges_of_any (r ∷ rs) = ap (λ ss. r ∷ ss) (ranges_of_any rs)
 
 -- ---- the plan
-module _ {plan : PlanData} (ok : IsPlan plan) (tasks : TasksData) (are : AreTasks tasks) (fit : FitPlan plan tasks) where
+module _ {plan : PlanData} (ok : IsPlan plan) (tasks : TasksData) (are : AreTasks tasks) (fit : TasksFitPlan plan tasks) where
   abbrev pub dev : List Range
   dev = map (λ (d : Device). d.range) plan.devices
 
   abbrev pub left : List Range
-  left = cut_plan_ranges tasks.block (block_size tasks) plan.ram
+  left = ranges_outside tasks.block (block_size tasks) plan.ram
 
   pub rest_apart : are_all_ranges_disjoint (plan.rom ++ (plan.ram ++ (dev ++ areas_range plan ∷ []))) ≡ true
   rest_apart = sym (ap are_all_ranges_disjoint (append_assoc (plan.rom ++ plan.ram) dev (areas_range plan ∷ []) ∙ append_assoc plan.rom plan.ram (dev ++ areas_range plan ∷ []))) ∙ ok.apart

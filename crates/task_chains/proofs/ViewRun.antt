@@ -7,7 +7,7 @@ use Rattle.csa_chain.specs.SeveralChains.{sum_of_first}
 use Rattle.elf_image.specs.Images.{ImageData}
 use Rattle.tcd_plan.specs.PlanData.{PlanData, IsPlan}
 use Rattle.tcd_plan.specs.MappedAddresses.{IsStoreInRange}
-use Rattle.tc_isa.specs.InBounds.{IsShape}
+use Rattle.tc_isa.specs.InBounds.{IsShapeInBounds}
 use Rattle.tc_isa.specs.declared.shapes.Shape.{Shape}
 use Rattle.tc_isa.specs.declared.shapes.Shape.TheVariants.{Compute, Scaled, Load, Store, Branch, Jump, Call, Ret, Rfe, Svlcx, Rslcx, Bisr, Enable, Disable, Syscall, Mfcr, Mtcr, Nothing}
 use Rattle.tc_machine.specs.declared.events.Event.{Event}
@@ -31,11 +31,11 @@ use Rattle.depth_cert.specs.declared.keys.Key.{Key}
 use Rattle.depth_cert.specs.Certs.{CertData}
 use Rattle.cfg_recover.specs.RulesHoldOrFail.{limits_of_cert, certified_need}
 use Rattle.cfg_recover.specs.Entries.{start_key}
-use Rattle.cfg_recover.specs.Frames.{RunFrame, frames_after_return, frames_after}
+use Rattle.cfg_recover.specs.Frames.{RunFrame, frames_after_return, frames_after_step}
 use Rattle.cfg_recover.specs.LocalRules.{LocalRuleHolds}
 use Rattle.cfg_recover.proofs.CodeLaws.{IsCode-bounded}
 use Rattle.task_chains.specs.Tasks.{TasksData, AreTasks, count}
-use Rattle.task_chains.specs.Views.{view_image_of, view_plan_of, FitPlan}
+use Rattle.task_chains.specs.Views.{view_image_of, view_plan_of, TasksFitPlan}
 use Rattle.task_chains.specs.Rule17.{KeepsRule17ByShape}
 use Rattle.task_chains.specs.SwitchRoutine.{switch_key, IsInRoutine}
 use Rattle.task_chains.specs.SafeTasks.{IsSoundTaskCert}
@@ -104,7 +104,7 @@ four_of (a ∷ b ∷ []) e = absurd (omega arith)
 four_of (a ∷ b ∷ c ∷ []) e = absurd (omega arith)
 four_of (a ∷ b ∷ c ∷ d ∷ x ∷ g) e = absurd (omega arith)
 
-module _ {image : ImageData} {plan : PlanData} (ok : IsPlan plan) {tasks : TasksData} (are : AreTasks tasks) (fit : FitPlan plan tasks) {u : ℕ} (lt : u < count tasks) (cert : CertData) (judged : IsSoundTaskCert image plan tasks cert u)
+module _ {image : ImageData} {plan : PlanData} (ok : IsPlan plan) {tasks : TasksData} (are : AreTasks tasks) (fit : TasksFitPlan plan tasks) {u : ℕ} (lt : u < count tasks) (cert : CertData) (judged : IsSoundTaskCert image plan tasks cert u)
     (few : certified_need (view_image_of image tasks u) (view_plan_of plan tasks u) cert ≤ plan.areas - plan.reserve) (v : Machine) (r : ViewRun image plan tasks u v) where
   abbrev view : ImageData
   view = view_image_of image tasks u
@@ -212,7 +212,7 @@ module _ {image : ImageData} {plan : PlanData} (ok : IsPlan plan) {tasks : Tasks
     stores_nothing : IsPlanMemory (view_plan_of plan tasks u) v.mem → (e : Event) → StoresNothing v e view_point.shape
     stores_nothing memory e = by_shape view_point.shape (IsCode-bounded view plan2 v.pc view_point.shape view_point.size view_point.code) (stores_at e)
       where
-        by_shape : (shape : Shape) → IsShape shape → StoresAt (view_plan_of plan tasks u) v e shape → StoresNothing v e shape
+        by_shape : (shape : Shape) → IsShapeInBounds shape → StoresAt (view_plan_of plan tasks u) v e shape → StoresNothing v e shape
         by_shape (Store src base offset width after) is h = λ none. view_store_gone ok tasks are fit u v.mem memory (access_address v base offset after) width (reg v src) (size_some width is.3) (h none)
         by_shape (Compute op dst x y) is h = tt
         by_shape (Scaled dst base index j) is h = tt
@@ -260,15 +260,15 @@ module _ {image : ImageData} {plan : PlanData} (ok : IsPlan plan) {tasks : Tasks
       own_rooms : (upper : Bool) → (save v upper).end ≡ Running → length (r.leveled).seen < plan.areas - plan.reserve
       own_rooms upper stands = subst (λ ss. length ss < plan.areas - plan.reserve) same_seen (view_room upper stands)
 
-      next_reached : Reached (view_image_of image tasks u) (view_plan_of plan tasks u) (step v e) (frames_after v e (r.frame ∷ r.behind))
+      next_reached : Reached (view_image_of image tasks u) (view_plan_of plan tasks u) (step v e) (frames_after_step v e (r.frame ∷ r.behind))
       next_reached = Reached-step view plan2 v (r.frame ∷ r.behind) e r.reached fits
 
-      next_keys : AreKeys (frames_after v e (r.frame ∷ r.behind))
+      next_keys : AreKeys (frames_after_step v e (r.frame ∷ r.behind))
       next_keys =
           let k = irq_lt view_ok v e fits in
           keys_next v e r.frame r.behind r.keys k (stays_step v e view_words k fits.input fits.status).pc
 
-      from_frames : (gs : List RunFrame) → frames_after v e (r.frame ∷ r.behind) ≡ gs → Leveled plan.start_ccpn (step v e) gs → AreFirst tasks (frames_after_return gs) → SameCore v (step v e) → NextRun image plan tasks u (step v e) gs
+      from_frames : (gs : List RunFrame) → frames_after_step v e (r.frame ∷ r.behind) ≡ gs → Leveled plan.start_ccpn (step v e) gs → AreFirst tasks (frames_after_return gs) → SameCore v (step v e) → NextRun image plan tasks u (step v e) gs
       from_frames [] is level first core =
           let s = some_frame view plan2 view_ok cert judged.is_cert judged.accepted tasks judged.apart (step v e) [] judged.frames (subst (Reached view plan2 (step v e)) is next_reached) in
           absurd (let no_frame : [] ≡ s.0 ∷ s.1 = s.2 in cc)
@@ -286,9 +286,9 @@ module _ {image : ImageData} {plan : PlanData} (ok : IsPlan plan) {tasks : Tasks
       }
 
       -- by an interrupt
-      pub view_run_interrupt : is_interrupt_taken v e ≡ true → AreFirst tasks (frames_after_return (frames_after v e (r.frame ∷ r.behind))) → NextRun image plan tasks u (step v e) (frames_after v e (r.frame ∷ r.behind))
+      pub view_run_interrupt : is_interrupt_taken v e ≡ true → AreFirst tasks (frames_after_return (frames_after_step v e (r.frame ∷ r.behind))) → NextRun image plan tasks u (step v e) (frames_after_step v e (r.frame ∷ r.behind))
       view_run_interrupt taken first =
-          from_frames (frames_after v e (r.frame ∷ r.behind)) refl (level_interrupt ok plan.start_ccpn v view_words running r.frame r.behind r.leveled free own_areas e own_rooms view_runs taken) first (core_taken v e taken)
+          from_frames (frames_after_step v e (r.frame ∷ r.behind)) refl (level_interrupt ok plan.start_ccpn v view_words running r.frame r.behind r.leveled free own_areas e own_rooms view_runs taken) first (core_taken v e taken)
 
       ends_by : (shape : Shape) → LocalRuleHolds (limits_of_cert plan2 cert) plan2 (r.frame).key v.pc view_point.state shape 6 → LocalRuleHolds (limits_of_cert plan2 cert) plan2 (r.frame).key v.pc view_point.state shape 7 → EndsBy (r.frame).key shape
       ends_by Ret o6 o7 = (o6.returns refl).0
@@ -296,10 +296,10 @@ module _ {image : ImageData} {plan : PlanData} (ok : IsPlan plan) {tasks : Tasks
       ends_by _ o6 o7 = tt
 
       -- by its instruction
-      pub view_run_step : IsPlanMemory (view_plan_of plan tasks u) v.mem → is_interrupt_taken v e ≡ false → AreFirst tasks (frames_after_return (frames_after v e (r.frame ∷ r.behind))) → NextRun image plan tasks u (step v e) (frames_after v e (r.frame ∷ r.behind))
+      pub view_run_step : IsPlanMemory (view_plan_of plan tasks u) v.mem → is_interrupt_taken v e ≡ false → AreFirst tasks (frames_after_return (frames_after_step v e (r.frame ∷ r.behind))) → NextRun image plan tasks u (step v e) (frames_after_step v e (r.frame ∷ r.behind))
       view_run_step memory none first =
           let writes : WritesNoFixedRegister view_point.shape = (view_point.own 13).writes refl in
           let nothing = stores_nothing memory e in
-          from_frames (frames_after v e (r.frame ∷ r.behind)) refl
+          from_frames (frames_after_step v e (r.frame ∷ r.behind)) refl
           (level_step ok plan.start_ccpn v view_words running r.frame r.behind r.leveled free own_areas e own_rooms view_runs view_point.shape view_point.size none view_fetched writes (ends_by view_point.shape (own_at 6) (own_at 7)) (λ base. apart_at.level base.0 base.1) nothing)
           first (core_step v e view_point.shape view_point.size none view_fetched writes nothing)

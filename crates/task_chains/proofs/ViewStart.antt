@@ -5,7 +5,7 @@ use Rattle.std.proofs.lemmas.Bool.{cases_eq, cases_lt, cases_Bool, false≢true,
 use Rattle.std.specs.Prelude.{is_some}
 use Rattle.std.specs.FinMap as finite
 use Rattle.csa_chain.specs.MemoryBytes.{Memory, is_mapped, with_words, HasOnlyBytes}
-use Rattle.csa_chain.specs.Chain.{link_address, is_area, area_word}
+use Rattle.csa_chain.specs.Chain.{link_address, is_area_mapped, area_word}
 use Rattle.csa_chain.proofs.ChainLaws.{area_word-written, SameArea-written, area_word_same, are_mapped_from}
 use Rattle.elf_image.specs.Images.{ImageData, image_byte}
 use Rattle.tcd_plan.specs.PlanData.{PlanData, IsPlan, areas_range, are_all_ranges_disjoint}
@@ -44,7 +44,7 @@ next_small false x h = omega arith
 
 -- ---- links in any memory that has the areas
 module _ {plan : PlanData} (ok : IsPlan plan) (mem : Memory) (areas : (x : ℕ) → IsInAreas plan x → is_mapped mem x ≡ true) where
-  area_there : (k i : ℕ) → i < plan.areas → is_area (with_area_links plan.csa_at (first_link plan) plan.areas mem k) (first_link plan + i) ≡ true
+  area_there : (k i : ℕ) → i < plan.areas → is_area_mapped (with_area_links plan.csa_at (first_link plan) plan.areas mem k) (first_link plan + i) ≡ true
   area_there k i lt =
       are_mapped_from _ _ 64 (λ j h. links_mapped plan.csa_at (first_link plan) plan.areas mem k _ ∙ areas _ (let at = link_address-area ok i lt in (omega arith, omega arith)))
 

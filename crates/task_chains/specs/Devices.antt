@@ -2,7 +2,7 @@
 use Rattle.std.specs.Prelude.{◌++◌, ℕ, List, map, ◌-◌, ◌^◌}
 use Rattle.tcd_plan.specs.declared.plans.Device.{Device}
 use Rattle.tcd_plan.specs.PlanData.{PlanData}
-use Rattle.tcd_plan.specs.Cutting.{cut_plan_ranges}
+use Rattle.tcd_plan.specs.Cutting.{ranges_outside}
 use Rattle.tcd_base.specs.declared.range.Range.{Range}
 use Rattle.task_chains.specs.Tasks.{TasksData, block_size}
 
@@ -13,9 +13,9 @@ any_word_device r = record { range = r; lo = 0; hi = 2 ^ 32 - 1 }
 -- the peripherals of a task's view: the plan's peripherals, and then what is left of each ram range
 -- without the block
 abbrev pub view_devices : PlanData → TasksData → List Device
-view_devices plan tasks = plan.devices ++ map any_word_device (cut_plan_ranges tasks.block (block_size tasks) plan.ram)
+view_devices plan tasks = plan.devices ++ map any_word_device (ranges_outside tasks.block (block_size tasks) plan.ram)
 
 -- the peripherals of a plan whose ram answers as peripherals do: its own, and then what is left of
 -- each ram range without the n bytes from x on
-abbrev pub view_devices_beside_block : PlanData → ℕ → ℕ → List Device
-view_devices_beside_block plan x n = plan.devices ++ map any_word_device (cut_plan_ranges x n plan.ram)
+abbrev pub view_devices_outside_block : PlanData → ℕ → ℕ → List Device
+view_devices_outside_block plan x n = plan.devices ++ map any_word_device (ranges_outside x n plan.ram)

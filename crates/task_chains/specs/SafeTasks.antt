@@ -16,7 +16,7 @@ use Rattle.cfg_recover.specs.EdgeAndFrameLaws.{FramesHeld}
 use Rattle.csa_chain.specs.SeveralChains.{sum_of_first, ChainsPartitionAreas}
 use Rattle.task_chains.specs.Tasks.{TasksData, AreTasks, count, block_size}
 use Rattle.task_chains.specs.SwitchRoutine.{HasRoutine, IsInRoutine}
-use Rattle.task_chains.specs.Views.{view_image_of, view_plan_of, FitPlan}
+use Rattle.task_chains.specs.Views.{view_image_of, view_plan_of, TasksFitPlan}
 use Rattle.task_chains.specs.Rule17.{KeepsRule17}
 use Rattle.task_chains.specs.TaskStarts.{TasksStart, block_word, current_task}
 
@@ -34,8 +34,8 @@ owner tasks m =
     else current_task tasks m.mem
 
 -- the word that begins the chain of task u: PCXI for the owner, else the task's word in the block
-abbrev pub chain_word : TasksData → Machine → ℕ → ℕ
-chain_word tasks m u = if u == owner tasks m then m.pcxi else block_word tasks m.mem u
+abbrev pub chain_head : TasksData → Machine → ℕ → ℕ
+chain_head tasks m u = if u == owner tasks m then m.pcxi else block_word tasks m.mem u
 
 -- ---- safe
 -- The chains of the tasks and the free list have each area of the plan once. Each task has at most
@@ -43,7 +43,7 @@ chain_word tasks m u = if u == owner tasks m then m.pcxi else block_word tasks m
 pub record AreAreasPartitioned (plan : PlanData) (tasks : TasksData) (needs : ℕ → ℕ) (m : Machine) : Type 0 where
   pub chain_of : ℕ → List ℕ
   pub free : List ℕ
-  pub chains : (u : ℕ) → u < count tasks → chain m.mem (chain_word tasks m u) ≡ Some (chain_of u)
+  pub chains : (u : ℕ) → u < count tasks → chain m.mem (chain_head tasks m u) ≡ Some (chain_of u)
   pub free_chain : chain m.mem m.fcx ≡ Some free
   pub share : ChainsPartitionAreas (count tasks) chain_of free (plan_areas plan)
   pub within_need : (u : ℕ) → u < count tasks → length (chain_of u) ≤ needs u
@@ -91,7 +91,7 @@ pub record IsSoundTaskCert (image : ImageData) (plan : PlanData) (tasks : TasksD
 -- the reserve, all runs of the tasks are safe
 abbrev pub TasksAreSafe : Type 0
 TasksAreSafe =
-    (image : ImageData) (plan : PlanData) (tasks : TasksData) (certs : ℕ → CertData) → IsPlan plan → AreTasks tasks → FitPlan plan tasks → HasRoutine image plan tasks
+    (image : ImageData) (plan : PlanData) (tasks : TasksData) (certs : ℕ → CertData) → IsPlan plan → AreTasks tasks → TasksFitPlan plan tasks → HasRoutine image plan tasks
     → ((u : ℕ) → u < count tasks → IsSoundTaskCert image plan tasks (certs u) u)
     → sum_of_first (count tasks) (need_of_task image plan tasks certs) ≤ plan.areas - plan.reserve
     → SafeTasks image plan tasks (need_of_task image plan tasks certs)

@@ -78,8 +78,8 @@ pub record HasSafeTaskParts (image : ImageData) (plan : PlanData) (switch block 
 
 -- If all runs of tasks are safe, each state of each run has these parts, for every fitting event
 -- that is next.
-abbrev pub SafeTasksSay : Type 0
-SafeTasksSay =
+abbrev pub SafeTasksHaveParts : Type 0
+SafeTasksHaveParts =
     (image : ImageData) (plan : PlanData) (switch block : ℕ) (list : List Task) (needs : ℕ → ℕ) (states : ℕ → Machine) (events : ℕ → Event) (n : ℕ) (e : Event)
     → IsPlan plan → SafeTasks image plan (record { switch = switch; block = block; list = list }) needs
     → IsRun states events → TasksStart image plan (record { switch = switch; block = block; list = list }) (states 0)
@@ -88,8 +88,8 @@ SafeTasksSay =
 
 -- what safe runs of all tasks are, in plain equations: if each state of each run has these parts,
 -- all runs are safe
-abbrev pub TaskPartsAreSafe : Type 0
-TaskPartsAreSafe =
+abbrev pub PartsMakeTasksSafe : Type 0
+PartsMakeTasksSafe =
     (image : ImageData) (plan : PlanData) (switch block : ℕ) (list : List Task) (needs : ℕ → ℕ) → IsPlan plan
     → ((states : ℕ → Machine) (events : ℕ → Event) (n : ℕ) (e : Event)
     → IsRun states events → TasksStart image plan (record { switch = switch; block = block; list = list }) (states 0)

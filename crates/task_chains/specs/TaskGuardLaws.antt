@@ -14,13 +14,13 @@ use Rattle.tc_machine.specs.declared.events.End.TheVariants.{Running}
 use Rattle.tc_machine.specs.PlanAreas.{first_link}
 use Rattle.task_chains.specs.declared.task_lists.Task.{Task}
 use Rattle.task_chains.specs.Tasks.{AreTasks}
-use Rattle.task_chains.specs.Views.{FitPlan}
+use Rattle.task_chains.specs.Views.{TasksFitPlan}
 use Rattle.task_chains.specs.TaskStarts.{IsTaskReady, TasksStart}
 
 -- guard law of a premise: task i + 1 is ready if areas 2 i and 2 i + 1 are its contexts (PCXI 0, IO
 -- 2, IS 0, stack pointer; link, UL 1, entry), and the block has the latter's link
-abbrev pub EveryTaskIsReady : Type 0
-EveryTaskIsReady =
+abbrev pub EquationsMakeTaskReady : Type 0
+EquationsMakeTaskReady =
     (core : Core) (plan : PlanData) (switch block : ℕ) (list : List Task) (mem : Memory) (i : ℕ) (t : Task) → slice_get list (i + 1) ≡ Some t
     → area_word mem (first_link plan + 2 * i) 0 ≡ 0
     → area_word mem (first_link plan + 2 * i) 1 / 2 ^ 9 % 8 ≡ 4
@@ -34,16 +34,16 @@ EveryTaskIsReady =
 
 -- guard law of a premise: tasks fit a plan with at most 15 peripherals and ram ranges together, the
 -- block inside one ram range (it can add one more), and no start on the interrupt stack
-abbrev pub EveryPlanFits : Type 0
-EveryPlanFits =
+abbrev pub EquationsMakeTasksFit : Type 0
+EquationsMakeTasksFit =
     (plan : PlanData) (switch block : ℕ) (list : List Task) (r : Range) → IsPlan plan → Contains plan.ram r
     → r.at ≤ block → block + (4 * length list + 4) ≤ r.at + r.len → length plan.devices + length plan.ram ≤ 15 → plan.start_is ≡ false
-    → FitPlan plan (record { switch = switch; block = block; list = list })
+    → TasksFitPlan plan (record { switch = switch; block = block; list = list })
 
 -- Guard law of a premise: a machine with these fields starts the tasks. All other registers, bits
 -- of PSW and bytes are any. FCX is the link of area 2 (n - 1), or 0 if there is none.
-abbrev pub EveryTasksStart : Type 0
-EveryTasksStart =
+abbrev pub EquationsMakeTasksStart : Type 0
+EquationsMakeTasksStart =
     (image : ImageData) (plan : PlanData) (switch block : ℕ) (t : Task) (ts : List Task) (d a : List ℕ) (psw fcx : ℕ) (mem : Memory) → IsPlan plan
     → AreTasks (record { switch = switch; block = block; list = t ∷ ts })
     → length d ≡ 16 → All (λ w. w < 2 ^ 32) d → length a ≡ 16 → All (λ w. w < 2 ^ 32) a → psw < 2 ^ 32

@@ -13,7 +13,7 @@ use Rattle.task_chains.specs.declared.task_lists.Task.{Task}
 use Rattle.task_chains.specs.declared.task_lists.TasksErr.{TasksErr}
 use Rattle.task_chains.specs.declared.task_lists.TasksErr.TheVariants.{BadLine, TooMany, TooFew, NotRam, NoRoom, OnIsp, Count}
 use Rattle.task_chains.specs.Tasks.{TasksData, AreTasks, count, block_size}
-use Rattle.task_chains.specs.Views.{FitPlan}
+use Rattle.task_chains.specs.Views.{TasksFitPlan}
 use Rattle.task_chains.specs.Devices.{view_devices}
 
 -- ---- lines; the grammar is the project's own
@@ -119,7 +119,7 @@ IsErrOfTaskText plan lines e = (tasks : TasksData) × LinesNameTasks lines tasks
 pub record AreTasksOfText (plan : PlanData) (lines : List (List ℕ)) (tasks : TasksData) : Type 0 where
   pub said : LinesNameTasks lines tasks
   pub are : AreTasks tasks
-  pub fit : FitPlan plan tasks
+  pub fit : TasksFitPlan plan tasks
 
 -- the result of reading a text of tasks: those that its lines name, if they fit the plan, or the
 -- error

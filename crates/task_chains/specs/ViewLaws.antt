@@ -5,20 +5,20 @@ use Rattle.tcd_plan.specs.PlanData.{PlanData, IsPlan}
 use Rattle.tcd_plan.specs.MappedAddresses.{IsStoreInRange}
 use Rattle.task_chains.specs.Tasks.{TasksData, AreTasks, count}
 use Rattle.task_chains.specs.SwitchRoutine.{routine_size}
-use Rattle.task_chains.specs.Views.{view_image_of, view_plan_of, FitPlan}
+use Rattle.task_chains.specs.Views.{view_image_of, view_plan_of, TasksFitPlan}
 use Rattle.task_chains.specs.SafeTasks.{MissesBlock}
 
 -- the plan of a view is a plan
-abbrev pub ViewsArePlans : Type 0
-ViewsArePlans = (plan : PlanData) (tasks : TasksData) (u : ℕ) → IsPlan plan → AreTasks tasks → FitPlan plan tasks → u < count tasks → IsPlan (view_plan_of plan tasks u)
+abbrev pub ViewPlansAreValid : Type 0
+ViewPlansAreValid = (plan : PlanData) (tasks : TasksData) (u : ℕ) → IsPlan plan → AreTasks tasks → TasksFitPlan plan tasks → u < count tasks → IsPlan (view_plan_of plan tasks u)
 
 -- a store in range of a view is in range of the plan, and misses the block
-abbrev pub ViewStoresMissBlock : Type 0
-ViewStoresMissBlock =
-    (plan : PlanData) (tasks : TasksData) (u x n : ℕ) → IsPlan plan → AreTasks tasks → FitPlan plan tasks → 0 < n → IsStoreInRange (view_plan_of plan tasks u) (x, n)
+abbrev pub ViewStoresAreInRangeAndMissBlock : Type 0
+ViewStoresAreInRangeAndMissBlock =
+    (plan : PlanData) (tasks : TasksData) (u x n : ℕ) → IsPlan plan → AreTasks tasks → TasksFitPlan plan tasks → 0 < n → IsStoreInRange (view_plan_of plan tasks u) (x, n)
     → IsStoreInRange plan (x, n) × MissesBlock tasks (x, n)
 
 -- outside of the routine, the image of a view has the image's bytes
-abbrev pub ViewsKeepBytes : Type 0
-ViewsKeepBytes =
+abbrev pub ViewImagesKeepBytes : Type 0
+ViewImagesKeepBytes =
     (image : ImageData) (tasks : TasksData) (u x : ℕ) → (x < tasks.switch) ⊎ (tasks.switch + routine_size ≤ x) → image_byte (view_image_of image tasks u) x ≡ image_byte image x

@@ -37,7 +37,7 @@ view_plan_of plan tasks u = record plan {
 
 -- the views of the tasks fit the plan: the block is inside one ram range of it, a view has at most
 -- 16 peripherals, and the start isn't on the interrupt stack
-pub record FitPlan (plan : PlanData) (tasks : TasksData) : Type 0 where
+pub record TasksFitPlan (plan : PlanData) (tasks : TasksData) : Type 0 where
   pub in_ram : IsInOneRange tasks.block (block_size tasks) plan.ram
   pub room : length (view_devices plan tasks) ≤ 16
   pub own_stack : plan.start_is ≡ false

@@ -1,6 +1,6 @@
 // The peripherals of a task's view: the plan's, and the ram that isn't the block.
 ghost use Rattle.std.specs.Prelude.{◌≡◌, ◌≤◌, length};
-ghost use Rattle.task_chains.specs.Devices.{view_devices_beside_block};
+ghost use Rattle.task_chains.specs.Devices.{view_devices_outside_block};
 
 use arrayvec::ArrayVec;
 use tcd_plan::{Device, Plan, ranges_outside};
@@ -8,8 +8,8 @@ use tcd_plan::{Device, Plan, ranges_outside};
 /// Returns the peripherals of a task's view: the plan's, then the parts of each ram range outside
 /// the `n` bytes from `x`, which answer with any word.
 pub(crate) fn view_devices_outside_block(plan: &Plan, x: u32, n: u32) -> ArrayVec<Device, 16>
-    requires { length (view_devices_beside_block plan.now x n) ≤ 16 }
-    ensures { result.items ≡ view_devices_beside_block plan.now x n }
+    requires { length (view_devices_outside_block plan.now x n) ≤ 16 }
+    ensures { result.items ≡ view_devices_outside_block plan.now x n }
 {
     let _areas = plan.areas;
     let left = ranges_outside(plan.ram.as_slice(), x, n);
@@ -30,7 +30,7 @@ pub(crate) fn view_devices_outside_block(plan: &Plan, x: u32, n: u32) -> ArrayVe
 /// Returns how many peripherals a task's view has: the plan's, and the parts of ram ranges outside
 /// the `n` bytes from `x`.
 pub(crate) fn count_view_devices(plan: &Plan, x: u32, n: u32) -> usize
-    ensures { result ≡ length (view_devices_beside_block plan.now x n) }
+    ensures { result ≡ length (view_devices_outside_block plan.now x n) }
 {
     let _areas = plan.areas;
     plan.devices.len() + ranges_outside(plan.ram.as_slice(), x, n).len()

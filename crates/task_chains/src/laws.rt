@@ -1,17 +1,17 @@
 // Laws of the views of tasks, and of all tasks together.
-ghost use Rattle.task_chains.specs.Rule17Growth.{TaskFaultsGrow, TaskFaultsRefute};
-ghost use Rattle.task_chains.specs.TaskGuardLaws.{EveryTaskIsReady, EveryPlanFits, EveryTasksStart};
+ghost use Rattle.task_chains.specs.Rule17Growth.{Rule17FaultsAreMonotone, BrokenRule17IsNotKept};
+ghost use Rattle.task_chains.specs.TaskGuardLaws.{EquationsMakeTaskReady, EquationsMakeTasksFit, EquationsMakeTasksStart};
 ghost use Rattle.task_chains.specs.TaskListText.{TaskTextHasOneResult};
 ghost use Rattle.task_chains.specs.SafeTasks.{TasksAreSafe};
-ghost use Rattle.task_chains.specs.SafeTasksInWords.{SafeTasksSay, TaskPartsAreSafe};
-ghost use Rattle.task_chains.specs.ViewLaws.{ViewStoresMissBlock, ViewsArePlans, ViewsKeepBytes};
+ghost use Rattle.task_chains.specs.SafeTasksInWords.{SafeTasksHaveParts, PartsMakeTasksSafe};
+ghost use Rattle.task_chains.specs.ViewLaws.{ViewStoresAreInRangeAndMissBlock, ViewPlansAreValid, ViewImagesKeepBytes};
 
 /// The plan of a view is a plan. Its stores are in range of the tasks' plan, and miss the block.
 /// Outside of the switch routine its image is the tasks' image.
 pub fn task_view_laws()
-    ensures plans { ViewsArePlans }
-    ensures stores { ViewStoresMissBlock }
-    ensures bytes { ViewsKeepBytes }
+    ensures plans { ViewPlansAreValid }
+    ensures stores { ViewStoresAreInRangeAndMissBlock }
+    ensures bytes { ViewImagesKeepBytes }
 {}
 
 /// If each task's certificate is accepted for its view and keeps K17, and the needs together are at
@@ -25,22 +25,22 @@ pub fn safe_tasks_law()
 /// Guard laws: plain equations give machines that start tasks, tasks that are ready for their first
 /// turn, and tasks that fit a plan. A text has one list of tasks, or one error.
 pub fn task_premise_guard_laws()
-    ensures ready { EveryTaskIsReady }
-    ensures fits { EveryPlanFits }
-    ensures starts { EveryTasksStart }
+    ensures ready { EquationsMakeTaskReady }
+    ensures fits { EquationsMakeTasksFit }
+    ensures starts { EquationsMakeTasksStart }
     ensures one { TaskTextHasOneResult }
 {}
 
 /// Guard laws: each state of a safe run of tasks has these parts, in plain equations, and they are
 /// all that is promised.
 pub fn safe_tasks_definition_guard_laws()
-    ensures says { SafeTasksSay }
-    ensures parts { TaskPartsAreSafe }
+    ensures says { SafeTasksHaveParts }
+    ensures parts { PartsMakeTasksSafe }
 {}
 
 /// Each fault of K17 in a lesser certificate is one in a greater one. One fault is enough to break
 /// the rule.
 pub fn task_fault_laws()
-    ensures grow { TaskFaultsGrow }
-    ensures refute { TaskFaultsRefute }
+    ensures grow { Rule17FaultsAreMonotone }
+    ensures refute { BrokenRule17IsNotKept }
 {}

@@ -2,7 +2,7 @@
 ghost use Rattle.std.specs.Prelude.{◌↔◌, IsTrue, ◌≡◌, ◌≤◌, ◌<◌, ◌+◌, ◌-◌, ◌*◌, ◌/◌, ◌^◌, ℕ};
 ghost use Rattle.value_domain.specs.State.{AreInLattice};
 ghost use Rattle.task_chains.specs.Rule17.{KeepsRule17AtPoint, AreAccessesOutside, LoadMissesAreasAndRoutine, ReadsNoContextRegister, IsNoBisr, KeepsRule17ByShape, HasAccessBetween, MayHavePointAt};
-ghost use Rattle.tc_isa.specs.InBounds.{IsShape};
+ghost use Rattle.tc_isa.specs.InBounds.{IsShapeInBounds};
 ghost use Rattle.value_domain.specs.Sets.{Among};
 ghost use Rattle.value_domain.specs.Values.{IsWellFormed};
 ghost use Rattle.store_ranges.specs.Accesses.{IsAccessSize};
@@ -71,7 +71,7 @@ pub(crate) fn are_accesses_outside(at: &Val, size: u8, from: u32, len: u32) -> b
 /// Returns whether an instruction of this shape keeps K17 at an address of a frame, with this state
 /// before it.
 pub(crate) fn keeps_rule_17_by_shape(rule: &TasksRule, key: &Key, addr: u32, s: &State, shape: Shape) -> bool
-    requires shape { IsShape shape }
+    requires shape { IsShapeInBounds shape }
     requires values { AreInLattice rule.now.bounds.now s.now.regs }
     ensures { let r = rule.now in
         IsTrue result
@@ -147,7 +147,7 @@ fn may_have_point_at(tasks: &Tasks, key: &Key, addr: u32) -> bool
 /// Returns whether the instruction is no load, or each of its possible accesses misses the save
 /// areas and the routine.
 fn load_misses_areas_and_routine(b: &Bounds, plan: &Plan, tasks: &Tasks, s: &State, shape: Shape) -> bool
-    requires shape { IsShape shape }
+    requires shape { IsShapeInBounds shape }
     requires values { AreInLattice b.now s.now.regs }
     ensures { IsTrue result ↔ LoadMissesAreasAndRoutine b.now plan.now tasks.now s.now shape }
 {

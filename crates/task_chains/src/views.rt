@@ -2,7 +2,7 @@
 ghost use Rattle.std.specs.Prelude.{◌≡◌, ◌<◌, ◌-◌, ◌==◌, ◌&&◌, false, nat_le, nat_lt, if◌then◌else◌, set, length, IfOk, ◌+◌, ◌*◌};
 ghost use Rattle.elf_image.specs.Images.{segment_data};
 ghost use Rattle.task_chains.specs.Tasks.{count};
-ghost use Rattle.task_chains.specs.Views.{FitPlan, with_view_routine_from, view_segment, view_image_of, view_plan_of};
+ghost use Rattle.task_chains.specs.Views.{TasksFitPlan, with_view_routine_from, view_segment, view_image_of, view_plan_of};
 
 use crate::Tasks;
 use crate::devices::view_devices_outside_block;
@@ -35,7 +35,7 @@ pub fn task_view_image(alloc: Global, image: &Image, tasks: &Tasks, u: usize) ->
 /// the start of all tasks except the first.
 pub fn task_view_plan(plan: &Plan, tasks: &Tasks, u: usize) -> Plan
     requires task { u < count tasks.now }
-    requires fit { FitPlan plan.now tasks.now }
+    requires fit { TasksFitPlan plan.now tasks.now }
     ensures { result ≡ view_plan_of plan.now tasks.now u }
 {
     Plan {

@@ -15,9 +15,9 @@ use Rattle.tc_asm.specs.declared.symbols.Place.{Place}
 use Rattle.tc_stmt.specs.declared.item.Item.{Item}
 use Rattle.tc_stmt.specs.Lines.{lines_in, items_in}
 use Rattle.tc_asm.specs.Symbols.{SymbolData, with_name, with_symbol_label, with_global_symbol}
-use Rattle.tc_asm.specs.Drafts.{DraftSectionData, DraftData, part, empty_draft, next_byte_offset, has_current_section, has_room, next_byte_place, with_label, section_number, with_current_section, with_global, with_section_bytes, with_bytes, with_section_use, with_use, with_reference, with_content, code_bytes, draft_after_item, draft_section_size_at, assembled_code_size}
+use Rattle.tc_asm.specs.Drafts.{DraftSectionData, DraftData, draft_section, empty_draft, next_byte_offset, has_current_section, has_room, next_byte_place, with_label, section_number, with_current_section, with_global, with_section_bytes, with_bytes_if_room, with_section_use, with_reloc_use, with_reference, with_content, code_bytes, draft_after_item, draft_section_size_at, assembled_code_size}
 use Rattle.tc_asm.specs.DraftedSources.{symbols_of_lines, symbols_in}
-use Rattle.tc_asm.specs.ItemInvariants.{IsAddedCode, IsAddedItem}
+use Rattle.tc_asm.specs.ItemInvariants.{IsCodeOfSomeLine, IsItemOfSomeLine}
 use Rattle.tc_asm.specs.AlikeDrafts.{SectionSizeData, section_size_data, HaveSameSizesAndSymbols}
 use Rattle.tc_asm.specs.DraftInvariants.{EachInDraft}
 use Rattle.tc_stmt.proofs.Cases.{by_test}
@@ -119,7 +119,7 @@ module _ (d e : DraftData) (h : HaveSameSizesAndSymbols d e) where
       (alike_cond _ _ d e _ _ (ap (λ n. nat_lt n 64) long)
       (record {
         section = long;
-        sizes = map-append section_size_data d.parts (part name [] [] ∷ []) ∙ ap (λ (ss : List SectionSizeData). ss ++ section_size_data (part name [] []) ∷ []) h.sizes ∙ sym (map-append section_size_data e.parts (part name [] [] ∷ []));
+        sizes = map-append section_size_data d.parts (draft_section name [] [] ∷ []) ∙ ap (λ (ss : List SectionSizeData). ss ++ section_size_data (draft_section name [] []) ∷ []) h.sizes ∙ sym (map-append section_size_data e.parts (draft_section name [] [] ∷ []));
         symbols = h.symbols;
         total = h.total;
       }) h))
@@ -128,8 +128,8 @@ module _ (d e : DraftData) (h : HaveSameSizesAndSymbols d e) where
   unfolding with_global
   global_alike name = alike_cond _ _ d e _ _ refl (record { section = h.section; sizes = h.sizes; symbols = ap (λ (ss : List SymbolData). with_global_symbol ss name) h.symbols; total = h.total }) h
 
-  bytes_alike : (bs cs : List ℕ) → length bs ≡ length cs → HaveSameSizesAndSymbols (with_bytes d bs) (with_bytes e cs)
-  unfolding with_bytes with_section_bytes
+  bytes_alike : (bs cs : List ℕ) → length bs ≡ length cs → HaveSameSizesAndSymbols (with_bytes_if_room d bs) (with_bytes_if_room e cs)
+  unfolding with_bytes_if_room with_section_bytes
   bytes_alike bs cs same =
       alike_cond _ _ d e _ _ (ap (λ b. b && has_room d (length bs)) there ∙ ap (λ b. has_current_section e && b) (room (length bs) (length cs) same))
       (record {
@@ -151,8 +151,8 @@ module _ (d e : DraftData) (h : HaveSameSizesAndSymbols d e) where
           ap (λ (name : List ℕ). sized name (length (p.bytes ++ bs))) (ap (λ (s : SectionSizeData). s.name) e) ∙ ap (sized q.name) size
 
 -- uses of symbols don't change symbols and sizes
-use_alike : (d : DraftData) (n : ℕ) (r : ReferenceData) → HaveSameSizesAndSymbols (with_use d n r) d
-unfolding with_use with_section_use
+use_alike : (d : DraftData) (n : ℕ) (r : ReferenceData) → HaveSameSizesAndSymbols (with_reloc_use d n r) d
+unfolding with_reloc_use with_section_use
 use_alike d n r =
     by_test (λ (x : DraftData). HaveSameSizesAndSymbols x d) _ _ _
     (λ b. record {
@@ -173,12 +173,12 @@ reference_alike d e m n (Some r) h =
     let x : DraftData = record d { symbols = with_name d.symbols r.name } in
     let y : DraftData = record e { symbols = with_name e.symbols r.name } in
     alike_cond (is_source_name r.name) (is_source_name r.name) d e _ _ refl
-    (alike_then (with_use x m r) x (with_use y n r) (use_alike x m r) (alike_then x y (with_use y n r) (seen_alike d e r.name h) (alike_back (with_use y n r) y (use_alike y n r)))) h
+    (alike_then (with_reloc_use x m r) x (with_reloc_use y n r) (use_alike x m r) (alike_then x y (with_reloc_use y n r) (seen_alike d e r.name h) (alike_back (with_reloc_use y n r) y (use_alike y n r)))) h
 
 content_alike : (d e : DraftData) (bs cs : List ℕ) (o : Option ReferenceData) → length bs ≡ length cs → HaveSameSizesAndSymbols d e → HaveSameSizesAndSymbols (with_content d bs o) (with_content e cs o)
 content_alike d e bs cs o same h = bytes_alike (with_reference d (length bs) o) (with_reference e (length cs) o) (reference_alike d e (length bs) (length cs) o h) bs cs same
 
-pub step_alike : (labels others : List SymbolData) (d e : DraftData) (i : ItemData) → IsAddedItem i → HaveSameSizesAndSymbols d e → HaveSameSizesAndSymbols (draft_after_item labels d i) (draft_after_item others e i)
+pub step_alike : (labels others : List SymbolData) (d e : DraftData) (i : ItemData) → IsItemOfSomeLine i → HaveSameSizesAndSymbols d e → HaveSameSizesAndSymbols (draft_after_item labels d i) (draft_after_item others e i)
 unfolding draft_after_item
 step_alike labels others d e (label name) good h = label_alike d e h name
 step_alike labels others d e (section name) good h = entered_alike d e h name
@@ -188,7 +188,7 @@ step_alike labels others d e (code k f o) good h =
 step_alike labels others d e (bytes bs o) good h = content_alike d e bs bs o refl h
 step_alike labels others d e (zeros n) good h = bytes_alike d e h (replicate n 0) (replicate n 0) refl
 
-items_alike : (labels others : List SymbolData) (is : List ItemData) (d e : DraftData) → EachInDraft IsAddedItem is → HaveSameSizesAndSymbols d e → HaveSameSizesAndSymbols (fold (draft_after_item labels) d is) (fold (draft_after_item others) e is)
+items_alike : (labels others : List SymbolData) (is : List ItemData) (d e : DraftData) → EachInDraft IsItemOfSomeLine is → HaveSameSizesAndSymbols d e → HaveSameSizesAndSymbols (fold (draft_after_item labels) d is) (fold (draft_after_item others) e is)
 items_alike labels others [] d e good h = h
 items_alike labels others (i ∷ is) d e good h = items_alike labels others is (draft_after_item labels d i) (draft_after_item others e i) good.1 (step_alike labels others d e i good.0 h)
 
@@ -207,7 +207,7 @@ sized k = refl
 
 -- zeros instead of bytes
 zeros_alike : (d e next : DraftData) (bs : List ℕ) (o : Option ReferenceData) (n : ℕ)
-    → next ≡ with_bytes (with_reference d 0 o) (replicate n 0) → n ≡ length bs → HaveSameSizesAndSymbols d e → HaveSameSizesAndSymbols next (with_content e bs o)
+    → next ≡ with_bytes_if_room (with_reference d 0 o) (replicate n 0) → n ≡ length bs → HaveSameSizesAndSymbols d e → HaveSameSizesAndSymbols next (with_content e bs o)
 zeros_alike d e next bs o n made same h =
     subst (λ (x : DraftData). HaveSameSizesAndSymbols x (with_content e bs o)) (sym made)
     (bytes_alike (with_reference d 0 o) (with_reference e (length bs) o) (reference_alike d e 0 (length bs) o h) (replicate n 0) bs (length-replicate n 0 ∙ same))
@@ -219,10 +219,10 @@ label_counted d e next name made h = subst (λ (x : DraftData). HaveSameSizesAnd
 
 -- a symbol of the first pass, which has no use
 pub see_named : (d next : DraftData) (r : ReferenceData) → is_source_name r.name ≡ true → next ≡ record d { symbols = with_name d.symbols r.name } → next ≡ with_reference d 0 (Some r)
-unfolding with_reference with_use
+unfolding with_reference with_reloc_use
 see_named d next r named made =
     let x : DraftData = record d { symbols = with_name d.symbols r.name } in
-    made ∙ unused (has_current_section x) (has_room x 0) (is_relocation_kind r.kind) (nat_lt x.count 65535) _ x ∙ sym (ap (λ b. cond b (with_use x 0 r) d) named)
+    made ∙ unused (has_current_section x) (has_room x 0) (is_relocation_kind r.kind) (nat_lt x.count 65535) _ x ∙ sym (ap (λ b. cond b (with_reloc_use x 0 r) d) named)
   where
     unused : (a b e f : Bool) (x y : DraftData) → y ≡ cond (a && b && false && e && f) x y
     unused true true e f x y = refl
@@ -230,8 +230,8 @@ see_named d next r named made =
     unused false b e f x y = refl
 
 -- zeros instead of an instruction's bytes
-pub code_alike : (d e next : DraftData) (k : ℕ) (f : Fields) (o : Option ReferenceData) (n : ℕ) → IsAddedCode k f o
-    → next ≡ with_bytes (with_reference d 0 o) (replicate n 0) → n ≡ assembled_code_size k → HaveSameSizesAndSymbols d e → HaveSameSizesAndSymbols next (draft_after_item [] e (code k f o))
+pub code_alike : (d e next : DraftData) (k : ℕ) (f : Fields) (o : Option ReferenceData) (n : ℕ) → IsCodeOfSomeLine k f o
+    → next ≡ with_bytes_if_room (with_reference d 0 o) (replicate n 0) → n ≡ assembled_code_size k → HaveSameSizesAndSymbols d e → HaveSameSizesAndSymbols next (draft_after_item [] e (code k f o))
 unfolding draft_after_item assembled_code_size
 code_alike d e next k f o n is made size h = zeros_alike d e next (code_bytes [] e k f o) o n made (size ∙ as_many) h
   where
@@ -240,12 +240,12 @@ code_alike d e next k f o n is made size h = zeros_alike d e next (code_bytes []
 
 -- zeros instead of data
 pub data_alike : (d e next : DraftData) (bs : List ℕ) (o : Option ReferenceData) (n : ℕ)
-    → next ≡ with_bytes (with_reference d 0 o) (replicate n 0) → n ≡ length bs → HaveSameSizesAndSymbols d e → HaveSameSizesAndSymbols next (draft_after_item [] e (bytes bs o))
+    → next ≡ with_bytes_if_room (with_reference d 0 o) (replicate n 0) → n ≡ length bs → HaveSameSizesAndSymbols d e → HaveSameSizesAndSymbols next (draft_after_item [] e (bytes bs o))
 unfolding draft_after_item
 data_alike d e next bs o n made same h = zeros_alike d e next bs o n made same h
 
 -- the step of any other item
-pub step_counted : (d e next : DraftData) (labels : List SymbolData) (i : ItemData) → IsAddedItem i → labels ≡ [] → next ≡ draft_after_item labels d i → HaveSameSizesAndSymbols d e → HaveSameSizesAndSymbols next (draft_after_item [] e i)
+pub step_counted : (d e next : DraftData) (labels : List SymbolData) (i : ItemData) → IsItemOfSomeLine i → labels ≡ [] → next ≡ draft_after_item labels d i → HaveSameSizesAndSymbols d e → HaveSameSizesAndSymbols next (draft_after_item [] e i)
 step_counted d e next labels i good none made h =
     subst (λ (x : DraftData). HaveSameSizesAndSymbols x (draft_after_item [] e i)) (sym (made ∙ ap (λ (ls : List SymbolData). draft_after_item ls d i) none)) (step_alike [] [] d e i good h)
 
@@ -262,10 +262,10 @@ module _ (items : List Item) (i : ℕ) (draft first : DraftData) (so_far : HaveS
   alike_end past = so_far.symbols ∙ ap (λ (is : List ItemData). (fold (draft_after_item []) first is).symbols) (take_all i (map item_of items) (rw (length-map items item_of) past))
 
 -- all items of a source
-each_all : (items : List Item) → EachInDraft IsAddedItem (map item_of items) → (k : ℕ) (d : Item) → k < length items → IsAddedItem (item_of (get_or items k d))
+each_all : (items : List Item) → EachInDraft IsItemOfSomeLine (map item_of items) → (k : ℕ) (d : Item) → k < length items → IsItemOfSomeLine (item_of (get_or items k d))
 each_all [] h k d within = absurd (omega arith)
 each_all (x ∷ xs) h zero d within = h.0
 each_all (x ∷ xs) h (suc k) d within = each_all xs h.1 k d (omega arith)
 
-pub items_all : (source : List ℕ) (items : List Item) → map item_of items ≡ items_in (lines_in source) → All (λ (x : Item). IsAddedItem (item_of x)) items
-items_all source items e = λ k d within. each_all items (subst (EachInDraft IsAddedItem) (sym e) (source_are source)) k d within
+pub items_all : (source : List ℕ) (items : List Item) → map item_of items ≡ items_in (lines_in source) → All (λ (x : Item). IsItemOfSomeLine (item_of x)) items
+items_all source items e = λ k d within. each_all items (subst (EachInDraft IsItemOfSomeLine) (sym e) (source_are source)) k d within

@@ -14,7 +14,7 @@ use Rattle.tc_stmt.specs.Items.{ReferenceData}
 use Rattle.tc_asm.specs.Symbols.{SymbolData}
 use Rattle.tc_encode.specs.Decoding.{decoded_fields_fit}
 use Rattle.tc_encode.proofs.Spelled.{fits_from, fits_true}
-use Rattle.tc_asm.specs.Drafts.{DraftData, assembled_row_code, assembled_code, unbroken_fields, fields_with_target, row_fields_with_target}
+use Rattle.tc_asm.specs.Drafts.{DraftData, assembled_row_code, assembled_code, bare_row_fields, fields_with_target, row_fields_with_target}
 
 -- the spelling of an instruction is the bytes of its row and fields
 pub spells-bytes_of : (k : ℕ) (f : Fields) (i : InstData) (bs : List ℕ) → i ≡ record { row = k; c = f.c; s1 = f.s1; s2 = f.s2; n = f.n; k = f.k } → Spells bs i → bs ≡ assembled_code k f
@@ -56,13 +56,13 @@ row_unlisted rows k e h = ap (λ (ls : List RowData). slice_get ls k) (sym e) �
 
 -- ---- instructions without a target that is resolved at once
 pub found_far : (labels : List SymbolData) (d : DraftData) (k : ℕ) (f : Fields) (o : Option ReferenceData) → option_map_or (λ (q : ReferenceData). q.kind == 0) o false ≡ false
-    → row_fields_with_target labels d k f o ≡ unbroken_fields f
+    → row_fields_with_target labels d k f o ≡ bare_row_fields f
 found_far labels d k f o far = by (slice_get table_rows k)
   where
-    plain : (row : RowData) (p : Option ReferenceData) → option_map_or (λ (q : ReferenceData). q.kind == 0) p false ≡ false → fields_with_target labels d row f p ≡ unbroken_fields f
+    plain : (row : RowData) (p : Option ReferenceData) → option_map_or (λ (q : ReferenceData). q.kind == 0) p false ≡ false → fields_with_target labels d row f p ≡ bare_row_fields f
     plain row None h = refl
     plain row (Some q) h = rw h refl
 
-    by : (q : Option RowData) → option_map_or (λ row. fields_with_target labels d row f o) q (unbroken_fields f) ≡ unbroken_fields f
+    by : (q : Option RowData) → option_map_or (λ row. fields_with_target labels d row f o) q (bare_row_fields f) ≡ bare_row_fields f
     by None = refl
     by (Some row) = plain row o far

@@ -12,7 +12,7 @@ use Rattle.tc_asm.specs.declared.sections.Use.{Use}
 use Rattle.tc_asm.specs.Symbols.{SymbolData, symbol_names}
 use Rattle.tc_asm.specs.Drafts.{DraftSectionData, DraftData, draft_section_names, draft_section_size_at}
 use Rattle.tc_asm.specs.DraftViews.{use_of, draft_section_of}
-use Rattle.tc_asm.specs.DraftInvariants.{EachInDraft, IsNewDraftName, IsLabelPlaceIfAny, IsSmallLabelPlace, AreUsesDisjoint, IsDraftSection, IsDraft}
+use Rattle.tc_asm.specs.DraftInvariants.{EachInDraft, IsNewDraftName, IsLabelPlaceIfAny, LabelPlaceFitsObject, AreUsesDisjoint, IsDraftSection, IsWellFormedDraft}
 use Rattle.tc_asm.proofs.ListLaws.{each_weaker, spaced_end, all_from_each}
 
 named : (before : List (List ℕ)) (name : List ℕ) → IsNewDraftName before name → is_some (object_name_of name) ≡ true
@@ -44,11 +44,11 @@ size_small names total [] h n = omega arith
 size_small names total (p ∷ ps) h zero = h.0.small
 size_small names total (p ∷ ps) h (suc n) = size_small names total ps h.1 n
 
-place_small : (parts : List DraftSectionData) → length parts ≤ 64 → ((n : ℕ) → draft_section_size_at parts n ≤ 2 ^ 24) → (o : Option Place) → IsLabelPlaceIfAny parts o → IsSmallLabelPlace o
+place_small : (parts : List DraftSectionData) → length parts ≤ 64 → ((n : ℕ) → draft_section_size_at parts n ≤ 2 ^ 24) → (o : Option Place) → IsLabelPlaceIfAny parts o → LabelPlaceFitsObject o
 place_small parts few small None h = tt
 place_small parts few small (Some p) h = (let s = h.section in omega arith, let o = h.offset in omega (arith, small p.section))
 
-pub symbols_small : (d : DraftData) → IsDraft d → All (λ (s : SymbolData). IsSmallLabelPlace s.entry.place) d.symbols
+pub symbols_small : (d : DraftData) → IsWellFormedDraft d → All (λ (s : SymbolData). LabelPlaceFitsObject s.entry.place) d.symbols
 symbols_small d h =
     all_from_each _ d.symbols (each_weaker _ _ (λ (s : SymbolData). place_small d.parts h.few_parts
     (λ n. let t = h.total in let s = size_small (symbol_names d.symbols) d.total d.parts h.parts n in omega arith) s.entry.place) d.symbols h.places)

@@ -10,9 +10,9 @@ use Rattle.tc_stmt.specs.Names.{is_source_name}
 use Rattle.tc_stmt.specs.Items.{ReferenceData, ItemData, label, section, global, code, bytes, zeros}
 use Rattle.tc_stmt.specs.Lines.{LineData, items_in}
 use Rattle.tc_asm.specs.Symbols.{SymbolData, with_name}
-use Rattle.tc_asm.specs.Drafts.{DraftSectionData, DraftData, part, empty_draft, next_byte_offset, has_current_section, has_room, with_label, section_number, with_current_section, with_global, with_section_bytes, with_bytes, with_section_use, with_use, with_reference, code_bytes, draft_after_item, draft_section_bytes_at}
+use Rattle.tc_asm.specs.Drafts.{DraftSectionData, DraftData, draft_section, empty_draft, next_byte_offset, has_current_section, has_room, with_label, section_number, with_current_section, with_global, with_section_bytes, with_bytes_if_room, with_section_use, with_reloc_use, with_reference, code_bytes, draft_after_item, draft_section_bytes_at}
 use Rattle.tc_asm.specs.DraftedSources.{draft_from_lines, draft_after_line}
-use Rattle.tc_asm.specs.Statements.{StatementData, statement_data, statement_of_item, statement_with_room, statements_from, statements_of_lines, section_bytes, statement_offset}
+use Rattle.tc_asm.specs.Statements.{StatementData, statement_data, statement_of_item, statement_if_room, statements_from, statements_of_lines, section_bytes, statement_offset}
 use Rattle.tc_stmt.proofs.Cases.{by_test}
 use Rattle.tc_asm.proofs.ListLaws.{changed, changed-set, length-changed}
 
@@ -43,8 +43,8 @@ record Keeps (d e : DraftData) : Type 0 where
   same_total : e.total ≡ d.total
   same_bytes : (s : ℕ) → draft_section_bytes_at e.parts s ≡ draft_section_bytes_at d.parts s
 
-Keeps-use : (d : DraftData) (n : ℕ) (r : ReferenceData) → Keeps d (with_use d n r)
-unfolding with_use with_section_use
+Keeps-use : (d : DraftData) (n : ℕ) (r : ReferenceData) → Keeps d (with_reloc_use d n r)
+unfolding with_reloc_use with_section_use
 Keeps-use d n r =
     by_test (λ (e : DraftData). Keeps d e) _ _ d
     (λ b. record {
@@ -62,14 +62,14 @@ Keeps-reference : (d : DraftData) (n : ℕ) (o : Option ReferenceData) → Keeps
 unfolding with_reference
 Keeps-reference d n None = record { same_section = refl; same_count = refl; same_total = refl; same_bytes = λ s. refl }
 Keeps-reference d n (Some r) =
-    by_test (λ (e : DraftData). Keeps d e) (is_source_name r.name) (with_use (record d { symbols = with_name d.symbols r.name }) n r) d
+    by_test (λ (e : DraftData). Keeps d e) (is_source_name r.name) (with_reloc_use (record d { symbols = with_name d.symbols r.name }) n r) d
     (λ b. let k = Keeps-use (record d { symbols = with_name d.symbols r.name }) n r in record { same_section = k.same_section; same_count = k.same_count; same_total = k.same_total; same_bytes = k.same_bytes })
     (λ b. record { same_section = refl; same_count = refl; same_total = refl; same_bytes = λ s. refl })
 
 module _ (s : ℕ) where
   grown_bytes : (d e : DraftData) (bs : List ℕ) (r : Option ReferenceData) → Keeps d e
-      → draft_section_bytes_at (with_bytes e bs).parts s ≡ draft_section_bytes_at d.parts s ++ section_bytes s (statement_with_room d (Some (statement_data d.section bs r)))
-  unfolding with_bytes with_section_bytes
+      → draft_section_bytes_at (with_bytes_if_room e bs).parts s ≡ draft_section_bytes_at d.parts s ++ section_bytes s (statement_if_room d (Some (statement_data d.section bs r)))
+  unfolding with_bytes_if_room with_section_bytes
   grown_bytes d e bs r k =
       let same : (has_current_section e && has_room e (length bs)) ≡ (has_current_section d && has_room d (length bs))
       = ap (λ n. nat_lt n (length e.parts) && has_room e (length bs)) k.same_section ∙ ap (λ n. nat_lt d.section n && has_room e (length bs)) k.same_count
@@ -77,7 +77,7 @@ module _ (s : ℕ) where
       by (has_current_section d && has_room d (length bs)) same refl
     where
       by : (b : Bool) → (has_current_section e && has_room e (length bs)) ≡ b → (has_current_section d && has_room d (length bs)) ≡ b
-          → draft_section_bytes_at (with_bytes e bs).parts s ≡ draft_section_bytes_at d.parts s ++ section_bytes s (cond b (statement_data d.section bs r ∷ []) [])
+          → draft_section_bytes_at (with_bytes_if_room e bs).parts s ≡ draft_section_bytes_at d.parts s ++ section_bytes s (cond b (statement_data d.section bs r ∷ []) [])
       by true h g =
           let less : e.section < length e.parts = ltb-true e.section (length e.parts) (and_parts _ _ h).0 in
           rw h (ap (λ ps. draft_section_bytes_at ps s) (changed-set (λ p. record p { bytes = p.bytes ++ bs }) e.parts e.section)
@@ -101,14 +101,14 @@ module _ (s : ℕ) where
   entered-bytes : (d : DraftData) (name : List ℕ) → draft_section_bytes_at (with_current_section d name).parts s ≡ draft_section_bytes_at d.parts s ++ []
   unfolding with_current_section
   entered-bytes d name =
-      by_test (λ (e : DraftData). draft_section_bytes_at e.parts s ≡ draft_section_bytes_at d.parts s ++ []) (not (is_source_name name)) d (cond (nat_lt (section_number d.parts name) (length d.parts)) (record d { section = section_number d.parts name }) (cond (nat_lt (length d.parts) 64) (record d { section = length d.parts; parts = d.parts ++ part name [] [] ∷ [] }) d)) (λ b. same) (λ b.
-      by_test (λ (e : DraftData). draft_section_bytes_at e.parts s ≡ draft_section_bytes_at d.parts s ++ []) (nat_lt (section_number d.parts name) (length d.parts)) (record d { section = section_number d.parts name }) (cond (nat_lt (length d.parts) 64) (record d { section = length d.parts; parts = d.parts ++ part name [] [] ∷ [] }) d) (λ c. same) (λ c.
-      by_test (λ (e : DraftData). draft_section_bytes_at e.parts s ≡ draft_section_bytes_at d.parts s ++ []) (nat_lt (length d.parts) 64) (record d { section = length d.parts; parts = d.parts ++ part name [] [] ∷ [] }) d (λ f. bytes_at-push d.parts (part name [] []) s refl ∙ same) (λ f. same)))
+      by_test (λ (e : DraftData). draft_section_bytes_at e.parts s ≡ draft_section_bytes_at d.parts s ++ []) (not (is_source_name name)) d (cond (nat_lt (section_number d.parts name) (length d.parts)) (record d { section = section_number d.parts name }) (cond (nat_lt (length d.parts) 64) (record d { section = length d.parts; parts = d.parts ++ draft_section name [] [] ∷ [] }) d)) (λ b. same) (λ b.
+      by_test (λ (e : DraftData). draft_section_bytes_at e.parts s ≡ draft_section_bytes_at d.parts s ++ []) (nat_lt (section_number d.parts name) (length d.parts)) (record d { section = section_number d.parts name }) (cond (nat_lt (length d.parts) 64) (record d { section = length d.parts; parts = d.parts ++ draft_section name [] [] ∷ [] }) d) (λ c. same) (λ c.
+      by_test (λ (e : DraftData). draft_section_bytes_at e.parts s ≡ draft_section_bytes_at d.parts s ++ []) (nat_lt (length d.parts) 64) (record d { section = length d.parts; parts = d.parts ++ draft_section name [] [] ∷ [] }) d (λ f. bytes_at-push d.parts (draft_section name [] []) s refl ∙ same) (λ f. same)))
     where
       same : draft_section_bytes_at d.parts s ≡ draft_section_bytes_at d.parts s ++ []
       same = sym (append-nil (draft_section_bytes_at d.parts s))
 
-  stepped-bytes : (labels : List SymbolData) (d : DraftData) (i : ItemData) → draft_section_bytes_at (draft_after_item labels d i).parts s ≡ draft_section_bytes_at d.parts s ++ section_bytes s (statement_with_room d (statement_of_item labels d i))
+  stepped-bytes : (labels : List SymbolData) (d : DraftData) (i : ItemData) → draft_section_bytes_at (draft_after_item labels d i).parts s ≡ draft_section_bytes_at d.parts s ++ section_bytes s (statement_if_room d (statement_of_item labels d i))
   unfolding draft_after_item
   stepped-bytes labels d (label name) = label-bytes d name
   stepped-bytes labels d (section name) = entered-bytes d name
@@ -122,8 +122,8 @@ module _ (s : ℕ) where
   from-bytes labels (i ∷ is) d =
       from-bytes labels is (draft_after_item labels d i)
       ∙ ap (λ bs. bs ++ section_bytes s (statements_from labels (draft_after_item labels d i) is)) (stepped-bytes labels d i)
-      ∙ append_assoc (draft_section_bytes_at d.parts s) (section_bytes s (statement_with_room d (statement_of_item labels d i))) (section_bytes s (statements_from labels (draft_after_item labels d i) is))
-      ∙ ap (λ bs. draft_section_bytes_at d.parts s ++ bs) (sym (flat_map-append (λ (t : StatementData). cond (t.section == s) t.bytes []) (statement_with_room d (statement_of_item labels d i)) (statements_from labels (draft_after_item labels d i) is)))
+      ∙ append_assoc (draft_section_bytes_at d.parts s) (section_bytes s (statement_if_room d (statement_of_item labels d i))) (section_bytes s (statements_from labels (draft_after_item labels d i) is))
+      ∙ ap (λ bs. draft_section_bytes_at d.parts s ++ bs) (sym (flat_map-append (λ (t : StatementData). cond (t.section == s) t.bytes []) (statement_if_room d (statement_of_item labels d i)) (statements_from labels (draft_after_item labels d i) is)))
 
 -- the items of all lines, in order
 pub lines-items : (labels : List SymbolData) (lines : List LineData) (d : DraftData) → fold (draft_after_line labels) d lines ≡ fold (draft_after_item labels) d (items_in lines)

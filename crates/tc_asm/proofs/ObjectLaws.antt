@@ -16,7 +16,7 @@ use Rattle.tc_asm.specs.declared.symbols.Place.{Place}
 use Rattle.tc_asm.specs.Symbols.{SymbolData, symbol_number, symbol_names}
 use Rattle.tc_asm.specs.Drafts.{UseData, DraftSectionData, DraftData, draft_section_names, count_of_uses, draft_section_size_at}
 use Rattle.tc_asm.specs.Objects.{section_of, object_symbol, symbol_of, assembled_addend, reloc_of, relocs_of_sections, object_of_draft}
-use Rattle.tc_asm.specs.DraftInvariants.{EachInDraft, is_drafted_name, IsNewDraftName, IsLabelPlace, IsLabelPlaceIfAny, AreUsesDisjoint, IsUseOfKnownSymbol, IsDraftSection, IsDraft}
+use Rattle.tc_asm.specs.DraftInvariants.{EachInDraft, is_drafted_name, IsNewDraftName, IsLabelPlace, IsLabelPlaceIfAny, AreUsesDisjoint, IsUseOfKnownSymbol, IsDraftSection, IsWellFormedDraft}
 use Rattle.tc_asm.proofs.FinishLaws.{size_small}
 use Rattle.tc_asm.proofs.ListLaws.{each_weaker, any_first, position_first, spaced_end}
 
@@ -181,7 +181,7 @@ length-relocs ss s (p ∷ ps) =
     let own = length-map p.uses (reloc_of ss s) in
     length-append (map (reloc_of ss s) p.uses) (relocs_of_sections ss (s + 1) ps) ∙ omega (arith, rest, own, sum_by-cons (λ (q : DraftSectionData). length q.uses) p ps)
 
-pub IsObject-draft : (d : DraftData) → IsDraft d → IsObject (object_of_draft d)
+pub IsObject-draft : (d : DraftData) → IsWellFormedDraft d → IsObject (object_of_draft d)
 IsObject-draft d h =
     let parts_long = length-map d.parts section_of in
     let symbols_long = length-map d.symbols symbol_of in
@@ -197,7 +197,7 @@ IsObject-draft d h =
     }
 
 -- the object of parts that are equal to those of the draft
-pub object_whole : (d : DraftData) (ss : List SectionData) (ys : List object.SymbolData) (rs : List Reloc) → IsDraft d
+pub object_whole : (d : DraftData) (ss : List SectionData) (ys : List object.SymbolData) (rs : List Reloc) → IsWellFormedDraft d
     → ss ≡ map section_of d.parts → ys ≡ map symbol_of d.symbols → rs ≡ relocs_of_sections d.symbols 0 d.parts → IsObject (record { sections = ss; symbols = ys; relocs = rs })
 object_whole d ss ys rs h e f g =
     subst (λ (xs : List SectionData). IsObject (record { sections = xs; symbols = ys; relocs = rs })) (sym e)

@@ -17,8 +17,8 @@ use Rattle.tc_asm.proofs.LaidLaws.{lines-items}
 use Rattle.tc_asm.specs.Symbols.{SymbolData}
 use Rattle.tc_asm.specs.Drafts.{DraftData, empty_draft, draft_after_item}
 use Rattle.tc_asm.specs.DraftedSources.{draft_from_lines, draft_after_line, symbols_of_lines}
-use Rattle.tc_asm.specs.KnownSymbols.{kept, second_pass_rule}
-use Rattle.tc_asm.specs.Rules.{rule_of_source_line, LinesKeepRules, IsFirstBrokenLine, line_rule}
+use Rattle.tc_asm.specs.KnownSymbols.{without_symbols_if, rule_broken_in_second_pass}
+use Rattle.tc_asm.specs.Rules.{rule_broken_by_source_line, LinesKeepRules, IsFirstBadLine, rule_broken_by_line}
 
 -- the line at a place, with the lines after it
 module _ (ls : List LineData) (i : ℕ) (x : LineData) (zs : List LineData) (here : drop i ls ≡ x ∷ zs) where
@@ -42,25 +42,25 @@ module _ (ls : List LineData) (i : ℕ) (x : LineData) (zs : List LineData) (her
       ∙ sym (fold_more (draft_after_line labels) empty_draft ls i x within)
 
   pub rule_here : (labels : List SymbolData) (draft : DraftData) (rule : ℕ) (d : LineData)
-      → labels ≡ symbols_of_lines ls → draft ≡ draft_from_lines labels (take i ls) → rule ≡ line_rule labels draft x → rule_of_source_line ls i (get_or ls i d) ≡ rule
+      → labels ≡ symbols_of_lines ls → draft ≡ draft_from_lines labels (take i ls) → rule ≡ rule_broken_by_line labels draft x → rule_broken_by_source_line ls i (get_or ls i d) ≡ rule
   rule_here labels draft rule d same so_far is =
       sym (is
-      ∙ ap (λ p. line_rule labels p x) so_far
-      ∙ ap (line_rule labels (draft_from_lines labels (take i ls))) (sym (get_here d))
-      ∙ ap (λ ss. line_rule ss (draft_from_lines ss (take i ls)) (get_or ls i d)) same)
+      ∙ ap (λ p. rule_broken_by_line labels p x) so_far
+      ∙ ap (rule_broken_by_line labels (draft_from_lines labels (take i ls))) (sym (get_here d))
+      ∙ ap (λ ss. rule_broken_by_line ss (draft_from_lines ss (take i ls)) (get_or ls i d)) same)
 
   pub kept_more : (labels : List SymbolData) (draft : DraftData) (rule : ℕ)
-      → labels ≡ symbols_of_lines ls → draft ≡ draft_from_lines labels (take i ls) → rule ≡ line_rule labels draft x → rule ≡ 15 → LinesKeepRules ls i → LinesKeepRules ls (i + 1)
+      → labels ≡ symbols_of_lines ls → draft ≡ draft_from_lines labels (take i ls) → rule ≡ rule_broken_by_line labels draft x → rule ≡ 15 → LinesKeepRules ls i → LinesKeepRules ls (i + 1)
   kept_more labels draft rule same so_far is none before = λ k e h.
       elim (cases_lt k i) [
         | inl less ↦ before k e less
         | inr same_place ↦
             let at : k ≡ i = omega arith in
-            ap (λ j. rule_of_source_line ls j (get_or ls j e)) at ∙ rule_here labels draft rule e same so_far is ∙ none
+            ap (λ j. rule_broken_by_source_line ls j (get_or ls j e)) at ∙ rule_here labels draft rule e same so_far is ∙ none
       ]
 
   pub least_here : (labels : List SymbolData) (draft : DraftData) (rule : ℕ)
-      → labels ≡ symbols_of_lines ls → draft ≡ draft_from_lines labels (take i ls) → rule ≡ line_rule labels draft x → rule ≢ 15 → LinesKeepRules ls i → IsFirstBrokenLine ls (i + 1) rule
+      → labels ≡ symbols_of_lines ls → draft ≡ draft_from_lines labels (take i ls) → rule ≡ rule_broken_by_line labels draft x → rule ≢ 15 → LinesKeepRules ls i → IsFirstBadLine ls (i + 1) rule
   least_here labels draft rule same so_far is some before = record {
     place = i;
     within = within;
@@ -81,14 +81,14 @@ pub first_things : (items first : List Item) (n : ℕ) → first ≡ take n item
 first_things items front n e = ap (map item_of) e ∙ sym (take-map item_of n items)
 
 -- the draft after a line's items, and the least rule that the line breaks
-pub line_drafted : (known : Bool) (labels : List SymbolData) (items first : List Item) (count rule : ℕ) (old new : DraftData) → first ≡ take count items → kept known new ≡ kept known (fold (draft_after_item labels) old (map item_of first))
-    → kept known new ≡ kept known (draft_after_line labels old (line_data rule (take count (map item_of items))))
+pub line_drafted : (known : Bool) (labels : List SymbolData) (items first : List Item) (count rule : ℕ) (old new : DraftData) → first ≡ take count items → without_symbols_if known new ≡ without_symbols_if known (fold (draft_after_item labels) old (map item_of first))
+    → without_symbols_if known new ≡ without_symbols_if known (draft_after_line labels old (line_data rule (take count (map item_of items))))
 unfolding draft_after_line
-line_drafted known labels items first count rule old new front same = same ∙ ap (λ is. kept known (fold (draft_after_item labels) old is)) (first_things items first count front)
+line_drafted known labels items first count rule old new front same = same ∙ ap (λ is. without_symbols_if known (fold (draft_after_item labels) old is)) (first_things items first count front)
 
-pub line_ruled : (known : Bool) (labels : List SymbolData) (items first : List Item) (count rule found least : ℕ) (old : DraftData) → first ≡ take count items → found ≡ second_pass_rule known labels old (map item_of first)
-    → least ≡ min rule found → least ≡ min rule (second_pass_rule known labels old (take count (map item_of items)))
-line_ruled known labels items first count rule found least old front is e = e ∙ ap (min rule) (is ∙ ap (second_pass_rule known labels old) (first_things items first count front))
+pub line_ruled : (known : Bool) (labels : List SymbolData) (items first : List Item) (count rule found least : ℕ) (old : DraftData) → first ≡ take count items → found ≡ rule_broken_in_second_pass known labels old (map item_of first)
+    → least ≡ min rule found → least ≡ min rule (rule_broken_in_second_pass known labels old (take count (map item_of items)))
+line_ruled known labels items first count rule found least old front is e = e ∙ ap (min rule) (is ∙ ap (rule_broken_in_second_pass known labels old) (first_things items first count front))
 
 module _ (lines : List Line) (i : ℕ) (d : Line) (items : List Item) (within : i < length lines) where
   -- the next line has the next items

@@ -12,24 +12,24 @@ use Rattle.tc_isa.specs.Forms.{field_bounds, form_index}
 use Rattle.tc_isa.specs.Arithmetic.{sign_extended}
 use Rattle.tc_isa.specs.FromFields.{doubled_displacement, forward_distance}
 use Rattle.tc_stmt.specs.declared.want.Field.TheVariants.{K}
-use Rattle.tc_stmt.specs.RowFields.{RowFieldsData, with_rule, with_value, set_field}
+use Rattle.tc_stmt.specs.RowFields.{RowFieldsData, with_rule, with_field_value, set_field}
 use Rattle.tc_stmt.specs.Items.{ReferenceData, ItemData, label, section, code, bytes}
-use Rattle.tc_stmt.specs.Displacements.{is_far_displacement, is_odd_displacement, displacement_rule, with_displacement}
+use Rattle.tc_stmt.specs.Displacements.{is_far_displacement, is_odd_displacement, rule_broken_by_displacement, with_displacement}
 use Rattle.tc_stmt.specs.OperandForms.{operand_number_modulo}
 use Rattle.tc_stmt.specs.StatedRows.{can_take_symbol_directly}
 use Rattle.tc_asm.specs.declared.symbols.Place.{Place}
 use Rattle.tc_stmt.specs.Lines.{lines_in, items_in}
 use Rattle.tc_asm.specs.Symbols.{SymbolData, place_in}
-use Rattle.tc_asm.specs.Drafts.{DraftData, empty_draft, has_current_section, next_byte_offset, label_distance, unbroken_fields, fields_with_target, fields_with_label_distance, row_fields_with_target, code_bytes, draft_after_item}
-use Rattle.tc_asm.specs.Rules.{content_rule, item_rule, items_rule}
+use Rattle.tc_asm.specs.Drafts.{DraftData, empty_draft, has_current_section, next_byte_offset, label_distance, bare_row_fields, fields_with_target, fields_with_label_distance, row_fields_with_target, code_bytes, draft_after_item}
+use Rattle.tc_asm.specs.Rules.{rule_broken_by_content, rule_broken_by_item, rule_broken_by_items}
 use Rattle.tc_asm.specs.DraftedSources.{symbols_of_lines}
 use Rattle.tc_asm.specs.DraftInvariants.{EachInDraft}
 use Rattle.tc_asm.specs.Objects.{assembled_addend}
 use Rattle.tc_asm.specs.Statements.{StatementData, statement_data, statement_of_item}
 use Rattle.tc_asm.specs.InstructionLaws.{InstructionSpellsRow}
-use Rattle.tc_asm.specs.ShortJumpLaws.{short_jump_displacement, ShortJumpsLaw}
+use Rattle.tc_asm.specs.ShortJumpLaws.{short_jump_displacement, ShortJumpsReachLabels}
 use Rattle.tc_asm.proofs.Uses.{fits}
-use Rattle.tc_asm.specs.ItemInvariants.{IsAddedCode, IsAddedItem}
+use Rattle.tc_asm.specs.ItemInvariants.{IsCodeOfSomeLine, IsItemOfSomeLine}
 use Rattle.tc_asm.proofs.SourceItems.{source_are}
 use Rattle.tc_asm.proofs.SourceDrafts.{source_items}
 use Rattle.tc_asm.proofs.AlikeDrafts.{passes_agree}
@@ -89,8 +89,8 @@ displacement_is Sb f minus s short far odd = both_ways minus s far odd
 displacement_is Sbr f minus s short far odd = forwards minus s far odd
 displacement_is _ f minus s short far odd = cc
 
-near_even : (row : RowData) (minus : Bool) (s : ℕ) → (displacement_rule row minus s == 15) ≡ true → (is_far_displacement row.form (field_bounds row.form).k minus s ≡ false) × (is_odd_displacement s ≡ false)
-unfolding displacement_rule
+near_even : (row : RowData) (minus : Bool) (s : ℕ) → (rule_broken_by_displacement row minus s == 15) ≡ true → (is_far_displacement row.form (field_bounds row.form).k minus s ≡ false) × (is_odd_displacement s ≡ false)
+unfolding rule_broken_by_displacement
 near_even row minus s e = by (is_far_displacement row.form (field_bounds row.form).k minus s) (is_32_bit_row row) (is_odd_displacement s) e
   where
     by : (far long odd : Bool) → (min (cond far (cond long 5 11) 15) (cond odd 6 15) == 15) ≡ true → (far ≡ false) × (odd ≡ false)
@@ -101,8 +101,8 @@ near_even row minus s e = by (is_far_displacement row.form (field_bounds row.for
     by false long true e = cc
     by false long false e = (refl, refl)
 
-at_most : (row : RowData) (minus : Bool) (s : ℕ) → displacement_rule row minus s ≤ 15
-unfolding displacement_rule
+at_most : (row : RowData) (minus : Bool) (s : ℕ) → rule_broken_by_displacement row minus s ≤ 15
+unfolding rule_broken_by_displacement
 at_most row minus s = by (is_far_displacement row.form (field_bounds row.form).k minus s) (is_32_bit_row row) (is_odd_displacement s)
   where
     by : (far long odd : Bool) → min (cond far (cond long 5 11) 15) (cond odd 6 15) ≤ 15
@@ -113,31 +113,31 @@ at_most row minus s = by (is_far_displacement row.form (field_bounds row.form).k
 not_both : (b : Bool) → b ≡ true → b ≡ false → ⊥
 not_both b e g = cc
 
-displaced_is : (row : RowData) (minus : Bool) (s : ℕ) (f : Fields) → 15 ≤ (with_displacement row minus s (unbroken_fields f)).rule →
-    ((displacement_rule row minus s == 15) ≡ true) × ((with_displacement row minus s (unbroken_fields f)).fields ≡ record f { k = operand_number_modulo (field_bounds row.form).k minus (s / 2) })
+displaced_is : (row : RowData) (minus : Bool) (s : ℕ) (f : Fields) → 15 ≤ (with_displacement row minus s (bare_row_fields f)).rule →
+    ((rule_broken_by_displacement row minus s == 15) ≡ true) × ((with_displacement row minus s (bare_row_fields f)).fields ≡ record f { k = operand_number_modulo (field_bounds row.form).k minus (s / 2) })
 unfolding with_displacement set_field
-displaced_is row minus s f h = by (displacement_rule row minus s == 15) refl h
+displaced_is row minus s f h = by (rule_broken_by_displacement row minus s == 15) refl h
   where
-    by : (b : Bool) → (displacement_rule row minus s == 15) ≡ b → 15 ≤ (cond b (with_value K (operand_number_modulo (field_bounds row.form).k minus (s / 2)) (unbroken_fields f)) (with_rule (displacement_rule row minus s) (unbroken_fields f))).rule
-        → (b ≡ true) × ((cond b (with_value K (operand_number_modulo (field_bounds row.form).k minus (s / 2)) (unbroken_fields f)) (with_rule (displacement_rule row minus s) (unbroken_fields f))).fields ≡ record f { k = operand_number_modulo (field_bounds row.form).k minus (s / 2) })
+    by : (b : Bool) → (rule_broken_by_displacement row minus s == 15) ≡ b → 15 ≤ (cond b (with_field_value K (operand_number_modulo (field_bounds row.form).k minus (s / 2)) (bare_row_fields f)) (with_rule (rule_broken_by_displacement row minus s) (bare_row_fields f))).rule
+        → (b ≡ true) × ((cond b (with_field_value K (operand_number_modulo (field_bounds row.form).k minus (s / 2)) (bare_row_fields f)) (with_rule (rule_broken_by_displacement row minus s) (bare_row_fields f))).fields ≡ record f { k = operand_number_modulo (field_bounds row.form).k minus (s / 2) })
     by true e h = (refl, refl)
     by false e h =
         let most = at_most row minus s in
-        let same : displacement_rule row minus s ≡ 15 = omega arith in
-        absurd (not_both (displacement_rule row minus s == 15) ((Decides-eqb (displacement_rule row minus s) 15).1 same) e)
+        let same : rule_broken_by_displacement row minus s ≡ 15 = omega arith in
+        absurd (not_both (rule_broken_by_displacement row minus s == 15) ((Decides-eqb (rule_broken_by_displacement row minus s) 15).1 same) e)
 
 record IsJumped (labels : List SymbolData) (d : DraftData) (row : RowData) (f : Fields) (r : ReferenceData) : Type 0 where
   minus : Bool
   size : ℕ
   is : label_distance labels d r ≡ Some (minus, size)
-  rule : (displacement_rule row minus size == 15) ≡ true
+  rule : (rule_broken_by_displacement row minus size == 15) ≡ true
   fields : (fields_with_label_distance labels d row f r).fields ≡ record f { k = operand_number_modulo (field_bounds row.form).k minus (size / 2) }
 
 jumped_is : (labels : List SymbolData) (d : DraftData) (row : RowData) (f : Fields) (r : ReferenceData) → 15 ≤ (fields_with_label_distance labels d row f r).rule → IsJumped labels d row f r
 unfolding fields_with_label_distance
 jumped_is labels d row f r h = by (label_distance labels d r) refl h
   where
-    by : (o : Option (Bool × ℕ)) → label_distance labels d r ≡ o → 15 ≤ (option_map_or (λ n. with_displacement row n.0 n.1 (unbroken_fields f)) o (with_rule 10 (unbroken_fields f))).rule → IsJumped labels d row f r
+    by : (o : Option (Bool × ℕ)) → label_distance labels d r ≡ o → 15 ≤ (option_map_or (λ n. with_displacement row n.0 n.1 (bare_row_fields f)) o (with_rule 10 (bare_row_fields f))).rule → IsJumped labels d row f r
     by None e h = absurd (omega arith)
     by (Some n) e h =
         let p = displaced_is row n.0 n.1 f h in
@@ -146,7 +146,7 @@ jumped_is labels d row f r h = by (label_distance labels d r) refl h
           size = n.1;
           is = e;
           rule = p.0;
-          fields = ap (λ (o : Option (Bool × ℕ)). (option_map_or (λ n. with_displacement row n.0 n.1 (unbroken_fields f)) o (with_rule 10 (unbroken_fields f))).fields) e ∙ p.1;
+          fields = ap (λ (o : Option (Bool × ℕ)). (option_map_or (λ n. with_displacement row n.0 n.1 (bare_row_fields f)) o (with_rule 10 (bare_row_fields f))).fields) e ∙ p.1;
         }
 
 -- ---- distances
@@ -241,10 +241,10 @@ jumps_row labels d row f r short h =
 
 resolved_jumped : (labels : List SymbolData) (d : DraftData) (k : ℕ) (f : Fields) (r : ReferenceData) (row : RowData) → slice_get table_rows k ≡ Some row → r.kind ≡ 0 → row_fields_with_target labels d k f (Some r) ≡ fields_with_label_distance labels d row f r
 resolved_jumped labels d k f r row at zero =
-    ap (λ (q : Option RowData). option_map_or (λ x. fields_with_target labels d x f (Some r)) q (unbroken_fields f)) at
-    ∙ ap (λ b. cond b (fields_with_label_distance labels d row f r) (unbroken_fields f)) ((Decides-eqb r.kind 0).1 zero)
+    ap (λ (q : Option RowData). option_map_or (λ x. fields_with_target labels d x f (Some r)) q (bare_row_fields f)) at
+    ∙ ap (λ b. cond b (fields_with_label_distance labels d row f r) (bare_row_fields f)) ((Decides-eqb r.kind 0).1 zero)
 
-jumps_code : (labels : List SymbolData) (d : DraftData) (k : ℕ) (f : Fields) (r : ReferenceData) (c : IsAddedCode k f (Some r)) → r.kind ≡ 0 → 15 ≤ (row_fields_with_target labels d k f (Some r)).rule → Jumps labels d r c.row (row_fields_with_target labels d k f (Some r)).fields
+jumps_code : (labels : List SymbolData) (d : DraftData) (k : ℕ) (f : Fields) (r : ReferenceData) (c : IsCodeOfSomeLine k f (Some r)) → r.kind ≡ 0 → 15 ≤ (row_fields_with_target labels d k f (Some r)).rule → Jumps labels d r c.row (row_fields_with_target labels d k f (Some r)).fields
 jumps_code labels d k f r c zero h =
     let same = resolved_jumped labels d k f r c.row c.at zero in
     let R : RowFieldsData → Type 0 = λ x. 15 ≤ x.rule in
@@ -258,16 +258,16 @@ record StatementJumps (labels : List SymbolData) (d : DraftData) (t : StatementD
   spells : InstructionSpellsRow place t.bytes
   jumps : Jumps labels d r spells.row spells.fields
 
-statement_jumps : (labels : List SymbolData) (d : DraftData) (i : ItemData) (t : StatementData) (r : ReferenceData) → IsAddedItem i → 15 ≤ item_rule labels d i → statement_of_item labels d i ≡ Some t → t.reference ≡ Some r → r.kind ≡ 0 → StatementJumps labels d t r
-unfolding item_rule code_spells
+statement_jumps : (labels : List SymbolData) (d : DraftData) (i : ItemData) (t : StatementData) (r : ReferenceData) → IsItemOfSomeLine i → 15 ≤ rule_broken_by_item labels d i → statement_of_item labels d i ≡ Some t → t.reference ≡ Some r → r.kind ≡ 0 → StatementJumps labels d t r
+unfolding rule_broken_by_item code_spells
 statement_jumps labels d (code k f o) t r h rule e is zero =
     let same : statement_data d.section (code_bytes labels d k f o) o ≡ t = cc in
     let given : o ≡ Some r = ap (λ (x : StatementData). x.reference) same ∙ is in
-    let P : Option ReferenceData → Type 0 = λ p. IsAddedCode k f p → 15 ≤ (row_fields_with_target labels d k f p).rule → StatementJumps labels d (statement_data d.section (code_bytes labels d k f p) p) r in
+    let P : Option ReferenceData → Type 0 = λ p. IsCodeOfSomeLine k f p → 15 ≤ (row_fields_with_target labels d k f p).rule → StatementJumps labels d (statement_data d.section (code_bytes labels d k f p) p) r in
     let Q : StatementData → Type 0 = λ x. StatementJumps labels d x r in
     subst Q same
     (subst P (sym given) (λ c q. record { section = refl; place = k; spells = code_spells labels d k f (Some r) c; jumps = jumps_code labels d k f r c zero q })
-    h (fits (row_fields_with_target labels d k f o).rule (content_rule d _ o) rule))
+    h (fits (row_fields_with_target labels d k f o).rule (rule_broken_by_content d _ o) rule))
 statement_jumps labels d (bytes bs o) t r h rule e is zero =
     let same : statement_data d.section bs o ≡ t = cc in
     let given : o ≡ Some r = ap (λ (x : StatementData). x.reference) same ∙ is in
@@ -275,15 +275,15 @@ statement_jumps labels d (bytes bs o) t r h rule e is zero =
     absurd (omega arith)
 statement_jumps labels d _ t r h rule e is zero = cc
 
-pub short_jumps_law : ShortJumpsLaw
+pub short_jumps_law : ShortJumpsReachLabels
 short_jumps_law source index t r keeps at is zero =
     let labels : List SymbolData = symbols_of_lines (lines_in source) in
     let items : List ItemData = items_in (lines_in source) in
     let a = item_at labels items empty_draft index t at in
     let d : DraftData = fold (draft_after_item labels) empty_draft a.before in
-    let E : List ItemData → Type 0 = λ xs. EachInDraft IsAddedItem xs in
-    let R : List ItemData → Type 0 = λ xs. 15 ≤ items_rule labels empty_draft xs in
-    let j = statement_jumps labels d a.item t r (each_there IsAddedItem a.before a.after a.item (subst E a.are (source_are source)))
+    let E : List ItemData → Type 0 = λ xs. EachInDraft IsItemOfSomeLine xs in
+    let R : List ItemData → Type 0 = λ xs. 15 ≤ rule_broken_by_items labels empty_draft xs in
+    let j = statement_jumps labels d a.item t r (each_there IsItemOfSomeLine a.before a.after a.item (subst E a.are (source_are source)))
     (rule_there labels a.before a.after a.item empty_draft (subst R a.are (source_items source keeps))) a.content is zero in
     let place = offset_there labels items index t a j.section in
     record {

@@ -7,9 +7,9 @@ use Rattle.tc_stmt.specs.Lines.{lines_in, items_in}
 use Rattle.tc_asm.specs.Symbols.{SymbolData}
 use Rattle.tc_asm.specs.Drafts.{DraftSectionData, DraftData, empty_draft, draft_after_item, draft_section_names, draft_section_bytes_at}
 use Rattle.tc_asm.specs.DraftedSources.{symbols_of_lines, draft_in}
-use Rattle.tc_asm.specs.Rules.{items_rule}
+use Rattle.tc_asm.specs.Rules.{rule_broken_by_items}
 use Rattle.tc_asm.specs.Objects.{section_of}
-use Rattle.tc_asm.specs.Statements.{StatementData, statement_of_item, statement_with_room, statements_from, section_bytes, statements_in, sections_of_statements, sections_in}
+use Rattle.tc_asm.specs.Statements.{StatementData, statement_of_item, statement_if_room, statements_from, section_bytes, statements_in, sections_of_statements, sections_in}
 use Rattle.tc_asm.proofs.LaidLaws.{drafted-bytes, lines-items}
 use Rattle.tc_asm.proofs.Uses.{HasField, HaveFields, uses_from, uses_in, GoodItems, GoodItem, all_uses}
 
@@ -33,7 +33,7 @@ standing_field : (b : Bool) (t : StatementData) → HasField t → HaveFields (c
 standing_field true t h = (h, tt)
 standing_field false t h = tt
 
-good_field : (labels : List SymbolData) (d : DraftData) (i : ItemData) → GoodItem labels d i → HaveFields (statement_with_room d (statement_of_item labels d i))
+good_field : (labels : List SymbolData) (d : DraftData) (i : ItemData) → GoodItem labels d i → HaveFields (statement_if_room d (statement_of_item labels d i))
 good_field labels d (code k f r) g = standing_field _ _ (record { four = g.four })
 good_field labels d (bytes bs r) g = standing_field _ _ (record { four = g.four })
 good_field labels d (zeros n) g = standing_field _ _ (record { four = λ e. cc })
@@ -42,10 +42,10 @@ good_field labels d _ g = tt
 good_fields : (labels : List SymbolData) (is : List ItemData) (d : DraftData) → GoodItems labels d is → HaveFields (statements_from labels d is)
 good_fields labels [] d good = tt
 good_fields labels (i ∷ is) d good =
-    fields_behind (statement_with_room d (statement_of_item labels d i)) (statements_from labels (draft_after_item labels d i) is) (good_field labels d i good.0) (good_fields labels is (draft_after_item labels d i) good.1)
+    fields_behind (statement_if_room d (statement_of_item labels d i)) (statements_from labels (draft_after_item labels d i) is) (good_field labels d i good.0) (good_fields labels is (draft_after_item labels d i) good.1)
 
 -- ---- a source
-module _ (source : List ℕ) (good : GoodItems (symbols_of_lines (lines_in source)) empty_draft (items_in (lines_in source))) (rules : 15 ≤ items_rule (symbols_of_lines (lines_in source)) empty_draft (items_in (lines_in source))) where
+module _ (source : List ℕ) (good : GoodItems (symbols_of_lines (lines_in source)) empty_draft (items_in (lines_in source))) (rules : 15 ≤ rule_broken_by_items (symbols_of_lines (lines_in source)) empty_draft (items_in (lines_in source))) where
   pub have : HaveFields (statements_in source)
   have = good_fields (symbols_of_lines (lines_in source)) (items_in (lines_in source)) empty_draft good
 

@@ -6,8 +6,8 @@ use Rattle.tc_stmt.specs.Items.{ReferenceData}
 use Rattle.tc_object.specs.declared.relocs.Reloc.{Reloc}
 use Rattle.tc_asm.specs.Symbols.{SymbolData, symbol_number}
 use Rattle.tc_asm.specs.Drafts.{UseData, DraftSectionData, draft_section_names}
-use Rattle.tc_asm.specs.Objects.{assembled_addend, reloc_of, relocs_of_sections, ObjectSectionsLaw}
-use Rattle.tc_asm.specs.SourceRelocations.{statement_relocs, section_relocs_of, relocs_of_statements, RelocationsLaw}
+use Rattle.tc_asm.specs.Objects.{assembled_addend, reloc_of, relocs_of_sections, ObjectHasStatementSections}
+use Rattle.tc_asm.specs.SourceRelocations.{statement_relocs, section_relocs_of, relocs_of_statements, ObjectHasStatementRelocations}
 use Rattle.tc_asm.specs.Statements.{StatementData, statements_in, has_unresolved_symbol}
 use Rattle.tc_asm.specs.DraftedSources.{draft_in, symbols_in}
 use Rattle.tc_asm.proofs.Uses.{use_at, uses_from}
@@ -51,10 +51,10 @@ relocs_all ss ts section (p ∷ ps) h =
     moved : (s : ℕ) → section + suc s ≡ section + 1 + s
     moved s = omega arith
 
-pub object_sections_law : ObjectSectionsLaw
+pub object_sections_law : ObjectHasStatementSections
 object_sections_law source = sym (sections_are source)
 
-pub relocations_law : RelocationsLaw
+pub relocations_law : ObjectHasStatementRelocations
 relocations_law source keeps =
     relocs_all (symbols_in source) (statements_in source) 0 (draft_in source).parts
     (λ s q e. (part_is source (source_good source) (source_items source keeps) s q e).1 ∙ ap (λ n. uses_from n 0 (statements_in source)) (front s))

@@ -9,11 +9,11 @@ use Rattle.std.proofs.lemmas.List.Sums.{fold-append}
 use Rattle.tc_stmt.specs.Names.{is_source_name}
 use Rattle.tc_stmt.specs.Items.{ReferenceData, ItemData, label, section, global, code, bytes, zeros}
 use Rattle.tc_asm.specs.Symbols.{SymbolData, with_name}
-use Rattle.tc_asm.specs.Drafts.{UseData, DraftSectionData, DraftData, part, empty_draft, next_byte_offset, has_current_section, has_room, with_label, section_number, with_current_section, with_global, with_section_bytes, with_bytes, with_section_use, with_use, with_reference, with_content, code_bytes, draft_after_item, draft_section_size_at, draft_section_bytes_at}
+use Rattle.tc_asm.specs.Drafts.{UseData, DraftSectionData, DraftData, draft_section, empty_draft, next_byte_offset, has_current_section, has_room, with_label, section_number, with_current_section, with_global, with_section_bytes, with_bytes_if_room, with_section_use, with_reloc_use, with_reference, with_content, code_bytes, draft_after_item, draft_section_size_at, draft_section_bytes_at}
 use Rattle.tc_asm.specs.DraftedSources.{draft_after_line}
 use Rattle.tc_isa.specs.Relocations.{is_relocation_kind}
-use Rattle.tc_asm.specs.Rules.{section_rule, byte_limit_rule, symbol_limit_rule, reloc_limit_rule, reference_rule, content_rule, item_rule, items_rule}
-use Rattle.tc_asm.specs.Statements.{StatementData, statement_data, statement_of_item, statement_with_room, statements_from, section_bytes, has_unresolved_symbol}
+use Rattle.tc_asm.specs.Rules.{rule_broken_before_section, rule_broken_by_byte_count, rule_broken_by_symbol_count, rule_broken_by_reloc_count, rule_broken_by_reference, rule_broken_by_content, rule_broken_by_item, rule_broken_by_items}
+use Rattle.tc_asm.specs.Statements.{StatementData, statement_data, statement_of_item, statement_if_room, statements_from, section_bytes, has_unresolved_symbol}
 use Rattle.tc_stmt.proofs.Cases.{by_test}
 use Rattle.tc_asm.proofs.ListLaws.{changed, changed-set, size_at-get}
 use Rattle.tc_asm.proofs.LaidLaws.{drafted-bytes}
@@ -101,15 +101,15 @@ then_fifteen false n less h = absurd (omega arith)
 
 module _ (s : ℕ) where
   -- bytes without a symbol
-  bytes_uses : (d : DraftData) (bs : List ℕ) → uses_in (with_bytes d bs).parts s ≡ uses_in d.parts s
-  unfolding with_bytes with_section_bytes
+  bytes_uses : (d : DraftData) (bs : List ℕ) → uses_in (with_bytes_if_room d bs).parts s ≡ uses_in d.parts s
+  unfolding with_bytes_if_room with_section_bytes
   bytes_uses d bs =
       by_test (λ (e : DraftData). uses_in e.parts s ≡ uses_in d.parts s) (has_current_section d && has_room d (length bs)) _ d
       (λ b. ap (λ (ps : List DraftSectionData). uses_in ps s) (changed-set (λ p. record p { bytes = p.bytes ++ bs }) d.parts d.section) ∙ uses_in-same (λ p. record p { bytes = p.bytes ++ bs }) (λ p. refl) d.parts d.section s)
       (λ b. refl)
 
   -- a statement that doesn't wait has no use
-  closed_uses : (n : ℕ) (d : DraftData) (bs : List ℕ) (o : Option ReferenceData) → has_unresolved_symbol o ≡ false → uses_from s n (statement_with_room d (Some (statement_data d.section bs o))) ≡ []
+  closed_uses : (n : ℕ) (d : DraftData) (bs : List ℕ) (o : Option ReferenceData) → has_unresolved_symbol o ≡ false → uses_from s n (statement_if_room d (Some (statement_data d.section bs o))) ≡ []
   closed_uses n d bs o closed = by (has_current_section d && has_room d (length bs))
     where
       none : (p : Option ReferenceData) → has_unresolved_symbol p ≡ false → use_at n p ≡ []
@@ -136,8 +136,8 @@ module _ (s : ℕ) where
         ∙ uses_in-grown (record { offset = next_byte_offset d; reference = r } ∷ []) d.parts d.section s less
 
     open_uses : has_current_section d ≡ true → has_room d (length bs) ≡ true → length bs ≡ 4 → is_relocation_kind r.kind ≡ true → nat_lt d.count 65535 ≡ true
-        → uses_in (with_use seen_draft (length bs) r).parts s ≡ uses_in d.parts s ++ cond (d.section == s) (record { offset = next_byte_offset d; reference = r } ∷ []) []
-    unfolding with_use next_byte_offset
+        → uses_in (with_reloc_use seen_draft (length bs) r).parts s ≡ uses_in d.parts s ++ cond (d.section == s) (record { offset = next_byte_offset d; reference = r } ∷ []) []
+    unfolding with_reloc_use next_byte_offset
     open_uses there room four kind few =
         ap (λ b. uses_in (cond b (record seen_draft { parts = with_section_use d.parts d.section (record { offset = next_byte_offset d; reference = r }); count = d.count + 1 }) seen_draft).parts s)
         (all_true (has_current_section d) (has_room d (length bs)) (length bs == 4) (is_relocation_kind r.kind) (nat_lt d.count 65535) there room ((Decides-eqb (length bs) 4).1 four) kind few)
@@ -146,8 +146,8 @@ module _ (s : ℕ) where
         all_true : (a b c e f : Bool) → a ≡ true → b ≡ true → c ≡ true → e ≡ true → f ≡ true → (a && b && c && e && f) ≡ true
         all_true a b c e f p q x y z = rw (p, q, x, y, z) refl
 
-    closed_use : is_relocation_kind r.kind ≡ false → uses_in (with_use seen_draft (length bs) r).parts s ≡ uses_in d.parts s
-    unfolding with_use
+    closed_use : is_relocation_kind r.kind ≡ false → uses_in (with_reloc_use seen_draft (length bs) r).parts s ≡ uses_in d.parts s
+    unfolding with_reloc_use
     closed_use kind =
         by_test (λ (e : DraftData). uses_in e.parts s ≡ uses_in d.parts s) (has_current_section d && has_room d (length bs) && length bs == 4 && is_relocation_kind r.kind && nat_lt d.count 65535) _ seen_draft
         (λ b. let p = and_parts _ _ (and_parts _ _ b).0 in absurd (not_both (is_relocation_kind r.kind) p.1 kind))
@@ -157,17 +157,17 @@ module _ (s : ℕ) where
         not_both b e f = cc
 
     -- a statement that waits
-    waiting : AddedBytesFitSymbol bs (Some r) → 15 ≤ content_rule d (length bs) (Some r) → is_relocation_kind r.kind ≡ true
-        → uses_in (with_content d bs (Some r)).parts s ≡ uses_in d.parts s ++ uses_from s (length (draft_section_bytes_at d.parts s)) (statement_with_room d (Some (statement_data d.section bs (Some r))))
+    waiting : AddedBytesFitSymbol bs (Some r) → 15 ≤ rule_broken_by_content d (length bs) (Some r) → is_relocation_kind r.kind ≡ true
+        → uses_in (with_content d bs (Some r)).parts s ≡ uses_in d.parts s ++ uses_from s (length (draft_section_bytes_at d.parts s)) (statement_if_room d (Some (statement_data d.section bs (Some r))))
     unfolding with_reference
     waiting good rule kind =
-        let rest = fits_too (section_rule d) (min (byte_limit_rule d (length bs)) (reference_rule d (Some r))) rule in
-        let there : has_current_section d ≡ true = then_fifteen (has_current_section d) 8 (omega arith) (fits (section_rule d) (min (byte_limit_rule d (length bs)) (reference_rule d (Some r))) rule) in
-        let room : has_room d (length bs) ≡ true = then_fifteen (has_room d (length bs)) 13 (omega arith) (fits (byte_limit_rule d (length bs)) (reference_rule d (Some r)) rest) in
-        let reloc = fits_too (symbol_limit_rule d r.name) (reloc_limit_rule d r) (fits_too (byte_limit_rule d (length bs)) (reference_rule d (Some r)) rest) in
+        let rest = fits_too (rule_broken_before_section d) (min (rule_broken_by_byte_count d (length bs)) (rule_broken_by_reference d (Some r))) rule in
+        let there : has_current_section d ≡ true = then_fifteen (has_current_section d) 8 (omega arith) (fits (rule_broken_before_section d) (min (rule_broken_by_byte_count d (length bs)) (rule_broken_by_reference d (Some r))) rule) in
+        let room : has_room d (length bs) ≡ true = then_fifteen (has_room d (length bs)) 13 (omega arith) (fits (rule_broken_by_byte_count d (length bs)) (rule_broken_by_reference d (Some r)) rest) in
+        let reloc = fits_too (rule_broken_by_symbol_count d r.name) (rule_broken_by_reloc_count d r) (fits_too (rule_broken_by_byte_count d (length bs)) (rule_broken_by_reference d (Some r)) rest) in
         let few : nat_lt d.count 65535 ≡ true = by_count (nat_lt d.count 65535) (is_relocation_kind r.kind) kind reloc in
         bytes_uses (with_reference d (length bs) (Some r)) bs
-        ∙ ap (λ b. uses_in (cond b (with_use seen_draft (length bs) r) d).parts s) (good.named r refl kind)
+        ∙ ap (λ b. uses_in (cond b (with_reloc_use seen_draft (length bs) r) d).parts s) (good.named r refl kind)
         ∙ open_uses there room (good.four kind) kind few
         ∙ ap (λ (us : List UseData). uses_in d.parts s ++ us) (standing_uses there room kind)
       where
@@ -177,7 +177,7 @@ module _ (s : ℕ) where
         by_count false false k h = cc
 
         standing_uses : has_current_section d ≡ true → has_room d (length bs) ≡ true → is_relocation_kind r.kind ≡ true
-            → cond {A = List UseData} (d.section == s) (a_use (next_byte_offset d) r ∷ []) [] ≡ uses_from s (length (draft_section_bytes_at d.parts s)) (statement_with_room d (Some (statement_data d.section bs (Some r))))
+            → cond {A = List UseData} (d.section == s) (a_use (next_byte_offset d) r ∷ []) [] ≡ uses_from s (length (draft_section_bytes_at d.parts s)) (statement_if_room d (Some (statement_data d.section bs (Some r))))
         standing_uses there room kind =
             by_section (d.section == s) refl
             ∙ ap (λ b. uses_from s (length (draft_section_bytes_at d.parts s)) (cond b (statement_data d.section bs (Some r) ∷ []) [])) (sym (and_from (has_current_section d) (has_room d (length bs)) there room))
@@ -190,22 +190,22 @@ module _ (s : ℕ) where
             by_section false e = refl
 
     -- a statement that doesn't wait
-    done : is_relocation_kind r.kind ≡ false → uses_in (with_content d bs (Some r)).parts s ≡ uses_in d.parts s ++ uses_from s (length (draft_section_bytes_at d.parts s)) (statement_with_room d (Some (statement_data d.section bs (Some r))))
+    done : is_relocation_kind r.kind ≡ false → uses_in (with_content d bs (Some r)).parts s ≡ uses_in d.parts s ++ uses_from s (length (draft_section_bytes_at d.parts s)) (statement_if_room d (Some (statement_data d.section bs (Some r))))
     unfolding with_reference
     done kind =
         bytes_uses (with_reference d (length bs) (Some r)) bs
-        ∙ by_test (λ (e : DraftData). uses_in e.parts s ≡ uses_in d.parts s) (is_source_name r.name) (with_use seen_draft (length bs) r) d (λ b. closed_use kind) (λ b. refl)
+        ∙ by_test (λ (e : DraftData). uses_in e.parts s ≡ uses_in d.parts s) (is_source_name r.name) (with_reloc_use seen_draft (length bs) r) d (λ b. closed_use kind) (λ b. refl)
         ∙ sym (append-nil (uses_in d.parts s))
         ∙ ap (λ (us : List UseData). uses_in d.parts s ++ us) (sym (closed_uses (length (draft_section_bytes_at d.parts s)) d bs (Some r) kind))
 
-  content_uses : (d : DraftData) (bs : List ℕ) (o : Option ReferenceData) → AddedBytesFitSymbol bs o → 15 ≤ content_rule d (length bs) o
-      → uses_in (with_content d bs o).parts s ≡ uses_in d.parts s ++ uses_from s (length (draft_section_bytes_at d.parts s)) (statement_with_room d (Some (statement_data d.section bs o)))
+  content_uses : (d : DraftData) (bs : List ℕ) (o : Option ReferenceData) → AddedBytesFitSymbol bs o → 15 ≤ rule_broken_by_content d (length bs) o
+      → uses_in (with_content d bs o).parts s ≡ uses_in d.parts s ++ uses_from s (length (draft_section_bytes_at d.parts s)) (statement_if_room d (Some (statement_data d.section bs o)))
   unfolding with_reference
   content_uses d bs None good rule =
       bytes_uses d bs ∙ sym (append-nil (uses_in d.parts s)) ∙ ap (λ (us : List UseData). uses_in d.parts s ++ us) (sym (closed_uses (length (draft_section_bytes_at d.parts s)) d bs None refl))
   content_uses d bs (Some r) good rule = by (is_relocation_kind r.kind) refl
     where
-      by : (b : Bool) → is_relocation_kind r.kind ≡ b → uses_in (with_content d bs (Some r)).parts s ≡ uses_in d.parts s ++ uses_from s (length (draft_section_bytes_at d.parts s)) (statement_with_room d (Some (statement_data d.section bs (Some r))))
+      by : (b : Bool) → is_relocation_kind r.kind ≡ b → uses_in (with_content d bs (Some r)).parts s ≡ uses_in d.parts s ++ uses_from s (length (draft_section_bytes_at d.parts s)) (statement_if_room d (Some (statement_data d.section bs (Some r))))
       by true k = waiting d bs r good rule k
       by false k = done d bs r k
 
@@ -223,17 +223,17 @@ module _ (s : ℕ) where
   entered_uses : (d : DraftData) (name : List ℕ) → uses_in (with_current_section d name).parts s ≡ uses_in d.parts s
   unfolding with_current_section
   entered_uses d name =
-      by_test (λ (e : DraftData). uses_in e.parts s ≡ uses_in d.parts s) (not (is_source_name name)) d (cond (nat_lt (section_number d.parts name) (length d.parts)) (record d { section = section_number d.parts name }) (cond (nat_lt (length d.parts) 64) (record d { section = length d.parts; parts = d.parts ++ part name [] [] ∷ [] }) d)) (λ b. refl) (λ b.
-      by_test (λ (e : DraftData). uses_in e.parts s ≡ uses_in d.parts s) (nat_lt (section_number d.parts name) (length d.parts)) (record d { section = section_number d.parts name }) (cond (nat_lt (length d.parts) 64) (record d { section = length d.parts; parts = d.parts ++ part name [] [] ∷ [] }) d) (λ c. refl) (λ c.
-      by_test (λ (e : DraftData). uses_in e.parts s ≡ uses_in d.parts s) (nat_lt (length d.parts) 64) (record d { section = length d.parts; parts = d.parts ++ part name [] [] ∷ [] }) d (λ f. uses_in-push d.parts (part name [] []) s refl) (λ f. refl)))
+      by_test (λ (e : DraftData). uses_in e.parts s ≡ uses_in d.parts s) (not (is_source_name name)) d (cond (nat_lt (section_number d.parts name) (length d.parts)) (record d { section = section_number d.parts name }) (cond (nat_lt (length d.parts) 64) (record d { section = length d.parts; parts = d.parts ++ draft_section name [] [] ∷ [] }) d)) (λ b. refl) (λ b.
+      by_test (λ (e : DraftData). uses_in e.parts s ≡ uses_in d.parts s) (nat_lt (section_number d.parts name) (length d.parts)) (record d { section = section_number d.parts name }) (cond (nat_lt (length d.parts) 64) (record d { section = length d.parts; parts = d.parts ++ draft_section name [] [] ∷ [] }) d) (λ c. refl) (λ c.
+      by_test (λ (e : DraftData). uses_in e.parts s ≡ uses_in d.parts s) (nat_lt (length d.parts) 64) (record d { section = length d.parts; parts = d.parts ++ draft_section name [] [] ∷ [] }) d (λ f. uses_in-push d.parts (draft_section name [] []) s refl) (λ f. refl)))
 
-  stepped_uses : (labels : List SymbolData) (d : DraftData) (i : ItemData) → GoodItem labels d i → 15 ≤ item_rule labels d i
-      → uses_in (draft_after_item labels d i).parts s ≡ uses_in d.parts s ++ uses_from s (length (draft_section_bytes_at d.parts s)) (statement_with_room d (statement_of_item labels d i))
-  unfolding draft_after_item item_rule
+  stepped_uses : (labels : List SymbolData) (d : DraftData) (i : ItemData) → GoodItem labels d i → 15 ≤ rule_broken_by_item labels d i
+      → uses_in (draft_after_item labels d i).parts s ≡ uses_in d.parts s ++ uses_from s (length (draft_section_bytes_at d.parts s)) (statement_if_room d (statement_of_item labels d i))
+  unfolding draft_after_item rule_broken_by_item
   stepped_uses labels d (label name) good rule = none_more d (with_label d name) (label_uses d name)
   stepped_uses labels d (section name) good rule = none_more d (with_current_section d name) (entered_uses d name)
   stepped_uses labels d (global name) good rule = none_more d (with_global d name) (global_uses d name)
-  stepped_uses labels d (code k f r) good rule = content_uses d (code_bytes labels d k f r) r good (fits_too _ (content_rule d (length (code_bytes labels d k f r)) r) rule)
+  stepped_uses labels d (code k f r) good rule = content_uses d (code_bytes labels d k f r) r good (fits_too _ (rule_broken_by_content d (length (code_bytes labels d k f r)) r) rule)
   stepped_uses labels d (bytes bs r) good rule = content_uses d bs r good rule
   stepped_uses labels d (zeros n) good rule =
       bytes_uses d (replicate n 0) ∙ sym (append-nil (uses_in d.parts s))
@@ -258,8 +258,8 @@ module _ (s : ℕ) where
   pub statements-append : (labels : List SymbolData) (d : DraftData) (xs ys : List ItemData) → statements_from labels d (xs ++ ys) ≡ statements_from labels d xs ++ statements_from labels (fold (draft_after_item labels) d xs) ys
   statements-append labels d [] ys = refl
   statements-append labels d (x ∷ xs) ys =
-      ap (λ (ts : List StatementData). statement_with_room d (statement_of_item labels d x) ++ ts) (statements-append labels (draft_after_item labels d x) xs ys)
-      ∙ sym (append_assoc (statement_with_room d (statement_of_item labels d x)) (statements_from labels (draft_after_item labels d x) xs) (statements_from labels (fold (draft_after_item labels) (draft_after_item labels d x) xs) ys))
+      ap (λ (ts : List StatementData). statement_if_room d (statement_of_item labels d x) ++ ts) (statements-append labels (draft_after_item labels d x) xs ys)
+      ∙ sym (append_assoc (statement_if_room d (statement_of_item labels d x)) (statements_from labels (draft_after_item labels d x) xs) (statements_from labels (fold (draft_after_item labels) (draft_after_item labels d x) xs) ys))
 
   -- the bytes of items in a section
   pub items_bytes : (labels : List SymbolData) (is : List ItemData) → draft_section_bytes_at (fold (draft_after_item labels) empty_draft is).parts s ≡ section_bytes s (statements_from labels empty_draft is)
@@ -267,7 +267,7 @@ module _ (s : ℕ) where
   items_bytes labels is =
       drafted-bytes labels (record { rule = 15; items = is } ∷ []) s ∙ ap (λ (l : List ItemData). section_bytes s (statements_from labels empty_draft l)) (append-nil is)
 
-  items_uses : (labels : List SymbolData) (before rest : List ItemData) → GoodItems labels (fold (draft_after_item labels) empty_draft before) rest → 15 ≤ items_rule labels (fold (draft_after_item labels) empty_draft before) rest
+  items_uses : (labels : List SymbolData) (before rest : List ItemData) → GoodItems labels (fold (draft_after_item labels) empty_draft before) rest → 15 ≤ rule_broken_by_items labels (fold (draft_after_item labels) empty_draft before) rest
       → uses_in (fold (draft_after_item labels) empty_draft before).parts s ≡ uses_from s 0 (statements_from labels empty_draft before)
       → uses_in (fold (draft_after_item labels) empty_draft (before ++ rest)).parts s ≡ uses_from s 0 (statements_from labels empty_draft (before ++ rest))
   items_uses labels before [] good rule h = ap (λ (l : List ItemData). uses_in (fold (draft_after_item labels) empty_draft l).parts s) (append-nil before) ∙ h ∙ ap (λ (l : List ItemData). uses_from s 0 (statements_from labels empty_draft l)) (sym (append-nil before))
@@ -275,21 +275,21 @@ module _ (s : ℕ) where
       let d : DraftData = fold (draft_after_item labels) empty_draft before in
       let next : List ItemData = before ++ i ∷ [] in
       let step : fold (draft_after_item labels) empty_draft next ≡ draft_after_item labels d i = fold-append (draft_after_item labels) empty_draft before (i ∷ []) in
-      let more : statements_from labels empty_draft next ≡ statements_from labels empty_draft before ++ statement_with_room d (statement_of_item labels d i)
-      = statements-append labels empty_draft before (i ∷ []) ∙ ap (λ (ts : List StatementData). statements_from labels empty_draft before ++ ts) (append-nil (statement_with_room d (statement_of_item labels d i))) in
+      let more : statements_from labels empty_draft next ≡ statements_from labels empty_draft before ++ statement_if_room d (statement_of_item labels d i)
+      = statements-append labels empty_draft before (i ∷ []) ∙ ap (λ (ts : List StatementData). statements_from labels empty_draft before ++ ts) (append-nil (statement_if_room d (statement_of_item labels d i))) in
       let size : length (draft_section_bytes_at d.parts s) ≡ 0 + length (section_bytes s (statements_from labels empty_draft before)) = omega (arith, ap length (items_bytes labels before)) in
       let here : uses_in (fold (draft_after_item labels) empty_draft next).parts s ≡ uses_from s 0 (statements_from labels empty_draft next)
       = ap (λ (e : DraftData). uses_in e.parts s) step
-      ∙ stepped_uses labels d i good.0 (fits (item_rule labels d i) (items_rule labels (draft_after_item labels d i) is) rule)
-      ∙ ap (λ (us : List UseData). us ++ uses_from s (length (draft_section_bytes_at d.parts s)) (statement_with_room d (statement_of_item labels d i))) h
-      ∙ ap (λ n. uses_from s 0 (statements_from labels empty_draft before) ++ uses_from s n (statement_with_room d (statement_of_item labels d i))) size
-      ∙ sym (uses-append 0 (statements_from labels empty_draft before) (statement_with_room d (statement_of_item labels d i)))
+      ∙ stepped_uses labels d i good.0 (fits (rule_broken_by_item labels d i) (rule_broken_by_items labels (draft_after_item labels d i) is) rule)
+      ∙ ap (λ (us : List UseData). us ++ uses_from s (length (draft_section_bytes_at d.parts s)) (statement_if_room d (statement_of_item labels d i))) h
+      ∙ ap (λ n. uses_from s 0 (statements_from labels empty_draft before) ++ uses_from s n (statement_if_room d (statement_of_item labels d i))) size
+      ∙ sym (uses-append 0 (statements_from labels empty_draft before) (statement_if_room d (statement_of_item labels d i)))
       ∙ ap (λ (ts : List StatementData). uses_from s 0 ts) (sym more) in
       let G : DraftData → Type 0 = λ e. GoodItems labels e is in
-      let R : DraftData → Type 0 = λ e. 15 ≤ items_rule labels e is in
+      let R : DraftData → Type 0 = λ e. 15 ≤ rule_broken_by_items labels e is in
       ap (λ (l : List ItemData). uses_in (fold (draft_after_item labels) empty_draft l).parts s) (sym (append_assoc before (i ∷ []) is))
-      ∙ items_uses labels next is (subst G (sym step) good.1) (subst R (sym step) (fits_too (item_rule labels d i) (items_rule labels (draft_after_item labels d i) is) rule)) here
+      ∙ items_uses labels next is (subst G (sym step) good.1) (subst R (sym step) (fits_too (rule_broken_by_item labels d i) (rule_broken_by_items labels (draft_after_item labels d i) is) rule)) here
       ∙ ap (λ (l : List ItemData). uses_from s 0 (statements_from labels empty_draft l)) (append_assoc before (i ∷ []) is)
 
-  pub all_uses : (labels : List SymbolData) (is : List ItemData) → GoodItems labels empty_draft is → 15 ≤ items_rule labels empty_draft is → uses_in (fold (draft_after_item labels) empty_draft is).parts s ≡ uses_from s 0 (statements_from labels empty_draft is)
+  pub all_uses : (labels : List SymbolData) (is : List ItemData) → GoodItems labels empty_draft is → 15 ≤ rule_broken_by_items labels empty_draft is → uses_in (fold (draft_after_item labels) empty_draft is).parts s ≡ uses_from s 0 (statements_from labels empty_draft is)
   all_uses labels is good rule = items_uses labels [] is good rule refl

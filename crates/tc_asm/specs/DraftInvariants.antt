@@ -38,8 +38,8 @@ IsLabelPlaceIfAny parts (Some p) = IsLabelPlace parts p
 
 -- the place of a symbol's label, if there is one, fits the fields of an object: a section below
 -- 2^16, an offset below 2^32
-abbrev pub IsSmallLabelPlace : Option Place → Type 0
-IsSmallLabelPlace o = IfSome o (λ p. (p.section < 2 ^ 16) × (p.offset < 2 ^ 32))
+abbrev pub LabelPlaceFitsObject : Option Place → Type 0
+LabelPlaceFitsObject o = IfSome o (λ p. (p.section < 2 ^ 16) × (p.offset < 2 ^ 32))
 
 -- uses of four bytes each, in order, of which none overlaps another: the first begins at `low` or
 -- later, and the last ends by `size`
@@ -60,7 +60,7 @@ pub record IsDraftSection (names : List (List ℕ)) (total : ℕ) (p : DraftSect
 
 -- the draft of lines that break no rule: distinct names, right counts, all within the limits of an
 -- object
-pub record IsDraft (d : DraftData) : Type 0 where
+pub record IsWellFormedDraft (d : DraftData) : Type 0 where
   pub few_parts : length d.parts ≤ 64
   pub few_symbols : length d.symbols < 2 ^ 16
   pub few_relocs : d.count < 2 ^ 16

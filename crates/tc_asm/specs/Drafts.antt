@@ -41,8 +41,8 @@ abbrev pub empty_draft : DraftData
 empty_draft = record { section = 64; parts = []; symbols = []; total = 0; count = 0 }
 
 -- the section with this name, these bytes, and these uses of symbols
-abbrev pub part : List ℕ → List ℕ → List UseData → DraftSectionData
-part name bs uses = record { name = name; bytes = bs; uses = uses }
+abbrev pub draft_section : List ℕ → List ℕ → List UseData → DraftSectionData
+draft_section name bs uses = record { name = name; bytes = bs; uses = uses }
 
 -- the offset of the draft's next byte in its current section, and 0 if there is none
 unfoldable pub next_byte_offset : DraftData → ℕ
@@ -77,7 +77,7 @@ unfoldable pub with_current_section : DraftData → List ℕ → DraftData
 with_current_section d name =
     if not (is_source_name name) then d
     else (if nat_lt (section_number d.parts name) (length d.parts) then record d { section = section_number d.parts name }
-    else (if nat_lt (length d.parts) 64 then record d { section = length d.parts; parts = d.parts ++ part name [] [] ∷ [] }
+    else (if nat_lt (length d.parts) 64 then record d { section = length d.parts; parts = d.parts ++ draft_section name [] [] ∷ [] }
     else d))
 
 -- the draft after `.global` with this name: the name's symbol is global; a bad name changes nothing
@@ -90,8 +90,8 @@ unfoldable pub with_section_bytes : List DraftSectionData → ℕ → List ℕ �
 with_section_bytes parts i bs = option_map_or (λ p. slice_set parts i (record p { bytes = p.bytes ++ bs })) (slice_get parts i) parts
 
 -- the draft after bytes are added at the end of its current section, if they are within the limit
-unfoldable pub with_bytes : DraftData → List ℕ → DraftData
-with_bytes d bs =
+unfoldable pub with_bytes_if_room : DraftData → List ℕ → DraftData
+with_bytes_if_room d bs =
     if has_current_section d && has_room d (length bs) then record d { parts = with_section_bytes d.parts d.section bs; total = d.total + length bs } else d
 
 -- the sections of a draft after a further use of a symbol in the one with this number
@@ -100,8 +100,8 @@ with_section_use parts i u = option_map_or (λ p. slice_set parts i (record p { 
 
 -- the draft of an object with a use of a symbol for a relocation, if its next bytes are four for
 -- which its section has room, and it has fewer than 65,535 relocations
-unfoldable pub with_use : DraftData → ℕ → ReferenceData → DraftData
-with_use d size r =
+unfoldable pub with_reloc_use : DraftData → ℕ → ReferenceData → DraftData
+with_reloc_use d size r =
     if has_current_section d && has_room d size && size == 4 && is_relocation_kind r.kind && nat_lt d.count 65535
     then record d { parts = with_section_use d.parts d.section (record { offset = next_byte_offset d; reference = r }); count = d.count + 1 }
     else d
@@ -110,7 +110,7 @@ with_use d size r =
 -- need a relocation, among its uses; a bad name changes nothing
 unfoldable pub with_reference : DraftData → ℕ → Option ReferenceData → DraftData
 with_reference d size None = d
-with_reference d size (Some r) = if is_source_name r.name then with_use (record d { symbols = with_name d.symbols r.name }) size r else d
+with_reference d size (Some r) = if is_source_name r.name then with_reloc_use (record d { symbols = with_name d.symbols r.name }) size r else d
 
 -- the draft of the first pass with the symbol of a reference, if there is one, in its table: a use
 -- by no bytes isn't noted
@@ -120,7 +120,7 @@ with_symbol_of_reference d r = with_reference d 0 r
 -- the draft after bytes are added at the end of its current section, with their symbol if they have
 -- one
 abbrev pub with_content : DraftData → List ℕ → Option ReferenceData → DraftData
-with_content d bs r = with_bytes (with_reference d (length bs) r) bs
+with_content d bs r = with_bytes_if_room (with_reference d (length bs) r) bs
 
 -- ---- instructions
 -- the distance from the current place of a draft to a symbol, and whether the symbol is before it;
@@ -136,19 +136,19 @@ label_distance labels d r =
     (place_in labels r.name) None
 
 -- these fields of an instruction, with no broken rule and no symbol noted
-abbrev pub unbroken_fields : Fields → RowFieldsData
-unbroken_fields f = record { fields = f; rule = no_rule; reference = None }
+abbrev pub bare_row_fields : Fields → RowFieldsData
+bare_row_fields f = record { fields = f; rule = no_rule; reference = None }
 
 -- the fields with which a draft spells its next instruction, and the least rule that the target
 -- breaks: the displacement is the distance from the draft's current place to the target
 unfoldable pub fields_with_label_distance : List SymbolData → DraftData → RowData → Fields → ReferenceData → RowFieldsData
-fields_with_label_distance labels d row f r = option_map_or (λ n. with_displacement row n.0 n.1 (unbroken_fields f)) (label_distance labels d r) (with_rule misplaced_symbol (unbroken_fields f))
+fields_with_label_distance labels d row f r = option_map_or (λ n. with_displacement row n.0 n.1 (bare_row_fields f)) (label_distance labels d r) (with_rule misplaced_symbol (bare_row_fields f))
 
 -- the fields with which a draft spells its next instruction, of this row: its target is resolved
 -- here, unless a relocation will fill it in
 abbrev pub fields_with_target : List SymbolData → DraftData → RowData → Fields → Option ReferenceData → RowFieldsData
-fields_with_target labels d row f None = unbroken_fields f
-fields_with_target labels d row f (Some r) = if r.kind == 0 then fields_with_label_distance labels d row f r else unbroken_fields f
+fields_with_target labels d row f None = bare_row_fields f
+fields_with_target labels d row f (Some r) = if r.kind == 0 then fields_with_label_distance labels d row f r else bare_row_fields f
 
 -- the bytes that the assembler's draft of an object gets from an instruction of this row: its
 -- spelling if the fields fit the row, else none
@@ -158,7 +158,7 @@ assembled_row_code row f = if decoded_fields_fit row f then spelling row f else 
 -- the fields with which a draft spells its next instruction, of the row with this number: its
 -- target is resolved here, unless a relocation will fill it in
 abbrev pub row_fields_with_target : List SymbolData → DraftData → ℕ → Fields → Option ReferenceData → RowFieldsData
-row_fields_with_target labels d k f r = option_map_or (λ row. fields_with_target labels d row f r) (slice_get table_rows k) (unbroken_fields f)
+row_fields_with_target labels d k f r = option_map_or (λ row. fields_with_target labels d row f r) (slice_get table_rows k) (bare_row_fields f)
 
 -- the bytes that a draft gets from an instruction: the spelling in the row with this number, and
 -- none if there is no such row
@@ -179,7 +179,7 @@ draft_after_item labels d (section name) = with_current_section d name
 draft_after_item labels d (global name) = with_global d name
 draft_after_item labels d (code k f r) = with_content d (code_bytes labels d k f r) r
 draft_after_item labels d (bytes bs r) = with_content d bs r
-draft_after_item labels d (zeros n) = with_bytes d (replicate n 0)
+draft_after_item labels d (zeros n) = with_bytes_if_room d (replicate n 0)
 
 -- ---- names and counts
 -- the names of sections

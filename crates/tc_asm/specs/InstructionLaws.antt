@@ -36,6 +36,6 @@ pub record IsAssembledInstruction (source : List ℕ) (before : List ItemData) (
   pub stands : slice_get (statements_in source) (length (statements_from (symbols_of_lines (lines_in source)) empty_draft before)) ≡ Some (statement_data section bytes o)
 
 -- each instruction among the items of a source that breaks no rule spells its row
-abbrev pub InstructionsLaw : Type 0
-InstructionsLaw = (source : List ℕ) (before after : List ItemData) (place : ℕ) (f : Fields) (o : Option ReferenceData) → AllLinesKeepRules (lines_in source)
+abbrev pub InstructionsSpellRows : Type 0
+InstructionsSpellRows = (source : List ℕ) (before after : List ItemData) (place : ℕ) (f : Fields) (o : Option ReferenceData) → AllLinesKeepRules (lines_in source)
     → items_in (lines_in source) ≡ before ++ code place f o ∷ after → IsAssembledInstruction source before place f o

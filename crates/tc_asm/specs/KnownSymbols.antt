@@ -4,29 +4,29 @@ use Rattle.tc_stmt.specs.SourceRules.{no_rule}
 use Rattle.tc_stmt.specs.Items.{ItemData, label}
 use Rattle.tc_asm.specs.Symbols.{SymbolData, place_in}
 use Rattle.tc_asm.specs.Drafts.{DraftData, draft_after_item}
-use Rattle.tc_asm.specs.Rules.{has_symbol_room, item_rule}
+use Rattle.tc_asm.specs.Rules.{has_symbol_room, rule_broken_by_item}
 
 -- a draft without its symbols, as the second pass keeps it if they are known
 abbrev pub without_symbols : DraftData → DraftData
 without_symbols d = record d { symbols = [] }
 
 -- the draft as the second pass keeps it: whole, or without its symbols if they are known
-abbrev pub kept : Bool → DraftData → DraftData
-kept known d = if known then without_symbols d else d
+abbrev pub without_symbols_if : Bool → DraftData → DraftData
+without_symbols_if known d = if known then without_symbols d else d
 
 -- the item defines no label that these symbols have; true of items of other kinds
-abbrev pub is_new : List SymbolData → ItemData → Bool
-is_new ss (label name) = not (is_some (place_in ss name))
-is_new ss i = true
+abbrev pub is_new_if_label : List SymbolData → ItemData → Bool
+is_new_if_label ss (label name) = not (is_some (place_in ss name))
+is_new_if_label ss i = true
 
 -- before each item there is room for one more symbol, and no item defines a label again: so the
 -- second pass knows all symbols
-abbrev pub are_new : List SymbolData → DraftData → List ItemData → Bool
-are_new labels d [] = true
-are_new labels d (i ∷ is) = (has_symbol_room d.symbols && is_new d.symbols i) && are_new labels (draft_after_item labels d i) is
+abbrev pub are_new_with_room : List SymbolData → DraftData → List ItemData → Bool
+are_new_with_room labels d [] = true
+are_new_with_room labels d (i ∷ is) = (has_symbol_room d.symbols && is_new_if_label d.symbols i) && are_new_with_room labels (draft_after_item labels d i) is
 
 -- the least rule that items break in the second pass over a source: if its symbols are known, each
 -- draft is kept without them
-abbrev pub second_pass_rule : Bool → List SymbolData → DraftData → List ItemData → ℕ
-second_pass_rule known labels d [] = no_rule
-second_pass_rule known labels d (i ∷ is) = min (item_rule labels (kept known d) i) (second_pass_rule known labels (draft_after_item labels d i) is)
+abbrev pub rule_broken_in_second_pass : Bool → List SymbolData → DraftData → List ItemData → ℕ
+rule_broken_in_second_pass known labels d [] = no_rule
+rule_broken_in_second_pass known labels d (i ∷ is) = min (rule_broken_by_item labels (without_symbols_if known d) i) (rule_broken_in_second_pass known labels (draft_after_item labels d i) is)

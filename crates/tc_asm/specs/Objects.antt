@@ -48,5 +48,5 @@ object_of_draft d = record { sections = map section_of d.parts; symbols = map sy
 
 -- the law of the object that a draft becomes: its sections are those that the source's statements
 -- make
-abbrev pub ObjectSectionsLaw : Type 0
-ObjectSectionsLaw = (source : List ℕ) → (object_of_draft (draft_in source)).sections ≡ sections_in source
+abbrev pub ObjectHasStatementSections : Type 0
+ObjectHasStatementSections = (source : List ℕ) → (object_of_draft (draft_in source)).sections ≡ sections_in source

@@ -33,6 +33,6 @@ pub record ReachesLabel (source : List ℕ) (index : ℕ) (t : StatementData) (r
 
 -- each statement of a source that breaks no rule, if its symbol takes no relocation, reaches the
 -- symbol's label
-abbrev pub ShortJumpsLaw : Type 0
-ShortJumpsLaw = (source : List ℕ) (index : ℕ) (t : StatementData) (r : ReferenceData) → AllLinesKeepRules (lines_in source) → slice_get (statements_in source) index ≡ Some t → t.reference ≡ Some r → r.kind ≡ 0
+abbrev pub ShortJumpsReachLabels : Type 0
+ShortJumpsReachLabels = (source : List ℕ) (index : ℕ) (t : StatementData) (r : ReferenceData) → AllLinesKeepRules (lines_in source) → slice_get (statements_in source) index ≡ Some t → t.reference ≡ Some r → r.kind ≡ 0
     → ReachesLabel source index t r

@@ -38,11 +38,11 @@ relocs_of_statements symbols ts section (name ∷ names) = section_relocs_of sym
 -- ---- laws
 
 -- the relocations of an object are those of the statements that wait for addresses
-abbrev pub RelocationsLaw : Type 0
-RelocationsLaw = (source : List ℕ) → AllLinesKeepRules (lines_in source)
+abbrev pub ObjectHasStatementRelocations : Type 0
+ObjectHasStatementRelocations = (source : List ℕ) → AllLinesKeepRules (lines_in source)
     → (object_of_draft (draft_in source)).relocs ≡ relocs_of_statements (symbols_in source) (statements_in source) 0 (section_names_in source)
 
 -- the fields that relocations fill are zero: writing zero there changes nothing
-abbrev pub ZeroFieldsLaw : Type 0
-ZeroFieldsLaw = (source : List ℕ) (index : ℕ) (t : StatementData) (r : ReferenceData) → slice_get (statements_in source) index ≡ Some t → t.reference ≡ Some r → is_relocation_kind r.kind ≡ true
+abbrev pub RelocatedFieldsAreZero : Type 0
+RelocatedFieldsAreZero = (source : List ℕ) (index : ℕ) (t : StatementData) (r : ReferenceData) → slice_get (statements_in source) index ≡ Some t → t.reference ≡ Some r → is_relocation_kind r.kind ≡ true
     → with_reloc_field r.kind t.bytes 0 ≡ t.bytes

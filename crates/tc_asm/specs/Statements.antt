@@ -31,14 +31,14 @@ statement_of_item labels d (zeros n) = Some (statement_data d.section (replicate
 
 -- a list of the statement, if the draft has a current section and room for its bytes, else an empty
 -- list
-abbrev pub statement_with_room : DraftData → Option StatementData → List StatementData
-statement_with_room d None = []
-statement_with_room d (Some t) = if has_current_section d && has_room d (length t.bytes) then t ∷ [] else []
+abbrev pub statement_if_room : DraftData → Option StatementData → List StatementData
+statement_if_room d None = []
+statement_if_room d (Some t) = if has_current_section d && has_room d (length t.bytes) then t ∷ [] else []
 
 -- the statements of these items after a draft, in order
 abbrev pub statements_from : List SymbolData → DraftData → List ItemData → List StatementData
 statements_from labels d [] = []
-statements_from labels d (i ∷ is) = statement_with_room d (statement_of_item labels d i) ++ statements_from labels (draft_after_item labels d i) is
+statements_from labels d (i ∷ is) = statement_if_room d (statement_of_item labels d i) ++ statements_from labels (draft_after_item labels d i) is
 
 -- the statements of a source with these symbols, in order
 abbrev pub statements_of_lines : List SymbolData → List LineData → List StatementData
@@ -53,13 +53,13 @@ abbrev pub statement_offset : List StatementData → ℕ → ℕ → ℕ
 statement_offset ts place s = length (section_bytes s (take place ts))
 
 -- each section of the draft of any lines is the bytes of its statements in order
-abbrev pub SectionLaw : Type 0
-SectionLaw = (labels : List SymbolData) (lines : List LineData) (s : ℕ) → draft_section_bytes_at (draft_from_lines labels lines).parts s ≡ section_bytes s (statements_of_lines labels lines)
+abbrev pub SectionsAreStatementBytes : Type 0
+SectionsAreStatementBytes = (labels : List SymbolData) (lines : List LineData) (s : ℕ) → draft_section_bytes_at (draft_from_lines labels lines).parts s ≡ section_bytes s (statements_of_lines labels lines)
 
 -- each statement of a source is found in its section: its bytes are there at its offset, the size
 -- of the section's statements before it
-abbrev pub OffsetLaw : Type 0
-OffsetLaw = (ts : List StatementData) (place : ℕ) (t : StatementData) → slice_get ts place ≡ Some t
+abbrev pub StatementBytesAreAtOffset : Type 0
+StatementBytesAreAtOffset = (ts : List StatementData) (place : ℕ) (t : StatementData) → slice_get ts place ≡ Some t
     → take (length t.bytes) (drop (statement_offset ts place t.section) (section_bytes t.section ts)) ≡ t.bytes
 
 -- the statements of a source that have bytes, in order

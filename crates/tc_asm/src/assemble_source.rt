@@ -2,14 +2,14 @@
 ghost use Rattle.std.specs.Prelude.{◌≡◌, ◌≤◌, ◌<◌, ◌^◌, ◌&&◌, if◌then◌else◌, All, true, map, length, IfOk, OnOk, IfErr, fold, take, drop, []};
 ghost use Rattle.tc_stmt.specs.Items.{item_of};
 ghost use Rattle.tc_stmt.specs.Lines.{lines_in, items_in};
-ghost use Rattle.tc_asm.specs.ItemInvariants.{IsAddedItem};
+ghost use Rattle.tc_asm.specs.ItemInvariants.{IsItemOfSomeLine};
 ghost use Rattle.tc_asm.specs.Drafts.{empty_draft, draft_after_item};
 ghost use Rattle.tc_asm.specs.DraftedSources.{draft_from_lines, draft_in, symbols_of_lines};
-ghost use Rattle.tc_asm.specs.Rules.{AllLinesKeepRules, IsFirstBrokenLine};
-ghost use Rattle.tc_asm.specs.KnownSymbols.{kept, are_new};
+ghost use Rattle.tc_asm.specs.Rules.{AllLinesKeepRules, IsFirstBadLine};
+ghost use Rattle.tc_asm.specs.KnownSymbols.{without_symbols_if, are_new_with_room};
 ghost use Rattle.tc_asm.specs.Objects.{object_of_draft};
 ghost use Rattle.tc_asm.specs.Errors.{IfBadLine};
-ghost use Rattle.tc_asm.specs.DraftInvariants.{IsDraft};
+ghost use Rattle.tc_asm.specs.DraftInvariants.{IsWellFormedDraft};
 ghost use Rattle.tc_stmt.specs.SourceViews.{source_lines};
 
 use crate::AsmErr;
@@ -27,7 +27,7 @@ pub fn assemble(alloc: Global, source: &[u8]) -> Result<Object, AsmErr>
     requires { length source.now ≤ 2 ^ 30 }
     ensures ok { IfOk result (λ o. o ≡ object_of_draft (draft_in source.now)) }
     ensures kept { OnOk result (AllLinesKeepRules (lines_in source.now)) }
-    ensures bad { IfErr result (IfBadLine (IsFirstBrokenLine (lines_in source.now))) }
+    ensures bad { IfErr result (IfBadLine (IsFirstBadLine (lines_in source.now))) }
 {
     let read = read_source(alloc, source)?;
     // The symbols of all items don't depend on the targets of jumps.
@@ -49,12 +49,12 @@ fn draft_of_lines<'a>(
     requires few { length source.now.lines.items < 2 ^ 32 }
     requires labels { labels.now ≡ symbols_of_lines (source_lines source.now) }
     requires known { known ≡ true
-        → are_new labels.now empty_draft (items_in (source_lines source.now)) ≡ true }
+        → are_new_with_room labels.now empty_draft (items_in (source_lines source.now)) ≡ true }
     ensures ok { IfOk result
-        (λ d. kept known d ≡ kept known (draft_from_lines labels.now (source_lines source.now))) }
+        (λ d. without_symbols_if known d ≡ without_symbols_if known (draft_from_lines labels.now (source_lines source.now))) }
     ensures rules { OnOk result (AllLinesKeepRules (source_lines source.now)) }
-    ensures whole { OnOk result (IsDraft (draft_from_lines labels.now (source_lines source.now))) }
-    ensures bad { IfErr result (IfBadLine (IsFirstBrokenLine (source_lines source.now))) }
+    ensures whole { OnOk result (IsWellFormedDraft (draft_from_lines labels.now (source_lines source.now))) }
+    ensures bad { IfErr result (IfBadLine (IsFirstBadLine (source_lines source.now))) }
 {
     let mut draft = Draft::new(alloc);
     let lines = source.lines.as_slice();
@@ -103,11 +103,11 @@ fn scan_items<'a>(
     draft: &mut Draft<'a>,
     items: &[Item<'a>],
 ) -> Result<bool, AllocError>
-    requires { All (λ i. IsAddedItem (item_of i)) items.now }
+    requires { All (λ i. IsItemOfSomeLine (item_of i)) items.now }
     ensures symbols { OnOk result
         (draft.new.symbols ≡ (fold (draft_after_item []) draft.old
         (map item_of items.now)).symbols) }
-    ensures new { IfOk result (λ new. new ≡ are_new [] draft.old (map item_of items.now)) }
+    ensures new { IfOk result (λ new. new ≡ are_new_with_room [] draft.old (map item_of items.now)) }
 {
     let none = Symbols::new(alloc);
     let mut all_new = true;

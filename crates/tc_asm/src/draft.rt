@@ -51,11 +51,11 @@ const NO_NUMBER: usize = 64;
 impl<'a> Draft<'a> {
     ghost use Rattle.std.specs.Prelude.{◌≡◌, [], OnOk, IfOk, Some, replicate};
     ghost use Rattle.tc_stmt.specs.Items.{reference_of, reference_if_any, item_of, label, code, bytes as data_item};
-    ghost use Rattle.tc_asm.specs.ItemInvariants.{IsAddedCode, IsAddedData, IsAddedItem, AddedSymbolIsNamed};
+    ghost use Rattle.tc_asm.specs.ItemInvariants.{IsCodeOfSomeLine, IsDataOfSomeLine, IsItemOfSomeLine, SymbolIsNamedIfAny};
     ghost use Rattle.tc_asm.specs.AlikeDrafts.{TracksSizesAndSymbols};
-    ghost use Rattle.tc_asm.specs.Drafts.{empty_draft, next_byte_offset, has_current_section, has_room, with_label, with_current_section, with_global, with_bytes, with_use, with_reference, with_symbol_of_reference, with_content, draft_after_item};
+    ghost use Rattle.tc_asm.specs.Drafts.{empty_draft, next_byte_offset, has_current_section, has_room, with_label, with_current_section, with_global, with_bytes_if_room, with_reloc_use, with_reference, with_symbol_of_reference, with_content, draft_after_item};
     ghost use Rattle.tc_asm.specs.Symbols.{with_name};
-    ghost use Rattle.tc_asm.specs.KnownSymbols.{is_new};
+    ghost use Rattle.tc_asm.specs.KnownSymbols.{is_new_if_label};
 
     /// An empty draft of an object: no section, no symbol.
     pub fn new(alloc: Global) -> Draft<'a>
@@ -98,9 +98,9 @@ impl<'a> Draft<'a> {
 
     /// Adds bytes at the end of the draft's current section, if they are within the limit.
     #[inline(always)]
-    #[tactic(auto, unfolding(crate::specs::Drafts::with_bytes))]
+    #[tactic(auto, unfolding(crate::specs::Drafts::with_bytes_if_room))]
     pub(crate) fn add_bytes_if_room(&mut self, bytes: &[u8]) -> Result<(), AllocError>
-        ensures { OnOk result (self.new ≡ with_bytes self.old bytes.now) }
+        ensures { OnOk result (self.new ≡ with_bytes_if_room self.old bytes.now) }
     {
         if self.has_current_section() && self.has_room(bytes.len()) {
             grow_section(&mut self.parts, self.section, bytes)?;
@@ -112,9 +112,9 @@ impl<'a> Draft<'a> {
     /// Notes a symbol's use by the draft's next `size` bytes, if a relocation is needed, `size` is
     /// 4, and there is room for both.
     #[inline(always)]
-    #[tactic(auto, unfolding(crate::specs::Drafts::with_use))]
+    #[tactic(auto, unfolding(crate::specs::Drafts::with_reloc_use))]
     pub(crate) fn add_reloc_use(&mut self, size: usize, r: Reference<'a>) -> Result<(), AllocError>
-        ensures { OnOk result (self.new ≡ with_use self.old size (reference_of r.entry)) }
+        ensures { OnOk result (self.new ≡ with_reloc_use self.old size (reference_of r.entry)) }
     {
         if self.has_current_section()
             && self.has_room(size)
@@ -182,9 +182,9 @@ impl<'a> Draft<'a> {
         item: &Item<'a>,
     ) -> Result<bool, AllocError>
         requires none { none.now ≡ [] }
-        requires added { IsAddedItem (item_of item.now) }
+        requires added { IsItemOfSomeLine (item_of item.now) }
         ensures alike { OnOk result (TracksSizesAndSymbols (item_of item.now) self.old self.new) }
-        ensures new { IfOk result (λ new. new ≡ is_new self.old.symbols (item_of item.now)) }
+        ensures new { IfOk result (λ new. new ≡ is_new_if_label self.old.symbols (item_of item.now)) }
     {
         match item {
             Item::Label(name) => return self.scan_label(*name),
@@ -238,7 +238,7 @@ impl<'a> Draft<'a> {
     #[tactic(auto, unfolding(crate::specs::Drafts::with_label))]
     fn add_label(&mut self, name: &'a [u8]) -> Result<bool, AllocError>
         ensures draft { OnOk result (self.new ≡ with_label self.old name.entry.now) }
-        ensures new { IfOk result (λ new. new ≡ is_new self.old.symbols (label name.entry.now)) }
+        ensures new { IfOk result (λ new. new ≡ is_new_if_label self.old.symbols (label name.entry.now)) }
     {
         if !is_source_name(name) {
             return Ok(self.symbols.place(name).is_none());
@@ -314,9 +314,9 @@ impl<'a> Draft<'a> {
     /// Adds `n` zeros at the end of the draft's current section, if they are within the limit. They
     /// are only counted.
     #[inline(always)]
-    #[tactic(auto, unfolding(crate::specs::Drafts::with_bytes))]
+    #[tactic(auto, unfolding(crate::specs::Drafts::with_bytes_if_room))]
     fn add_zeros_if_room(&mut self, n: usize) -> Result<(), AllocError>
-        ensures { OnOk result (self.new ≡ with_bytes self.old (replicate n 0)) }
+        ensures { OnOk result (self.new ≡ with_bytes_if_room self.old (replicate n 0)) }
     {
         if self.has_current_section() && self.has_room(n) {
             add_section_zeros(&mut self.parts, self.section, n)?;
@@ -329,7 +329,7 @@ impl<'a> Draft<'a> {
     fn scan_label(&mut self, name: &'a [u8]) -> Result<bool, AllocError>
         ensures alike { OnOk result
             (TracksSizesAndSymbols (label name.entry.now) self.old self.new) }
-        ensures new { IfOk result (λ new. new ≡ is_new self.old.symbols (label name.entry.now)) }
+        ensures new { IfOk result (λ new. new ≡ is_new_if_label self.old.symbols (label name.entry.now)) }
     {
         let new = self.add_label(name)?;
         Ok(new)
@@ -342,7 +342,7 @@ impl<'a> Draft<'a> {
         fields: &Fields,
         r: &Option<Reference<'a>>,
     ) -> Result<(), AllocError>
-        requires { IsAddedCode row fields.now (reference_if_any r.now) }
+        requires { IsCodeOfSomeLine row fields.now (reference_if_any r.now) }
         ensures { OnOk result (TracksSizesAndSymbols
             (code row fields.now (reference_if_any r.now)) self.old self.new) }
     {
@@ -353,7 +353,7 @@ impl<'a> Draft<'a> {
 
     /// Adds data to the first pass's draft as far as symbols depend on them.
     fn scan_data(&mut self, bytes: &[u8], r: &Option<Reference<'a>>) -> Result<(), AllocError>
-        requires { IsAddedData bytes.now (reference_if_any r.now) }
+        requires { IsDataOfSomeLine bytes.now (reference_if_any r.now) }
         ensures { OnOk result (TracksSizesAndSymbols
             (data_item bytes.now (reference_if_any r.now)) self.old self.new) }
     {
@@ -370,7 +370,7 @@ impl<'a> Draft<'a> {
         item: &Item<'a>,
     ) -> Result<(), AllocError>
         requires none { none.now ≡ [] }
-        requires added { IsAddedItem (item_of item.now) }
+        requires added { IsItemOfSomeLine (item_of item.now) }
         ensures { OnOk result (TracksSizesAndSymbols (item_of item.now) self.old self.new) }
     {
         self.add_item(alloc, none, item)?;
@@ -381,9 +381,9 @@ impl<'a> Draft<'a> {
     /// pass needs no more.
     #[inline(always)]
     fn add_zeros_for_bytes(&mut self, n: usize, r: &Option<Reference<'a>>) -> Result<(), AllocError>
-        requires { AddedSymbolIsNamed (reference_if_any r.now) }
+        requires { SymbolIsNamedIfAny (reference_if_any r.now) }
         ensures { OnOk result
-            (self.new ≡ with_bytes (with_symbol_of_reference self.old
+            (self.new ≡ with_bytes_if_room (with_symbol_of_reference self.old
             (reference_if_any r.now)) (replicate n 0)) }
     {
         self.add_symbol_of_reference(r)?;
@@ -395,7 +395,7 @@ impl<'a> Draft<'a> {
     #[inline(always)]
     #[tactic(auto, unfolding(crate::specs::Drafts::with_reference))]
     fn add_symbol_of_reference(&mut self, r: &Option<Reference<'a>>) -> Result<(), AllocError>
-        requires { AddedSymbolIsNamed (reference_if_any r.now) }
+        requires { SymbolIsNamedIfAny (reference_if_any r.now) }
         ensures { OnOk result
             (self.new ≡ with_symbol_of_reference self.old (reference_if_any r.now)) }
     {

@@ -2,7 +2,7 @@
 ghost use Rattle.std.specs.Prelude.{◌≡◌, take, if◌then◌else◌, ◌==◌, false, ◌<◌};
 ghost use Rattle.tc_isa.specs.Rows.{is_32_bit_row, row_of};
 ghost use Rattle.tc_stmt.specs.RowFields.{row_fields_of};
-ghost use Rattle.tc_asm.specs.Drafts.{assembled_code_size, assembled_code, unbroken_fields};
+ghost use Rattle.tc_asm.specs.Drafts.{assembled_code_size, assembled_code, bare_row_fields};
 ghost use Rattle.tc_stmt.specs.Items.{reference_of};
 
 use crate::draft::Draft;
@@ -51,7 +51,7 @@ pub(crate) fn assembled_code_size(row: u8) -> u8
 /// noted.
 #[inline(always)]
 fn bare_row_fields<'a>(fields: Fields) -> RowFields<'a>
-    ensures { row_fields_of result ≡ unbroken_fields fields }
+    ensures { row_fields_of result ≡ bare_row_fields fields }
 {
     RowFields {
         fields,

@@ -4,7 +4,7 @@ ghost use Rattle.tc_object.specs.Names.{object_name_of};
 ghost use Rattle.tc_asm.specs.DraftViews.{use_of, draft_section_of};
 ghost use Rattle.tc_asm.specs.Objects.{section_of, symbol_of, reloc_of, object_of_draft, relocs_of_all_sections};
 ghost use Rattle.tc_asm.specs.Symbols.{symbol};
-ghost use Rattle.tc_asm.specs.DraftInvariants.{IsDraft, IsSmallLabelPlace};
+ghost use Rattle.tc_asm.specs.DraftInvariants.{IsWellFormedDraft, LabelPlaceFitsObject};
 
 use crate::draft::Draft;
 use crate::sections::{Part, Use, section_len};
@@ -17,7 +17,7 @@ use tc_object::{
 /// The symbols of the object, in the order of the draft.
 pub(crate) fn emit_symbols(alloc: Global, known: &Symbols) -> Result<Vec<Symbol>, AllocError>
     requires names { All (λ s. is_some (object_name_of s.name) ≡ true) known.now }
-    requires small { All (λ s. IsSmallLabelPlace s.entry.place) known.now }
+    requires small { All (λ s. LabelPlaceFitsObject s.entry.place) known.now }
     ensures { IfOk result (λ v. v.items ≡ map symbol_of known.now) }
 {
     let mut out = Vec::new(alloc);
@@ -51,7 +51,7 @@ pub(crate) fn emit_section_relocs(
 /// Makes the object of a draft: its sections, its symbols, and one relocation for each use of a
 /// symbol.
 pub(crate) fn emit_object(alloc: Global, draft: Draft<'_>) -> Result<Object, AllocError>
-    requires { IsDraft draft }
+    requires { IsWellFormedDraft draft }
     ensures { IfOk result (λ o. o ≡ object_of_draft draft.entry) }
 {
     let sections = emit_sections(alloc, &draft.parts)?;
@@ -86,7 +86,7 @@ pub(crate) fn emit_relocs(
 /// A symbol of the draft as one of the object.
 fn emit_symbol(alloc: Global, name: &[u8], entry: Entry) -> Result<Symbol, AllocError>
     requires name { is_some (object_name_of name.now) ≡ true }
-    requires small { IsSmallLabelPlace entry.place }
+    requires small { LabelPlaceFitsObject entry.place }
     ensures { IfOk result (λ s. s ≡ symbol_of (symbol name.now entry)) }
 {
     let name = emit_name(alloc, name)?;

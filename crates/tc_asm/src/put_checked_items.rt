@@ -2,7 +2,7 @@
 ghost use Rattle.std.specs.Prelude.{◌≡◌, ◌<◌, map, min, IfOk, OnOk, fold};
 ghost use Rattle.tc_stmt.specs.Items.{reference_of, item_of};
 ghost use Rattle.tc_asm.specs.Drafts.{draft_after_item};
-ghost use Rattle.tc_asm.specs.KnownSymbols.{kept, second_pass_rule};
+ghost use Rattle.tc_asm.specs.KnownSymbols.{without_symbols_if, rule_broken_in_second_pass};
 
 use crate::draft::Draft;
 use crate::encode::{assembled_code, first_assembled_bytes};
@@ -15,9 +15,9 @@ use tc_stmt::{Item, NO_RULE, Reference, is_source_name, reference_to};
 impl<'a> Draft<'a> {
     ghost use Rattle.std.specs.Prelude.{length, None, Some, OnOk, IfOk};
     ghost use Rattle.tc_stmt.specs.Items.{reference_of, item_of, label, global, code};
-    ghost use Rattle.tc_asm.specs.Drafts.{draft_after_item, with_bytes, with_reference, with_content};
-    ghost use Rattle.tc_asm.specs.Rules.{content_rule, item_rule};
-    ghost use Rattle.tc_asm.specs.KnownSymbols.{without_symbols, kept};
+    ghost use Rattle.tc_asm.specs.Drafts.{draft_after_item, with_bytes_if_room, with_reference, with_content};
+    ghost use Rattle.tc_asm.specs.Rules.{rule_broken_by_content, rule_broken_by_item};
+    ghost use Rattle.tc_asm.specs.KnownSymbols.{without_symbols, without_symbols_if};
 
     /// Adds an item, and returns the least rule that it breaks, or no rule. `labels` are the
     /// symbols of the whole source. If they are `known`, the draft is kept without symbols.
@@ -28,10 +28,10 @@ impl<'a> Draft<'a> {
         known: bool,
         item: &Item<'a>,
     ) -> Result<u8, AllocError>
-        ensures draft { OnOk result (kept known self.new
-            ≡ kept known (draft_after_item labels.now self.old (item_of item.now))) }
+        ensures draft { OnOk result (without_symbols_if known self.new
+            ≡ without_symbols_if known (draft_after_item labels.now self.old (item_of item.now))) }
         ensures rule { IfOk result
-            (λ rule. rule ≡ item_rule labels.now (kept known self.old) (item_of item.now)) }
+            (λ rule. rule ≡ rule_broken_by_item labels.now (without_symbols_if known self.old) (item_of item.now)) }
     {
         if known {
             self.check_and_add_item_without_symbol(alloc, labels, item)
@@ -52,7 +52,7 @@ impl<'a> Draft<'a> {
             (without_symbols self.new ≡ without_symbols
             (draft_after_item labels.now self.old (item_of item.now))) }
         ensures rule { IfOk result
-            (λ rule. rule ≡ item_rule labels.now (without_symbols self.old) (item_of item.now)) }
+            (λ rule. rule ≡ rule_broken_by_item labels.now (without_symbols self.old) (item_of item.now)) }
     {
         match item {
             Item::Label(name) => Ok(self.rule_broken_by_known_label(labels, *name)),
@@ -75,7 +75,7 @@ impl<'a> Draft<'a> {
     /// Returns the least rule that a label breaks in a draft whose symbols are known, with room for
     /// all and none defined twice. Nothing is added.
     fn rule_broken_by_known_label(&self, labels: &Symbols<'a>, name: &[u8]) -> u8
-        ensures { result ≡ item_rule labels.now (without_symbols self.now) (label name.now) }
+        ensures { result ≡ rule_broken_by_item labels.now (without_symbols self.now) (label name.now) }
     {
         let section = NO_RULE.min(self.rule_broken_before_section());
         section.min(Self::rule_broken_by_name(name).min(NO_RULE))
@@ -84,7 +84,7 @@ impl<'a> Draft<'a> {
     /// Returns the least rule that a global name breaks in a draft whose symbols are known, with
     /// room for all. Nothing is added.
     fn rule_broken_by_known_global(&self, labels: &Symbols<'a>, name: &[u8]) -> u8
-        ensures { result ≡ item_rule labels.now (without_symbols self.now) (global name.now) }
+        ensures { result ≡ rule_broken_by_item labels.now (without_symbols self.now) (global name.now) }
     {
         let room = NO_RULE.min(Self::rule_broken_by_undefined_global(labels, name));
         Self::rule_broken_by_name(name).min(room)
@@ -101,7 +101,7 @@ impl<'a> Draft<'a> {
         ensures draft { OnOk result
             (self.new ≡ draft_after_item labels.now self.old (code row fields.now None)) }
         ensures rule { IfOk result
-            (λ rule. rule ≡ item_rule labels.now self.old (code row fields.now None)) }
+            (λ rule. rule ≡ rule_broken_by_item labels.now self.old (code row fields.now None)) }
     {
         let code = assembled_code(row, fields);
         let rule = self.check_and_add_bytes(first_assembled_bytes(&code.bytes, code.len))?;
@@ -111,7 +111,7 @@ impl<'a> Draft<'a> {
 
     // Adds an instruction with a known symbol, and returns the least rule that the instruction
     // breaks.
-    #[tactic(auto, unfolding(crate::specs::Rules::item_rule, crate::specs::Drafts::draft_after_item, crate::specs::Drafts::code_bytes))]
+    #[tactic(auto, unfolding(crate::specs::Rules::rule_broken_by_item, crate::specs::Drafts::draft_after_item, crate::specs::Drafts::code_bytes))]
     fn check_and_add_code_with_symbol(
         &mut self,
         labels: &Symbols<'a>,
@@ -122,7 +122,7 @@ impl<'a> Draft<'a> {
         ensures draft { OnOk result (without_symbols self.new ≡ without_symbols
             (draft_after_item labels.now self.old
             (code row fields.now (Some (reference_of r.entry))))) }
-        ensures rule { IfOk result (λ rule. rule ≡ item_rule labels.now (without_symbols self.old)
+        ensures rule { IfOk result (λ rule. rule ≡ rule_broken_by_item labels.now (without_symbols self.old)
             (code row fields.now (Some (reference_of r.entry)))) }
     {
         let found = self.resolve_instruction(labels, row, fields, &Some(r));
@@ -137,7 +137,7 @@ impl<'a> Draft<'a> {
     fn check_and_add_reference(&mut self, bytes: &[u8], r: Reference<'a>) -> Result<u8, AllocError>
         ensures draft { OnOk result (without_symbols self.new
             ≡ without_symbols (with_content self.old bytes.now (Some (reference_of r.entry)))) }
-        ensures rule { IfOk result (λ rule. rule ≡ content_rule (without_symbols self.old)
+        ensures rule { IfOk result (λ rule. rule ≡ rule_broken_by_content (without_symbols self.old)
             (length bytes.now) (Some (reference_of r.entry))) }
     {
         let room = self
@@ -160,7 +160,7 @@ impl<'a> Draft<'a> {
         ensures draft { OnOk result
             (self.new ≡ draft_after_item labels.now self.old (item_of item.now)) }
         ensures rule { IfOk result
-            (λ rule. rule ≡ item_rule labels.now self.old (item_of item.now)) }
+            (λ rule. rule ≡ rule_broken_by_item labels.now self.old (item_of item.now)) }
     {
         let rule = self.rule_broken_by_item(labels, item);
         self.add_item(alloc, labels, item)?;
@@ -169,11 +169,11 @@ impl<'a> Draft<'a> {
 
     // Adds bytes without a symbol, and returns the least rule that they break.
     #[inline(never)]
-    #[tactic(auto, unfolding(crate::specs::Drafts::with_bytes))]
+    #[tactic(auto, unfolding(crate::specs::Drafts::with_bytes_if_room))]
     fn check_and_add_bytes(&mut self, bytes: &[u8]) -> Result<u8, AllocError>
-        ensures draft { OnOk result (self.new ≡ with_bytes self.old bytes.now) }
+        ensures draft { OnOk result (self.new ≡ with_bytes_if_room self.old bytes.now) }
         ensures rule { IfOk result
-            (λ rule. rule ≡ content_rule self.old (length bytes.now) None) }
+            (λ rule. rule ≡ rule_broken_by_content self.old (length bytes.now) None) }
     {
         if self.has_current_section() && self.has_room(bytes.len()) {
             grow_section(&mut self.parts, self.section, bytes)?;
@@ -206,10 +206,10 @@ pub(crate) fn check_and_add_items<'a>(
     known: bool,
     items: &[Item<'a>],
 ) -> Result<u8, AllocError>
-    ensures draft { OnOk result (kept known draft.new
-        ≡ kept known (fold (draft_after_item labels.now) draft.old (map item_of items.now))) }
+    ensures draft { OnOk result (without_symbols_if known draft.new
+        ≡ without_symbols_if known (fold (draft_after_item labels.now) draft.old (map item_of items.now))) }
     ensures rule { IfOk result
-        (λ rule. rule ≡ second_pass_rule known labels.now draft.old (map item_of items.now)) }
+        (λ rule. rule ≡ rule_broken_in_second_pass known labels.now draft.old (map item_of items.now)) }
 {
     let mut rule = NO_RULE;
     for item in items {

@@ -25,12 +25,12 @@ pub(crate) fn is_relocation_kind(kind: u8) -> bool
 impl<'a> Draft<'a> {
     ghost use Rattle.tc_stmt.specs.Items.{reference_of, reference_if_any, item_of, code};
     ghost use Rattle.tc_asm.specs.Rules.{has_symbol_room};
-    ghost use Rattle.tc_asm.specs.Rules.{label_rule, section_rule, name_rule, section_limit_rule, symbol_limit_rule, reloc_limit_rule, byte_limit_rule, undefined_global_rule, reference_rule, content_rule, item_rule};
+    ghost use Rattle.tc_asm.specs.Rules.{rule_broken_by_label, rule_broken_before_section, rule_broken_by_name, rule_broken_by_section_count, rule_broken_by_symbol_count, rule_broken_by_reloc_count, rule_broken_by_byte_count, rule_broken_by_undefined_global, rule_broken_by_reference, rule_broken_by_content, rule_broken_by_item};
 
     /// Returns rule 8 if the draft has no current section, which labels, instructions and data
     /// need, else no rule.
     pub(crate) fn rule_broken_before_section(&self) -> u8
-        ensures { result ≡ section_rule self.now }
+        ensures { result ≡ rule_broken_before_section self.now }
     {
         if self.has_current_section() {
             NO_RULE
@@ -48,7 +48,7 @@ impl<'a> Draft<'a> {
 
     /// Returns rule 13 if a symbol of this name would be the draft's 65,536th, else no rule.
     pub(crate) fn rule_broken_by_symbol_count(&self, name: &[u8]) -> u8
-        ensures { result ≡ symbol_limit_rule self.now name.now }
+        ensures { result ≡ rule_broken_by_symbol_count self.now name.now }
     {
         if self.has_symbol_room() || self.symbols.get(name).is_some() {
             NO_RULE
@@ -60,7 +60,7 @@ impl<'a> Draft<'a> {
     /// Returns rule 13 if the relocation that this reference needs would be the draft's 65,536th,
     /// else no rule.
     pub(crate) fn rule_broken_by_reloc_count(&self, r: Reference<'a>) -> u8
-        ensures { result ≡ reloc_limit_rule self.now (reference_of r.entry) }
+        ensures { result ≡ rule_broken_by_reloc_count self.now (reference_of r.entry) }
     {
         if is_relocation_kind(r.kind) && self.count >= MOST_RELOCS {
             PAST_LIMITS
@@ -72,7 +72,7 @@ impl<'a> Draft<'a> {
     /// Returns rule 13 if `n` more bytes would exceed the 16,777,216 bytes of all sections of a
     /// draft, else no rule.
     pub(crate) fn rule_broken_by_byte_count(&self, n: usize) -> u8
-        ensures { result ≡ byte_limit_rule self.now n }
+        ensures { result ≡ rule_broken_by_byte_count self.now n }
     {
         if self.has_room(n) {
             NO_RULE
@@ -83,7 +83,7 @@ impl<'a> Draft<'a> {
 
     /// The least rule that `size` bytes and their symbol break.
     pub(crate) fn rule_broken_by_content(&self, size: usize, r: &Option<Reference<'a>>) -> u8
-        ensures { result ≡ content_rule self.now size (reference_if_any r.now) }
+        ensures { result ≡ rule_broken_by_content self.now size (reference_if_any r.now) }
     {
         let room = self.rule_broken_by_byte_count(size).min(self.rule_broken_by_reference(r));
         self.rule_broken_before_section().min(room)
@@ -91,7 +91,7 @@ impl<'a> Draft<'a> {
 
     /// Returns rule 9 if these bytes are no name that a source may use, else no rule.
     pub(crate) fn rule_broken_by_name(name: &[u8]) -> u8
-        ensures { result ≡ name_rule name.now }
+        ensures { result ≡ rule_broken_by_name name.now }
     {
         if is_source_name(name) {
             NO_RULE
@@ -102,7 +102,7 @@ impl<'a> Draft<'a> {
 
     /// Returns rule 14 if no label of the source defines this global name, else no rule.
     pub(crate) fn rule_broken_by_undefined_global(labels: &Symbols<'a>, name: &[u8]) -> u8
-        ensures { result ≡ undefined_global_rule labels.now name.now }
+        ensures { result ≡ rule_broken_by_undefined_global labels.now name.now }
     {
         if labels.place(name).is_some() {
             NO_RULE
@@ -113,9 +113,9 @@ impl<'a> Draft<'a> {
 
     /// The least rule that an item breaks after this draft, or no rule. `labels` are the symbols of
     /// the whole source.
-    #[tactic(auto, unfolding(crate::specs::Rules::item_rule))]
+    #[tactic(auto, unfolding(crate::specs::Rules::rule_broken_by_item))]
     pub(crate) fn rule_broken_by_item(&self, labels: &Symbols<'a>, item: &Item<'a>) -> u8
-        ensures { result ≡ item_rule labels.now self.now (item_of item.now) }
+        ensures { result ≡ rule_broken_by_item labels.now self.now (item_of item.now) }
     {
         match item {
             Item::Label(name) => {
@@ -149,7 +149,7 @@ impl<'a> Draft<'a> {
     // Returns rule 13 if the draft has no room for the symbol of a reference or for its relocation,
     // else no rule.
     fn rule_broken_by_reference(&self, r: &Option<Reference<'a>>) -> u8
-        ensures { result ≡ reference_rule self.now (reference_if_any r.now) }
+        ensures { result ≡ rule_broken_by_reference self.now (reference_if_any r.now) }
     {
         match r {
             None => NO_RULE,
@@ -161,7 +161,7 @@ impl<'a> Draft<'a> {
 
     // Returns rule 7 if the draft has a label of this name already, else no rule.
     fn rule_broken_by_label(&self, name: &[u8]) -> u8
-        ensures { result ≡ label_rule self.now name.now }
+        ensures { result ≡ rule_broken_by_label self.now name.now }
     {
         if self.symbols.place(name).is_some() {
             LABEL_TWICE
@@ -172,7 +172,7 @@ impl<'a> Draft<'a> {
 
     // Returns rule 13 if a section of this name would be the draft's 65th, else no rule.
     fn rule_broken_by_section_count(&self, name: &[u8]) -> u8
-        ensures { result ≡ section_limit_rule self.now name.now }
+        ensures { result ≡ rule_broken_by_section_count self.now name.now }
     {
         let known = section_number(&self.parts, name) < self.parts.len();
         if known || self.parts.len() < MOST_SECTIONS {
@@ -185,7 +185,7 @@ impl<'a> Draft<'a> {
     // The least rule that an instruction breaks after this draft, or no rule. `labels` are the
     // symbols of the whole source.
     #[inline(never)]
-    #[tactic(auto, unfolding(crate::specs::Rules::item_rule))]
+    #[tactic(auto, unfolding(crate::specs::Rules::rule_broken_by_item))]
     fn rule_broken_by_code(
         &self,
         labels: &Symbols<'a>,
@@ -194,7 +194,7 @@ impl<'a> Draft<'a> {
         r: &Option<Reference<'a>>,
     ) -> u8
         ensures { result
-            ≡ item_rule labels.now self.now (code row fields.now (reference_if_any r.now)) }
+            ≡ rule_broken_by_item labels.now self.now (code row fields.now (reference_if_any r.now)) }
     {
         let target = self.resolve_instruction(labels, row, fields, r).rule;
         let code = self.code_bytes(labels, row, fields, r);

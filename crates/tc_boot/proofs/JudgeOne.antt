@@ -7,7 +7,7 @@ use Rattle.tcd_plan.specs.PlanData.{PlanData}
 use Rattle.store_ranges.specs.Loads.{IsLoadedRom}
 use Rattle.tc_boot.specs.declared.judging.BootErr.{BootErr}
 use Rattle.tc_boot.specs.declared.judging.BootErr.TheVariants.{Enabled, Odd, Outside, Differs}
-use Rattle.tc_boot.specs.Judging.{HasBoot, IsBootInRom, IsFirstBootDifference, IsResultOfBootTest}
+use Rattle.tc_boot.specs.Judging.{HasBoot, IsBootInRom, IsFirstBootDifference, IsBootEventCountOrFirstFault}
 use Rattle.tc_boot.specs.Laws.{BootTestHasOneResult}
 
 module _ (image : ImageData) (plan : PlanData) (at : ℕ) where
@@ -24,7 +24,7 @@ module _ (image : ImageData) (plan : PlanData) (at : ℕ) where
   loaded inside = record { in_rom = inside.in_rom; held = λ i lt. subst IsSome (sym (inside.held i lt)) refl }
 
   -- the sequence is there, or there is a reason against it
-  pub not_both : (e : BootErr) → HasBoot image plan at → IsResultOfBootTest image plan at (Err e) → ⊥
+  pub not_both : (e : BootErr) → HasBoot image plan at → IsBootEventCountOrFirstFault image plan at (Err e) → ⊥
   not_both Enabled has bad = on_and_off bad has.off
   not_both Odd has bad = odd_and_even bad.1 has.even has.even_entry
   not_both Outside has bad = bad.1 (loaded has.bytes)
@@ -37,7 +37,7 @@ module _ (image : ImageData) (plan : PlanData) (at : ℕ) where
         | inr from ↦ elim (cases_lt j i) [ inl less ↦ absurd (b.differs (a.before j less)) | inr same ↦ omega arith ]
       ]
 
-  one_error : (e f : BootErr) → IsResultOfBootTest image plan at (Err e) → IsResultOfBootTest image plan at (Err f) → e ≡ f
+  one_error : (e f : BootErr) → IsBootEventCountOrFirstFault image plan at (Err e) → IsBootEventCountOrFirstFault image plan at (Err f) → e ≡ f
   one_error Enabled Enabled a b = refl
   one_error Enabled Odd a b = absurd (on_and_off a b.0)
   one_error Enabled Outside a b = absurd (on_and_off a (b.0).off)

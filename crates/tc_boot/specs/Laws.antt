@@ -12,7 +12,7 @@ use Rattle.tc_machine.specs.Machine.{IsMachine}
 use Rattle.tc_mem.specs.PlanMemory.{IsPlanMemory, HoldsRom}
 use Rattle.tc_boot.specs.declared.judging.BootErr.{BootErr}
 use Rattle.tc_boot.specs.Reset.{Reset, BootsToStart, BootsSafely}
-use Rattle.tc_boot.specs.Judging.{HasBoot, IsResultOfBootTest}
+use Rattle.tc_boot.specs.Judging.{HasBoot, IsBootEventCountOrFirstFault}
 use Rattle.tc_boot.specs.Sequence.{boot_events}
 
 -- The project's reading of a reset. A machine is at reset if it runs at the address with interrupts
@@ -46,7 +46,7 @@ EveryBootIsSafe =
 
 -- The test of a boot sequence has one answer.
 abbrev pub BootTestHasOneResult : Type 0
-BootTestHasOneResult = (image : ImageData) (plan : PlanData) (at : ℕ) (r s : Result ℕ BootErr) → IsResultOfBootTest image plan at r → IsResultOfBootTest image plan at s → r ≡ s
+BootTestHasOneResult = (image : ImageData) (plan : PlanData) (at : ℕ) (r s : Result ℕ BootErr) → IsBootEventCountOrFirstFault image plan at r → IsBootEventCountOrFirstFault image plan at s → r ≡ s
 
 -- If the image holds a boot sequence that may run, then it leads from every state at reset to a
 -- start state. The events are any list of fitting events with as many events as the sequence has.

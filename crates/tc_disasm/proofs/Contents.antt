@@ -10,10 +10,10 @@ use Rattle.std.proofs.lemmas.List.{take-append-drop}
 use Rattle.std.proofs.lemmas.Slice.Eq.{bytes_eq-Decides}
 use Rattle.elf_image.specs.Images.{SegmentData}
 use Rattle.tc_lex.specs.Numbers.{token_number}
-use Rattle.tc_stmt.specs.Lines.{LineData, line_data, line_in}
+use Rattle.tc_stmt.specs.Lines.{LineData, line_data, line_of_text}
 use Rattle.tc_asm.specs.Symbols.{SymbolData}
 use Rattle.tc_stmt.specs.Items.{section}
-use Rattle.tc_asm.specs.Drafts.{DraftSectionData, DraftData, part}
+use Rattle.tc_asm.specs.Drafts.{DraftSectionData, DraftData, draft_section}
 use Rattle.tc_disasm.specs.Listing.{listing_line_at, listing_lines_from, instruction_or_data_size, listing_section_line, section_text, listing_sections_from}
 use Rattle.tc_disasm.proofs.Appending.{lines-front}
 use Rattle.tc_disasm.proofs.Decimals.{number_of-decimal}
@@ -28,7 +28,7 @@ is_feed c = c == 10
 
 -- the lines of the text, each with its line feed, whatever follows
 pub record AreLines (text : List ℕ) (ls : List LineData) : Type 0 where
-  pub are : (rest : List ℕ) → map line_in (slice_split is_feed (text ++ rest)) ≡ ls ++ map line_in (slice_split is_feed rest)
+  pub are : (rest : List ℕ) → map line_of_text (slice_split is_feed (text ++ rest)) ≡ ls ++ map line_of_text (slice_split is_feed rest)
 
 no_lines : AreLines [] []
 no_lines = record { are = λ rest. refl }
@@ -36,19 +36,19 @@ no_lines = record { are = λ rest. refl }
 one_line : (text : List ℕ) (l : LineData) → IsLine text l → AreLines text (l ∷ [])
 one_line text l h = record {
   are = λ rest.
-      ap (λ t. map line_in (slice_split is_feed (t ++ rest))) h.whole
-      ∙ ap (λ t. map line_in (slice_split is_feed t)) (append_assoc h.body (10 ∷ []) rest)
-      ∙ ap (map line_in) (split_at is_feed h.body 10 rest h.reads.plain refl)
-      ∙ ap (λ x. x ∷ map line_in (slice_split is_feed rest)) h.reads.is;
+      ap (λ t. map line_of_text (slice_split is_feed (t ++ rest))) h.whole
+      ∙ ap (λ t. map line_of_text (slice_split is_feed t)) (append_assoc h.body (10 ∷ []) rest)
+      ∙ ap (map line_of_text) (split_at is_feed h.body 10 rest h.reads.plain refl)
+      ∙ ap (λ x. x ∷ map line_of_text (slice_split is_feed rest)) h.reads.is;
 }
 
 more_lines : (t u : List ℕ) (ls ms : List LineData) → AreLines t ls → AreLines u ms → AreLines (t ++ u) (ls ++ ms)
 more_lines t u ls ms a b = record {
   are = λ rest.
-      ap (λ x. map line_in (slice_split is_feed x)) (append_assoc t u rest)
+      ap (λ x. map line_of_text (slice_split is_feed x)) (append_assoc t u rest)
       ∙ a.are (u ++ rest)
       ∙ ap (λ x. ls ++ x) (b.are rest)
-      ∙ sym (append_assoc ls ms (map line_in (slice_split is_feed rest)));
+      ∙ sym (append_assoc ls ms (map line_of_text (slice_split is_feed rest)));
 }
 
 -- ---- the bytes of a segment
@@ -111,7 +111,7 @@ content (suc fuel) address (b ∷ bs) few small =
 
 -- ---- sections
 abbrev pub section_part : ℕ → SegmentData → DraftSectionData
-section_part n s = part (115 ∷ decimal n) s.bytes []
+section_part n s = draft_section (115 ∷ decimal n) s.bytes []
 
 -- the sections of these segments, numbered from here on
 abbrev pub parts_from : ℕ → List SegmentData → List DraftSectionData
@@ -126,7 +126,7 @@ abbrev pub AreBelow : ℕ → List DraftSectionData → Type 0
 AreBelow n [] = Unit {0}
 AreBelow n (p ∷ ps) = ((k : ℕ) × (k < n) × (p.name ≡ 115 ∷ decimal k)) × AreBelow n ps
 
-below-push : (n : ℕ) (ps : List DraftSectionData) (bs : List ℕ) → AreBelow n ps → AreBelow (n + 1) (ps ++ part (115 ∷ decimal n) bs [] ∷ [])
+below-push : (n : ℕ) (ps : List DraftSectionData) (bs : List ℕ) → AreBelow n ps → AreBelow (n + 1) (ps ++ draft_section (115 ∷ decimal n) bs [] ∷ [])
 below-push n [] bs e = ((n, omega arith, refl), tt)
 below-push n (p ∷ ps) bs e = let less : e.0.0 < n = e.0.1 in ((e.0.0, omega arith, e.0.2), below-push n ps bs e.1)
 

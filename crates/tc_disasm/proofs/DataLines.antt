@@ -10,11 +10,11 @@ use Rattle.tc_lex.specs.Cut.{has_hex_prefix}
 use Rattle.tc_lex.specs.Pieces.{kind_index, PieceData, is_token_kind}
 use Rattle.tcd_base.specs.Bytes.{four_bytes}
 use Rattle.tc_lex.specs.declared.operand.Shape.TheVariants as shape
-use Rattle.tc_lex.specs.Numbers.{token_number, add_digit}
-use Rattle.tc_lex.specs.Operands.{OperandData, operand, operands, value_with_shape, plain_operand, number_operand_value}
+use Rattle.tc_lex.specs.Numbers.{token_number, append_digit}
+use Rattle.tc_lex.specs.Operands.{OperandData, operand_of_tokens, operands_of_tokens, value_with_shape, plain_operand, number_operand_value}
 use Rattle.tc_stmt.specs.OperandForms.{shape_index}
 use Rattle.tc_stmt.specs.Items.{bytes, section}
-use Rattle.tc_stmt.specs.DataValues.{value_rule, value_item, values_rule}
+use Rattle.tc_stmt.specs.DataValues.{rule_broken_by_value, value_item, rule_broken_by_values}
 use Rattle.tc_stmt.specs.Lines.{line_data, tokens_line, statement_line, values_line, named_line, only_operand_name, is_unbracketed_name}
 use Rattle.tcd_text.specs.HexNumbers.{hex_byte}
 use Rattle.tc_disasm.specs.Tokens.{printed_token}
@@ -29,8 +29,8 @@ use Rattle.tc_disasm.proofs.RowLines.{pieces_line-word}
 
 -- a word and one operand of one token
 one_operand : (name : List ℕ) (p : PieceData) → (kind_index p.kind == 3) ≡ false → (kind_index p.kind == 2) ≡ false
-    → tokens_line (printed_token kind.Word name ∷ p ∷ []) ≡ statement_line name (operand (p ∷ []) ∷ [])
-unfolding operands is_token_kind kind_index
+    → tokens_line (printed_token kind.Word name ∷ p ∷ []) ≡ statement_line name (operand_of_tokens (p ∷ []) ∷ [])
+unfolding operands_of_tokens is_token_kind kind_index
 one_operand name p no_colon no_comma = pieces_line-word name (p ∷ []) no_colon ∙ ap (statement_line name) (rw no_comma refl)
 
 -- ---- data
@@ -45,21 +45,21 @@ front_byte a low = is_hex-digit (a / 16) (omega arith)
 half_number : (a b : ℕ) → a < 256 → b < 256 → token_number (48 ∷ 120 ∷ (hex_byte b ++ hex_byte a)) ≡ Some (b * 256 + a)
 unfolding token_number
 half_number a b low high =
-    ap (λ t. cond t (fold (add_digit 16) (Some 0) (hex_byte b ++ hex_byte a)) (fold (add_digit 10) (Some 0) (48 ∷ 120 ∷ (hex_byte b ++ hex_byte a)))) (front_half a b high)
+    ap (λ t. cond t (fold (append_digit 16) (Some 0) (hex_byte b ++ hex_byte a)) (fold (append_digit 10) (Some 0) (48 ∷ 120 ∷ (hex_byte b ++ hex_byte a)))) (front_half a b high)
     ∙ added-byte 0 b (hex_byte a) high (omega arith)
-    ∙ ap (λ n. fold (add_digit 16) (Some n) (hex_byte a)) (omega arith)
+    ∙ ap (λ n. fold (append_digit 16) (Some n) (hex_byte a)) (omega arith)
     ∙ last-byte b a low (omega arith)
 
 byte_number : (a : ℕ) → a < 256 → token_number (48 ∷ 120 ∷ hex_byte a) ≡ Some a
 unfolding token_number
 byte_number a low =
-    ap (λ t. cond t (fold (add_digit 16) (Some 0) (hex_byte a)) (fold (add_digit 10) (Some 0) (48 ∷ 120 ∷ hex_byte a))) (front_byte a low)
+    ap (λ t. cond t (fold (append_digit 16) (Some 0) (hex_byte a)) (fold (append_digit 10) (Some 0) (48 ∷ 120 ∷ hex_byte a))) (front_byte a low)
     ∙ last-byte 0 a low (omega arith)
     ∙ ap (λ n. Some n) (omega arith)
 
 -- a value that is a number which fits
 values_one : (width n : ℕ) → nat_lt n (2 ^ (8 * width)) ≡ true → values_line width (plain_operand (value_with_shape shape.Number [] false n) ∷ []) ≡ line_data 15 (bytes (take width (four_bytes n)) None ∷ [])
-unfolding values_line values_rule value_rule value_item shape_index
+unfolding values_line rule_broken_by_values rule_broken_by_value value_item shape_index
 values_one width n small = rw small refl
 
 half_bytes : (a b : ℕ) → a < 256 → b < 256 → take 2 (four_bytes (b * 256 + a)) ≡ a ∷ b ∷ []

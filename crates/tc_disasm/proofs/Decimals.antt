@@ -10,7 +10,7 @@ use Rattle.std.proofs.lemmas.List.Folds.{list_all-append}
 use Rattle.std.proofs.lemmas.Bool.Decides.{nat_tests}
 use Rattle.tc_lex.specs.Bytes.{is_digit, is_hex_digit}
 use Rattle.tc_lex.specs.Cut.{has_hex_prefix}
-use Rattle.tc_lex.specs.Numbers.{token_digit_value, add_digit, token_number, below_2_128}
+use Rattle.tc_lex.specs.Numbers.{token_digit_value, append_digit, token_number, below_2_128}
 
 is_digit-of : (n : ℕ) → n < 10 → is_digit (48 + n) ≡ true
 unfolding is_digit
@@ -24,13 +24,13 @@ pub bounded-small : (n : ℕ) → n < 2 ^ 64 → below_2_128 n ≡ Some n
 bounded-small n h = let small : nat_lt n (2 ^ 128) ≡ true = grind (arith, nat_tests) in ap (λ b. cond b (Some n) None) small
 
 -- a further digit
-added-digit : (m d n : ℕ) → d < 10 → m * 10 + d ≡ n → n < 2 ^ 64 → add_digit 10 (Some m) (48 + d) ≡ Some n
-unfolding add_digit
+added-digit : (m d n : ℕ) → d < 10 → m * 10 + d ≡ n → n < 2 ^ 64 → append_digit 10 (Some m) (48 + d) ≡ Some n
+unfolding append_digit
 added-digit m d n digit e small = ap (λ x. below_2_128 (m * 10 + x)) (digit_of-of d digit) ∙ ap below_2_128 e ∙ bounded-small n small
 
 -- the digits of a number
 pub record IsDigits (n : ℕ) (ds : List ℕ) : Type 0 where
-  pub value : n < 2 ^ 64 → fold (add_digit 10) (Some 0) ds ≡ Some n
+  pub value : n < 2 ^ 64 → fold (append_digit 10) (Some 0) ds ≡ Some n
   pub digits : list_all is_digit ds ≡ true
   pub some : 0 < length ds
 
@@ -46,9 +46,9 @@ more n ds h before =
     let digit : n % 10 < 10 = omega arith in
     record {
       value = λ small.
-          let front : fold (add_digit 10) (Some 0) ds ≡ Some (n / 10) = before.value (omega arith) in
-          fold_push (add_digit 10) (Some 0) ds (48 + n % 10)
-          ∙ ap (λ o. add_digit 10 o (48 + n % 10)) front
+          let front : fold (append_digit 10) (Some 0) ds ≡ Some (n / 10) = before.value (omega arith) in
+          fold_push (append_digit 10) (Some 0) ds (48 + n % 10)
+          ∙ ap (λ o. append_digit 10 o (48 + n % 10)) front
           ∙ added-digit (n / 10) (n % 10) n digit (omega arith) small;
       digits = list_all-append is_digit ds ((48 + n % 10) ∷ []) ∙ rw (before.digits, is_digit-of (n % 10) digit) refl;
       some = omega (arith, length-append ds ((48 + n % 10) ∷ []));
@@ -84,4 +84,4 @@ pub number_of-decimal : (n : ℕ) → n < 2 ^ 64 → token_number (decimal n) �
 unfolding token_number
 number_of-decimal n h =
     let digits = decimal_is n h in
-    ap (λ b. cond b (fold (add_digit 16) (Some 0) (drop 2 (decimal n))) (fold (add_digit 10) (Some 0) (decimal n))) (no_hex (decimal n) digits.digits) ∙ digits.value h
+    ap (λ b. cond b (fold (append_digit 16) (Some 0) (drop 2 (decimal n))) (fold (append_digit 10) (Some 0) (decimal n))) (no_hex (decimal n) digits.digits) ∙ digits.value h

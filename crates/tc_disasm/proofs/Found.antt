@@ -12,7 +12,7 @@ use Rattle.tc_stmt.specs.declared.want.Want.{Want}
 use Rattle.tc_stmt.specs.Wants.{wants_of}
 use Rattle.tc_lex.specs.Operands.{OperandData}
 use Rattle.tc_stmt.specs.RowFields.{RowFieldsData, zero_fields, with_rule}
-use Rattle.tc_stmt.specs.Filling.{fill, fill_operands, fields_of_row, note_equal_registers}
+use Rattle.tc_stmt.specs.Filling.{fill_operand, fill_operands, fields_of_row, note_equal_registers}
 use Rattle.tc_stmt.specs.StatementRow.{row_outcome}
 use Rattle.tc_disasm.specs.Refused.{AreRefusedOperands, StaysRefused}
 use Rattle.tc_disasm.specs.Printable.{ArePrintableFor}
@@ -30,7 +30,7 @@ stays-refused r [] [] acc h = h
 stays-refused r [] (o ∷ os) acc h = tt
 stays-refused r (v ∷ vs) [] acc h = tt
 stays-refused r (v ∷ vs) (o ∷ os) acc h =
-    then_refused (fill_operands r vs os) (fill r v o acc)
+    then_refused (fill_operands r vs os) (fill_operand r v o acc)
     (λ f e. let less : f.rule ≤ acc.rule = subst (StaysRefused acc) e (falls acc r v o).is in stays-refused r vs os f (omega (arith, less)))
 
 refused-all : (r : RowData) (ws vs : List Want) (os : List OperandData) (acc : RowFieldsData) → are_wants_refused_by ws vs ≡ true → ArePrintableFor ws os → AreRefusedOperands (fill_operands r vs os acc)
@@ -42,9 +42,9 @@ refused-all r (w ∷ ws) vs [] acc e p = absurd p
 refused-all r (w ∷ ws) [] (o ∷ os) acc e p = tt
 refused-all r (w ∷ ws) (v ∷ vs) (o ∷ os) acc e p = by_first (is_want_refused_by w v) refl e (λ d f. refused-all r ws vs os f d p.1)
   where
-    by_first : (b : Bool) → is_want_refused_by w v ≡ b → (b || are_wants_refused_by ws vs) ≡ true → (are_wants_refused_by ws vs ≡ true → (f : RowFieldsData) → AreRefusedOperands (fill_operands r vs os f)) → AreRefusedOperands (option_and_then (fill_operands r vs os) (fill r v o acc))
-    by_first true is d rest = then_refused (fill_operands r vs os) (fill r v o acc) (λ f at. stays-refused r vs os f (subst AreRefusedOperands at (refused-there r acc w v o is p.0)))
-    by_first false is d rest = then_refused (fill_operands r vs os) (fill r v o acc) (λ f at. rest d f)
+    by_first : (b : Bool) → is_want_refused_by w v ≡ b → (b || are_wants_refused_by ws vs) ≡ true → (are_wants_refused_by ws vs ≡ true → (f : RowFieldsData) → AreRefusedOperands (fill_operands r vs os f)) → AreRefusedOperands (option_and_then (fill_operands r vs os) (fill_operand r v o acc))
+    by_first true is d rest = then_refused (fill_operands r vs os) (fill_operand r v o acc) (λ f at. stays-refused r vs os f (subst AreRefusedOperands at (refused-there r acc w v o is p.0)))
+    by_first false is d rest = then_refused (fill_operands r vs os) (fill_operand r v o acc) (λ f at. rest d f)
 
 lower : (r : RowData) (f : RowFieldsData) → f.rule < 15 → (note_equal_registers r f).rule < 15
 lower r f h = by_test (are_registers_allowed r f.fields)

@@ -3,7 +3,7 @@ use Rattle.std.proofs.Common.{◌≡◌, ◌<◌, ◌%◌, ◌||◌, ℕ, Bool, 
 use Rattle.std.specs.Prelude.{fold}
 use Rattle.std.specs.List.{list_any}
 use Rattle.tc_isa.specs.declared.fields.Fields.{Fields}
-use Rattle.tc_isa.specs.InBounds.{AreFieldsSmall}
+use Rattle.tc_isa.specs.InBounds.{FieldsFitTheirBits}
 use Rattle.tc_stmt.specs.declared.want.Field.{Field}
 use Rattle.tc_stmt.specs.declared.want.Field.TheVariants.{C, S1, S2, N, K}
 use Rattle.tc_stmt.specs.declared.want.Want.{Want}
@@ -17,7 +17,7 @@ byte n h = omega arith
 two_bits : (n : ℕ) → n < 4 → n % 256 ≡ n
 two_bits n h = omega arith
 
-field_of-given : (x : Field) (f g : Fields) (w : Want) → AreFieldsSmall f → field_of x (with_fields_set_by_want f g w) ≡ cond (is_field_set_by_want x w) (field_of x f) (field_of x g)
+field_of-given : (x : Field) (f g : Fields) (w : Want) → FieldsFitTheirBits f → field_of x (with_fields_set_by_want f g w) ≡ cond (is_field_set_by_want x w) (field_of x f) (field_of x g)
 unfolding with_fields_set_by_want is_field_set_by_want set_field field_of
 field_of-given C f g (Reg p C) h = byte f.c h.c
 field_of-given C f g (Reg p S1) h = refl
@@ -101,7 +101,7 @@ joined true false x y = refl
 joined false c x y = refl
 
 -- a field that some want names is f's, and any other keeps its value
-pub field_of-fold : (x : Field) (f g : Fields) (ws : List Want) → AreFieldsSmall f → field_of x (fold (with_fields_set_by_want f) g ws) ≡ cond (list_any (is_field_set_by_want x) ws) (field_of x f) (field_of x g)
+pub field_of-fold : (x : Field) (f g : Fields) (ws : List Want) → FieldsFitTheirBits f → field_of x (fold (with_fields_set_by_want f) g ws) ≡ cond (list_any (is_field_set_by_want x) ws) (field_of x f) (field_of x g)
 field_of-fold x f g [] h = refl
 field_of-fold x f g (w ∷ ws) h =
     field_of-fold x f (with_fields_set_by_want f g w) ws h

@@ -17,9 +17,9 @@ use Rattle.tc_stmt.specs.Names.{is_source_name}
 use Rattle.tc_stmt.specs.Items.{section}
 use Rattle.tc_stmt.specs.Lines.{LineData, line_data}
 use Rattle.tc_asm.specs.Symbols.{SymbolData}
-use Rattle.tc_asm.specs.Drafts.{DraftSectionData, DraftData, part, has_current_section, has_room, section_number, with_current_section, with_section_bytes, with_bytes, draft_after_item}
+use Rattle.tc_asm.specs.Drafts.{DraftSectionData, DraftData, draft_section, has_current_section, has_room, section_number, with_current_section, with_section_bytes, with_bytes_if_room, draft_after_item}
 use Rattle.tc_asm.specs.DraftedSources.{draft_after_line}
-use Rattle.tc_asm.specs.Rules.{content_rule, item_rule, line_rule}
+use Rattle.tc_asm.specs.Rules.{rule_broken_by_content, rule_broken_by_item, rule_broken_by_line}
 use Rattle.tc_disasm.proofs.Decimals.{decimal_is}
 use Rattle.tc_disasm.proofs.Runs.{Runs, Adds}
 
@@ -29,7 +29,7 @@ draft number ps total = record { section = number; parts = ps; symbols = []; tot
 
 -- a draft whose last section is the current one
 abbrev pub growing : List DraftSectionData → List ℕ → List ℕ → ℕ → DraftData
-growing ps name bs total = draft (length ps) (ps ++ part name bs [] ∷ []) total
+growing ps name bs total = draft (length ps) (ps ++ draft_section name bs [] ∷ []) total
 
 slice_get-last : (ps : List DraftSectionData) (p : DraftSectionData) → slice_get (ps ++ p ∷ []) (length ps) ≡ Some p
 slice_get-last [] p = refl
@@ -47,27 +47,27 @@ room_for total n h = grind (arith, nat_tests)
 
 module _ (ps : List DraftSectionData) (name bs more : List ℕ) (total : ℕ) (room : total + length more ≤ 2 ^ 24) where
   fits_here : (has_current_section (growing ps name bs total) && has_room (growing ps name bs total) (length more)) ≡ true
-  fits_here = rw (has_last ps (part name bs []), room_for total (length more) room) refl
+  fits_here = rw (has_last ps (draft_section name bs []), room_for total (length more) room) refl
 
-  grown : with_bytes (growing ps name bs total) more ≡ growing ps name (bs ++ more) (total + length more)
-  unfolding with_bytes with_section_bytes
+  grown : with_bytes_if_room (growing ps name bs total) more ≡ growing ps name (bs ++ more) (total + length more)
+  unfolding with_bytes_if_room with_section_bytes
   grown =
       let d : DraftData = growing ps name bs total in
       let add : DraftSectionData → DraftSectionData = λ p. record p { bytes = p.bytes ++ more } in
       ap (λ b. cond b (record d { parts = option_map_or (λ p. slice_set d.parts d.section (add p)) (slice_get d.parts d.section) d.parts; total = d.total + length more }) d) fits_here
-      ∙ ap (λ o. draft (length ps) (option_map_or (λ p. slice_set d.parts d.section (add p)) o d.parts) (total + length more)) (slice_get-last ps (part name bs []))
-      ∙ ap (λ qs. draft (length ps) qs (total + length more)) (slice_set-last ps (part name bs []) (part name (bs ++ more) []))
+      ∙ ap (λ o. draft (length ps) (option_map_or (λ p. slice_set d.parts d.section (add p)) o d.parts) (total + length more)) (slice_get-last ps (draft_section name bs []))
+      ∙ ap (λ qs. draft (length ps) qs (total + length more)) (slice_set-last ps (draft_section name bs []) (draft_section name (bs ++ more) []))
 
-  no_rule : content_rule (growing ps name bs total) (length more) None ≡ 15
-  no_rule = rw (has_last ps (part name bs []), room_for total (length more) room) refl
+  no_rule : rule_broken_by_content (growing ps name bs total) (length more) None ≡ 15
+  no_rule = rw (has_last ps (draft_section name bs []), room_for total (length more) room) refl
 
   -- a line that adds bytes
   pub runs-adds : (labels : List SymbolData) (l : LineData) → Adds l more → Runs labels (growing ps name bs total) (l ∷ []) (growing ps name (bs ++ more) (total + length more))
-  unfolding draft_after_line line_rule
+  unfolding draft_after_line rule_broken_by_line
   runs-adds labels l a =
       let d : DraftData = growing ps name bs total in
       record {
-        keeps = (ap (line_rule labels d) a.only ∙ ap (λ n. min 15 (min n 15)) (a.rule labels d ∙ no_rule), tt);
+        keeps = (ap (rule_broken_by_line labels d) a.only ∙ ap (λ n. min 15 (min n 15)) (a.rule labels d ∙ no_rule), tt);
         makes = ap (draft_after_line labels d) a.only ∙ a.step labels d ∙ grown;
       }
 
@@ -93,7 +93,7 @@ module _ (name : List ℕ) where
 
   pub runs-section : (labels : List SymbolData) (number total : ℕ) (ps : List DraftSectionData) → is_source_name name ≡ true → is_fresh ps ≡ true → length ps < 64
       → Runs labels (draft number ps total) (line_data 15 (section name ∷ []) ∷ []) (growing ps name [] total)
-  unfolding draft_after_line line_rule draft_after_item item_rule with_current_section
+  unfolding draft_after_line rule_broken_by_line draft_after_item rule_broken_by_item with_current_section
   runs-section labels number total ps named fresh few =
       let d : DraftData = draft number ps total in
       let less : nat_lt (length ps) 64 ≡ true = grind (arith, nat_tests) in

@@ -11,7 +11,7 @@ use Rattle.tc_lex.specs.declared.kinds.TokenKind.TheVariants.{Word, Number}
 use Rattle.tc_lex.specs.declared.kinds.Front.TheVariants as front
 use Rattle.tcd_base.specs.NameBytes.{is_name_byte, is_name_start}
 use Rattle.tc_lex.specs.Bytes.{is_digit, is_hex_digit}
-use Rattle.tc_lex.specs.Cut.{token_front_of, token_front_by_byte, number_len, has_hex_prefix}
+use Rattle.tc_lex.specs.Cut.{first_token_of, first_token_by_byte, number_len, has_hex_prefix}
 use Rattle.tc_lex.specs.Pieces.{PieceData}
 use Rattle.tc_disasm.specs.Tokens.{printed_token}
 use Rattle.tc_disasm.specs.Lexed.{listing_tokens, listing_tokens_after, IsTokenEnd}
@@ -27,7 +27,7 @@ room_more : (room : ℕ) (o : Option (List PieceData)) → cond (suc room == 0) 
 room_more room o = rw (eqb-suc-zero room) refl
 
 -- a token at the front, and then the rest
-pub lexed-front : (kind : TokenKind) (c : ℕ) (cs rest : List ℕ) (room : ℕ) → token_front_of ((c ∷ cs) ++ rest) ≡ front.Token kind (length (c ∷ cs))
+pub lexed-front : (kind : TokenKind) (c : ℕ) (cs rest : List ℕ) (room : ℕ) → first_token_of ((c ∷ cs) ++ rest) ≡ front.Token kind (length (c ∷ cs))
     → listing_tokens ((c ∷ cs) ++ rest) (suc room) 0 ≡ option_map (λ ps. printed_token kind (c ∷ cs) ∷ ps) (listing_tokens rest room 0)
 unfolding listing_tokens
 lexed-front kind c cs rest room e =
@@ -71,8 +71,8 @@ other p c k holds fails =
     ]
 
 -- a word is read whole
-pub front_of-word : (c : ℕ) (cs rest : List ℕ) → is_name_start c ≡ true → list_all is_name_byte (c ∷ cs) ≡ true → IsTokenEnd rest → token_front_of ((c ∷ cs) ++ rest) ≡ front.Token Word (length (c ∷ cs))
-unfolding token_front_by_byte is_name_start
+pub front_of-word : (c : ℕ) (cs rest : List ℕ) → is_name_start c ≡ true → list_all is_name_byte (c ∷ cs) ≡ true → IsTokenEnd rest → first_token_of ((c ∷ cs) ++ rest) ≡ front.Token Word (length (c ∷ cs))
+unfolding first_token_by_byte is_name_start
 front_of-word c cs rest first names stop =
     let o = λ (k : ℕ) (no : is_name_start k ≡ false). other is_name_start c k first no in
     rw (o 35 refl, o 32 refl, o 9 refl, o 44 refl, o 58 refl, o 91 refl, o 93 refl, o 43 refl, o 45 refl, first)
@@ -104,8 +104,8 @@ number_len-front ds rest e some stop =
     ∙ prefix_len-front is_digit ds rest e (digits_stop rest stop)
 
 -- a decimal number is read whole
-pub front_of-digits : (c : ℕ) (cs rest : List ℕ) → list_all is_digit (c ∷ cs) ≡ true → IsTokenEnd rest → token_front_of ((c ∷ cs) ++ rest) ≡ front.Token Number (length (c ∷ cs))
-unfolding token_front_by_byte is_digit
+pub front_of-digits : (c : ℕ) (cs rest : List ℕ) → list_all is_digit (c ∷ cs) ≡ true → IsTokenEnd rest → first_token_of ((c ∷ cs) ++ rest) ≡ front.Token Number (length (c ∷ cs))
+unfolding first_token_by_byte is_digit
 front_of-digits c cs rest digits stop =
     let first : is_digit c ≡ true = (and_parts _ _ digits).0 in
     let o = λ (k : ℕ) (no : is_digit k ≡ false). other is_digit c k first no in

@@ -12,7 +12,7 @@ use Rattle.tc_stmt.specs.Wants.{wants_of}
 use Rattle.tc_lex.specs.Operands.{OperandData}
 use Rattle.tc_stmt.specs.RowFields.{RowFieldsData}
 use Rattle.tc_stmt.specs.Filling.{fields_of_row}
-use Rattle.tc_stmt.specs.StatementRow.{row_outcome, statement_outcome, found_row_or_next, empty_tally, statement}
+use Rattle.tc_stmt.specs.StatementRow.{row_outcome, statement_outcome, found_row_or_next, empty_tally, row_of_statement}
 use Rattle.tc_disasm.specs.Printable.{ArePrintableFor}
 use Rattle.tc_disasm.specs.RowsApart.{are_wants_refused_by, row_name_and_wants, RowNameAndWants, are_rows_distinguishable, are_all_rows_distinguishable}
 use Rattle.tc_disasm.proofs.Decimals.{some_is}
@@ -74,7 +74,7 @@ itself r os f is whole t =
 
 -- a statement of a row's name, with operands as that row prints them, is that row
 pub statement_is : (k : ℕ) (r : RowData) (os : List OperandData) (f : RowFieldsData) → slice_get table_rows k ≡ Some r → ArePrintableFor (wants_of r) os → fields_of_row r (wants_of r) os ≡ Some f → f.rule ≡ 15
-    → statement r.name os ≡ Ok (k, f)
+    → row_of_statement r.name os ≡ Ok (k, f)
 statement_is k r os f at p is whole =
     walks r.name os r f (itself r os f is whole) table_rows 0 k empty_tally at (λ j s h e. earlier r s os (apart_at table_rows j k s r rows_apart h e at) p)
     ∙ ap (λ n. Ok (n, f)) (omega arith)

@@ -8,8 +8,8 @@ use Rattle.std.proofs.lemmas.Bool.Decides.{nat_tests}
 use Rattle.tc_isa.specs.Rows.{RowData, table_rows}
 use Rattle.tc_isa.specs.declared.fields.Fields.{Fields}
 use Rattle.tc_isa.specs.Forms.{field_bounds, fields}
-use Rattle.tc_isa.specs.InBounds.{AreFieldsBelow, AreFieldsSmall}
-use Rattle.tc_isa.specs.ValidRowFields.{uses_of, are_unused_fields_zero, FieldsFitRow}
+use Rattle.tc_isa.specs.InBounds.{AreFieldsBelow, FieldsFitTheirBits}
+use Rattle.tc_isa.specs.ValidRowFields.{used_fields, are_unused_fields_zero, FieldsFitRow}
 use Rattle.tc_isa.specs.Insts.{InstData, IsInst, inst_fields}
 use Rattle.tc_isa.proofs.Shaped.{small}
 use Rattle.tc_lex.specs.declared.operand.Shape.TheVariants as shape
@@ -18,8 +18,8 @@ use Rattle.tc_stmt.specs.declared.want.Want.{Want}
 use Rattle.tc_stmt.specs.declared.want.Want.TheVariants.{Reg, A10, Number, Target, Absolute, Memory}
 use Rattle.tc_stmt.specs.Wants.{wants_of}
 use Rattle.tc_disasm.specs.GivenFields.{with_fields_set_by_want, fields_set_by_wants, is_field_set_by_want}
-use Rattle.tc_lex.specs.Operands.{operand, plain_operand, number_operand_value, sum_operand_value}
-use Rattle.tc_stmt.specs.StatementRow.{statement}
+use Rattle.tc_lex.specs.Operands.{operand_of_tokens, plain_operand, number_operand_value, sum_operand_value}
+use Rattle.tc_stmt.specs.StatementRow.{row_of_statement}
 use Rattle.tc_stmt.specs.RowFields.{zero_fields, with_rule, field_of}
 use Rattle.tc_stmt.specs.Filling.{fields_of_row, note_equal_registers}
 use Rattle.tc_disasm.specs.Texts.{register_text, is_printed_negative, printed_magnitude, absolute_text, absolute_operand_address}
@@ -38,18 +38,18 @@ use Rattle.tc_disasm.proofs.Suits.{suits, wants_suit}
 use Rattle.tc_disasm.proofs.Tables.{uses_are}
 
 -- ---- the fields come back
-uses_at : (rows : List RowData) (k : ℕ) (r : RowData) → map uses_of rows ≡ map (λ s. fields_set_by_wants (wants_of s)) rows → slice_get rows k ≡ Some r → uses_of r ≡ fields_set_by_wants (wants_of r)
+uses_at : (rows : List RowData) (k : ℕ) (r : RowData) → map used_fields rows ≡ map (λ s. fields_set_by_wants (wants_of s)) rows → slice_get rows k ≡ Some r → used_fields r ≡ fields_set_by_wants (wants_of r)
 uses_at [] k r e at = cc
 uses_at (x ∷ xs) zero r e at =
-    let here : uses_of x ≡ fields_set_by_wants (wants_of x) = cc in
-    ap uses_of (sym (some_is x r at)) ∙ here ∙ ap (λ s. fields_set_by_wants (wants_of s)) (some_is x r at)
-uses_at (x ∷ xs) (suc k) r e at = let more : map uses_of xs ≡ map (λ s. fields_set_by_wants (wants_of s)) xs = cc in uses_at xs k r more at
+    let here : used_fields x ≡ fields_set_by_wants (wants_of x) = cc in
+    ap used_fields (sym (some_is x r at)) ∙ here ∙ ap (λ s. fields_set_by_wants (wants_of s)) (some_is x r at)
+uses_at (x ∷ xs) (suc k) r e at = let more : map used_fields xs ≡ map (λ s. fields_set_by_wants (wants_of s)) xs = cc in uses_at xs k r more at
 
 zero_of : (b : Bool) (n : ℕ) → (b || n == 0) ≡ true → cond b n 0 ≡ n
 zero_of true n e = refl
 zero_of false n e = grind (arith, nat_tests)
 
-pub fields_back : (f : Fields) (ws : List Want) → AreFieldsSmall f → are_unused_fields_zero (fields_set_by_wants ws) f ≡ true → fold (with_fields_set_by_want f) (fields 0 0 0 0 0) ws ≡ f
+pub fields_back : (f : Fields) (ws : List Want) → FieldsFitTheirBits f → are_unused_fields_zero (fields_set_by_wants ws) f ≡ true → fold (with_fields_set_by_want f) (fields 0 0 0 0 0) ws ≡ f
 unfolding fields_set_by_wants field_of
 fields_back f ws small rest =
     let four = and_parts _ (list_any (is_field_set_by_want K) ws || f.k == 0) rest in
@@ -65,7 +65,7 @@ fields_back f ws small rest =
     ap (λ x. fields x g.s1 g.s2 g.n g.k) c ∙ ap (λ x. fields f.c x g.s2 g.n g.k) s1 ∙ ap (λ x. fields f.c f.s1 x g.n g.k) s2 ∙ ap (λ x. fields f.c f.s1 f.s2 x g.k) n ∙ ap (λ x. fields f.c f.s1 f.s2 f.n x) k
 
 -- ---- the text printed for each want
-printed_one : (r : RowData) (f : Fields) (w : Want) → suits r.form w ≡ true → AreFieldsBelow f (field_bounds r.form) → IsPrintableFor w (operand (operand_tokens r.form f w))
+printed_one : (r : RowData) (f : Fields) (w : Want) → suits r.form w ≡ true → AreFieldsBelow f (field_bounds r.form) → IsPrintableFor w (operand_of_tokens (operand_tokens r.form f w))
 unfolding suits operand_tokens
 printed_one r f (Reg bank field) s h =
     let below = field_of-below field f (field_bounds r.form) h in
@@ -89,16 +89,16 @@ printed_one r f Target s h =
 printed_one r f Absolute s h = unfold absolute_text in (absolute_operand_address r.form f, operand-one (absolute_text r.form f) ∙ ap (λ n. plain_operand (number_operand_value false n)) (number_of-hex (absolute_operand_address r.form f) (address-small r f)))
 printed_one r f (Memory plus true) s h =
     (f.s2, _, operand-offset plus (is_printed_negative true (field_bounds r.form).k f.k) f.s2 (printed_magnitude true (field_bounds r.form).k f.k))
-printed_one r f (Memory plus false) s h = (f.s2, _, ap operand (append-nil (base_register_tokens plus f.s2)) ∙ operand-base plus f.s2)
+printed_one r f (Memory plus false) s h = (f.s2, _, ap operand_of_tokens (append-nil (base_register_tokens plus f.s2)) ∙ operand-base plus f.s2)
 
-printed_all : (r : RowData) (f : Fields) (ws : List Want) → list_all (suits r.form) ws ≡ true → AreFieldsBelow f (field_bounds r.form) → ArePrintableFor ws (map (λ w. operand (operand_tokens r.form f w)) ws)
+printed_all : (r : RowData) (f : Fields) (ws : List Want) → list_all (suits r.form) ws ≡ true → AreFieldsBelow f (field_bounds r.form) → ArePrintableFor ws (map (λ w. operand_of_tokens (operand_tokens r.form f w)) ws)
 printed_all r f [] s h = tt
 printed_all r f (w ∷ ws) s h =
     let two = and_parts (suits r.form w) (list_all (suits r.form) ws) s in
     (printed_one r f w two.0 h, printed_all r f ws two.1 h)
 
 -- ---- the row itself
-judged-printed : (k : ℕ) (r : RowData) (f : Fields) → slice_get table_rows k ≡ Some r → FieldsFitRow r f → AreFieldsSmall f → fields_of_row r (wants_of r) (printed_operands r f) ≡ Some (record zero_fields { fields = f })
+judged-printed : (k : ℕ) (r : RowData) (f : Fields) → slice_get table_rows k ≡ Some r → FieldsFitRow r f → FieldsFitTheirBits f → fields_of_row r (wants_of r) (printed_operands r f) ≡ Some (record zero_fields { fields = f })
 unfolding fields_of_row
 judged-printed k r f at fits small =
     let rest : are_unused_fields_zero (fields_set_by_wants (wants_of r)) f ≡ true = ap (λ u. are_unused_fields_zero u f) (sym (uses_at table_rows k r uses_are at)) ∙ fits.zero in
@@ -107,7 +107,7 @@ judged-printed k r f at fits small =
     ∙ ap (λ b. Some (cond b (record zero_fields { fields = f }) (with_rule 12 (record zero_fields { fields = f })))) fits.apart
 
 -- the statement of an instruction's name and printed operands is the instruction
-pub statement-printed : (i : InstData) (is : IsInst i) → statement is.row.name (printed_operands is.row (inst_fields i)) ≡ Ok (i.row, record zero_fields { fields = inst_fields i })
+pub statement-printed : (i : InstData) (is : IsInst i) → row_of_statement is.row.name (printed_operands is.row (inst_fields i)) ≡ Ok (i.row, record zero_fields { fields = inst_fields i })
 statement-printed i is =
     statement_is i.row is.row (printed_operands is.row (inst_fields i)) (record zero_fields { fields = inst_fields i }) is.at
     (printed_all is.row (inst_fields i) (wants_of is.row) (wants_suit i.row is.row is.at) is.fits.below)

@@ -18,8 +18,8 @@ use Rattle.tc_stmt.specs.declared.want.Want.TheVariants.{Number, Target, Memory}
 use Rattle.tc_stmt.specs.Wants.{wants_of}
 use Rattle.tc_stmt.specs.RowFields.{field_of}
 use Rattle.tc_lex.specs.Pieces.{PieceData, is_token_kind, token_text, kind_index}
-use Rattle.tc_lex.specs.Operands.{OperandData, operand, operands, is_comma}
-use Rattle.tc_stmt.specs.StatementRow.{statement}
+use Rattle.tc_lex.specs.Operands.{OperandData, operand_of_tokens, operands_of_tokens, is_comma}
+use Rattle.tc_stmt.specs.StatementRow.{row_of_statement}
 use Rattle.tc_stmt.specs.Items.{code, label}
 use Rattle.tc_stmt.specs.Lines.{LineData, line_data, tokens_line, line_from, statement_line, code_line}
 use Rattle.tc_disasm.specs.Texts.{is_printed_negative, row_text, operands_text, instruction_text}
@@ -100,9 +100,9 @@ few-tokens r f (w ∷ ws) =
     omega (arith, length-append (operand_tokens r.form f w) (other_tokens r f ws))
 
 -- ---- operands are parted at the commas
-operands-some : (ps : List PieceData) → Begins ps → (more : List PieceData) → operands (ps ++ more) ≡ map operand (slice_split is_comma (ps ++ more))
-unfolding operands
-operands-some ps b more = subst (λ (qs : List PieceData). operands (qs ++ more) ≡ map operand (slice_split is_comma (qs ++ more))) (sym b.is) refl
+operands-some : (ps : List PieceData) → Begins ps → (more : List PieceData) → operands_of_tokens (ps ++ more) ≡ map operand_of_tokens (slice_split is_comma (ps ++ more))
+unfolding operands_of_tokens
+operands-some ps b more = subst (λ (qs : List PieceData). operands_of_tokens (qs ++ more) ≡ map operand_of_tokens (slice_split is_comma (qs ++ more))) (sym b.is) refl
 
 parts-are : (r : RowData) (f : Fields) (w : Want) (ws : List Want) → slice_split is_comma (operand_tokens r.form f w ++ other_tokens r f ws) ≡ map (λ v. operand_tokens r.form f v) (w ∷ ws)
 unfolding kind_index
@@ -111,16 +111,16 @@ parts-are r f w (v ∷ ws) =
     split_at is_comma (operand_tokens r.form f w) (printed_token kind.Comma (44 ∷ [])) (operand_tokens r.form f v ++ other_tokens r f ws) (inner-operand r.form f w).none refl
     ∙ ap (λ (parts : List (List PieceData)). operand_tokens r.form f w ∷ parts) (parts-are r f v ws)
 
-map-operand : (r : RowData) (f : Fields) (ws : List Want) → map operand (map (λ v. operand_tokens r.form f v) ws) ≡ map (λ v. operand (operand_tokens r.form f v)) ws
+map-operand : (r : RowData) (f : Fields) (ws : List Want) → map operand_of_tokens (map (λ v. operand_tokens r.form f v) ws) ≡ map (λ v. operand_of_tokens (operand_tokens r.form f v)) ws
 map-operand r f [] = refl
-map-operand r f (w ∷ ws) = ap (λ (os : List OperandData). operand (operand_tokens r.form f w) ∷ os) (map-operand r f ws)
+map-operand r f (w ∷ ws) = ap (λ (os : List OperandData). operand_of_tokens (operand_tokens r.form f w) ∷ os) (map-operand r f ws)
 
-pub operands-row : (r : RowData) (f : Fields) (ws : List Want) → operands (row_tokens r f ws) ≡ map (λ v. operand (operand_tokens r.form f v)) ws
-unfolding operands
+pub operands-row : (r : RowData) (f : Fields) (ws : List Want) → operands_of_tokens (row_tokens r f ws) ≡ map (λ v. operand_of_tokens (operand_tokens r.form f v)) ws
+unfolding operands_of_tokens
 operands-row r f [] = refl
 operands-row r f (w ∷ ws) =
     operands-some (operand_tokens r.form f w) (begins-operand r.form f w) (other_tokens r f ws)
-    ∙ ap (map operand) (parts-are r f w ws)
+    ∙ ap (map operand_of_tokens) (parts-are r f w ws)
     ∙ map-operand r f (w ∷ ws)
 
 -- ---- a line that begins with a word and no label
@@ -137,16 +137,16 @@ text_first : (name : List ℕ) (qs : List PieceData) → token_text (printed_tok
 unfolding token_text
 text_first name qs = refl
 
-pub pieces_line-word : (name : List ℕ) (qs : List PieceData) → is_token_kind qs 0 kind.Colon ≡ false → tokens_line (printed_token kind.Word name ∷ qs) ≡ statement_line name (operands qs)
+pub pieces_line-word : (name : List ℕ) (qs : List PieceData) → is_token_kind qs 0 kind.Colon ≡ false → tokens_line (printed_token kind.Word name ∷ qs) ≡ statement_line name (operands_of_tokens qs)
 unfolding tokens_line line_from
 pieces_line-word name qs e =
     let ps : List PieceData = printed_token kind.Word name ∷ qs in
     let labelled : LineData = line_data (line_from ps 2).rule (label (token_text ps 0) ∷ (line_from ps 2).items) in
     ap (λ b. cond (b && is_token_kind ps 1 kind.Colon) labelled (line_from ps 0)) (word_first name qs)
     ∙ ap (λ b. cond b labelled (line_from ps 0)) (no_label name qs e)
-    ∙ ap (λ b. cond b (line_data 15 []) (cond (is_token_kind ps 0 kind.Word) (statement_line (token_text ps 0) (operands qs)) (line_data 1 []))) (eqb-suc-zero (length qs))
-    ∙ ap (λ b. cond b (statement_line (token_text ps 0) (operands qs)) (line_data 1 [])) (word_first name qs)
-    ∙ ap (λ t. statement_line t (operands qs)) (text_first name qs)
+    ∙ ap (λ b. cond b (line_data 15 []) (cond (is_token_kind ps 0 kind.Word) (statement_line (token_text ps 0) (operands_of_tokens qs)) (line_data 1 []))) (eqb-suc-zero (length qs))
+    ∙ ap (λ b. cond b (statement_line (token_text ps 0) (operands_of_tokens qs)) (line_data 1 [])) (word_first name qs)
+    ∙ ap (λ t. statement_line t (operands_of_tokens qs)) (text_first name qs)
 
 no_colon : (r : RowData) (f : Fields) (ws : List Want) → is_token_kind (row_tokens r f ws) 0 kind.Colon ≡ false
 unfolding is_token_kind kind_index
@@ -190,6 +190,6 @@ reads-row i is rest stop h =
     let wants = name.few in
     reads-tokens (instruction_text i ++ rest) (printed_token kind.Word r.name ∷ row_tokens r f (wants_of r)) (line_data 15 (code i.row (inst_fields i) None ∷ [])) (lexes-row i is rest stop h) (omega arith)
     (pieces_line-word r.name (row_tokens r f (wants_of r)) (no_colon r f (wants_of r))
-    ∙ stated_line-other r.name (operands (row_tokens r f (wants_of r))) name.other
-    ∙ ap (λ os. code_line r.name (statement r.name os)) (operands-row r f (wants_of r))
+    ∙ stated_line-other r.name (operands_of_tokens (row_tokens r f (wants_of r))) name.other
+    ∙ ap (λ os. code_line r.name (row_of_statement r.name os)) (operands-row r f (wants_of r))
     ∙ ap (code_line r.name) (statement-printed i is))

@@ -11,7 +11,7 @@ use Rattle.tc_lex.specs.Texts.{is_run}
 use Rattle.tc_isa.specs.Rows.{RowData, table_rows}
 use Rattle.tc_stmt.specs.Wants.{wants_of, want_of}
 use Rattle.tc_lex.specs.Operands.{OperandData}
-use Rattle.tc_stmt.specs.StatementRow.{statement}
+use Rattle.tc_stmt.specs.StatementRow.{row_of_statement}
 use Rattle.tc_stmt.specs.Items.{section, global}
 use Rattle.tc_stmt.specs.Lines.{LineData, named_line, values_line, space_line, code_line, statement_line}
 use Rattle.tc_disasm.proofs.Decimals.{some_is}
@@ -63,8 +63,8 @@ none_of false false false true e g l m n o p q r h = cc
 none_of false false false false true g l m n o p q r h = cc
 none_of false false false false false true l m n o p q r h = cc
 
-pub stated_line-other : (name : List ℕ) (os : List OperandData) → is_directive name ≡ false → statement_line name os ≡ code_line name (statement name os)
+pub stated_line-other : (name : List ℕ) (os : List OperandData) → is_directive name ≡ false → statement_line name os ≡ code_line name (row_of_statement name os)
 unfolding statement_line
 stated_line-other name os e =
     none_of (bytes_eq name (codes ".section")) (bytes_eq name (codes ".global")) (bytes_eq name (codes ".byte")) (bytes_eq name (codes ".half")) (bytes_eq name (codes ".word")) (bytes_eq name (codes ".space"))
-    (named_line section os) (named_line global os) (values_line 1 os) (values_line 2 os) (values_line 4 os) (space_line os) (code_line name (statement name os)) e
+    (named_line section os) (named_line global os) (values_line 1 os) (values_line 2 os) (values_line 4 os) (space_line os) (code_line name (row_of_statement name os)) e

@@ -9,7 +9,7 @@ use Rattle.tc_lex.specs.declared.kinds.TokenKind.TheVariants as kind
 use Rattle.tc_lex.specs.declared.kinds.Front.TheVariants as front
 use Rattle.tcd_base.specs.NameBytes.{is_name_byte, is_name_start}
 use Rattle.tc_lex.specs.Bytes.{is_digit, is_hex_digit}
-use Rattle.tc_lex.specs.Cut.{token_front_of, token_front_by_byte, number_len, has_hex_prefix}
+use Rattle.tc_lex.specs.Cut.{first_token_of, first_token_by_byte, number_len, has_hex_prefix}
 use Rattle.tc_lex.specs.Pieces.{PieceData}
 use Rattle.tcd_text.specs.HexNumbers.{hex_byte, hex_word}
 use Rattle.tc_disasm.specs.Texts.{register_text}
@@ -78,8 +78,8 @@ hex_stops : (rest : List ℕ) → IsTokenEnd rest → prefix_len is_hex_digit re
 hex_stops [] h = refl
 hex_stops (c ∷ cs) h = rw (hex_is_named c h) refl
 
-front_of-hex : (hs rest : List ℕ) → list_all is_hex_digit hs ≡ true → 0 < length hs → IsTokenEnd rest → token_front_of (48 ∷ 120 ∷ (hs ++ rest)) ≡ front.Token kind.Number (length (48 ∷ 120 ∷ hs))
-unfolding token_front_by_byte is_name_start is_digit number_len has_hex_prefix
+front_of-hex : (hs rest : List ℕ) → list_all is_hex_digit hs ≡ true → 0 < length hs → IsTokenEnd rest → first_token_of (48 ∷ 120 ∷ (hs ++ rest)) ≡ front.Token kind.Number (length (48 ∷ 120 ∷ hs))
+unfolding first_token_by_byte is_name_start is_digit number_len has_hex_prefix
 front_of-hex [] rest hex some stop = absurd (omega arith)
 front_of-hex (x ∷ xs) rest hex some stop =
     let long : nat_lt 2 (length (48 ∷ 120 ∷ x ∷ (xs ++ rest))) ≡ true = grind (arith, nat_tests) in
@@ -123,21 +123,21 @@ hex_word-some x = omega arith
 
 -- ---- signs
 pub lexes-comma : (rest : List ℕ) (ps : List PieceData) → Lexes rest ps → Lexes (44 ∷ rest) (printed_token kind.Comma (44 ∷ []) ∷ ps)
-unfolding token_front_by_byte
+unfolding first_token_by_byte
 lexes-comma rest ps h = lexes-token kind.Comma 44 [] rest ps refl refl h
 
 pub lexes-open : (rest : List ℕ) (ps : List PieceData) → Lexes rest ps → Lexes (91 ∷ rest) (printed_token kind.Open (91 ∷ []) ∷ ps)
-unfolding token_front_by_byte
+unfolding first_token_by_byte
 lexes-open rest ps h = lexes-token kind.Open 91 [] rest ps refl refl h
 
 pub lexes-close : (rest : List ℕ) (ps : List PieceData) → Lexes rest ps → Lexes (93 ∷ rest) (printed_token kind.Close (93 ∷ []) ∷ ps)
-unfolding token_front_by_byte
+unfolding first_token_by_byte
 lexes-close rest ps h = lexes-token kind.Close 93 [] rest ps refl refl h
 
 pub lexes-plus : (rest : List ℕ) (ps : List PieceData) → Lexes rest ps → Lexes (43 ∷ rest) (printed_token kind.Plus (43 ∷ []) ∷ ps)
-unfolding token_front_by_byte
+unfolding first_token_by_byte
 lexes-plus rest ps h = lexes-token kind.Plus 43 [] rest ps refl refl h
 
 pub lexes-minus : (rest : List ℕ) (ps : List PieceData) → Lexes rest ps → Lexes (45 ∷ rest) (printed_token kind.Minus (45 ∷ []) ∷ ps)
-unfolding token_front_by_byte
+unfolding first_token_by_byte
 lexes-minus rest ps h = lexes-token kind.Minus 45 [] rest ps refl refl h

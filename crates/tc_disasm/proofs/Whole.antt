@@ -7,11 +7,11 @@ use Rattle.std.proofs.lemmas.List.Sorted.{All-permutation, length_permutation, s
 use Rattle.elf_image.specs.Images.{SegmentData, ImageData, IsImage}
 use Rattle.tc_object.specs.Objects.{SectionData, ObjectData}
 use Rattle.tc_lex.specs.Pieces.{is_token_kind}
-use Rattle.tc_stmt.specs.Lines.{LineData, line_data, line_in, lines_in, tokens_line, line_from}
+use Rattle.tc_stmt.specs.Lines.{LineData, line_data, line_of_text, lines_in, tokens_line, line_from}
 use Rattle.tc_asm.specs.Symbols.{SymbolData}
 use Rattle.tc_asm.specs.Drafts.{DraftData, empty_draft}
 use Rattle.tc_asm.specs.DraftedSources.{draft_from_lines, draft_after_line, symbols_of_lines}
-use Rattle.tc_asm.specs.Rules.{LinesKeepRules, IsFirstBrokenLine, line_rule}
+use Rattle.tc_asm.specs.Rules.{LinesKeepRules, IsFirstBadLine, rule_broken_by_line}
 use Rattle.tc_asm.specs.declared.errors.AsmErr.{AsmErr}
 use Rattle.tc_asm.specs.declared.errors.AsmErr.TheVariants.{Bad, NoMemory}
 use Rattle.tc_asm.specs.Errors.{IfBadLine}
@@ -52,12 +52,12 @@ holds-sections ss last total = record {
 }
 
 -- ---- the whole text
-empty_line : line_in [] ≡ line_data 15 []
+empty_line : line_of_text [] ≡ line_data 15 []
 unfolding tokens_line line_from is_token_kind
 empty_line = (reads-tokens [] [] (line_data 15 []) lexes-end (omega arith) refl).is
 
 runs-empty : (labels : List SymbolData) (d : DraftData) → Runs labels d (line_data 15 [] ∷ []) d
-unfolding draft_after_line line_rule
+unfolding draft_after_line rule_broken_by_line
 runs-empty labels d = record { keeps = (refl, tt); makes = refl }
 
 list_all-from : {X : Type 0} (P : X → Type 0) (p : X → Bool) → ((x : X) → P x → p x ≡ true) → (xs : List X) → All P xs → list_all p xs ≡ true
@@ -105,7 +105,7 @@ module _ (i : ImageData) (is : IsImage i) where
         subst (λ (xs : List LineData). LinesKeepRules xs (length xs)) (sym same)
         (λ k d less. keeps-at (symbols_of_lines (text.ls ++ (line_data 15 [] ∷ []))) empty_draft (text.ls ++ (line_data 15 [] ∷ [])) (runs (symbols_of_lines (text.ls ++ (line_data 15 [] ∷ [])))).1.keeps k d less)
 
-    never-breaks : (line rule : ℕ) → IsFirstBrokenLine ls line rule → ⊥
+    never-breaks : (line rule : ℕ) → IsFirstBadLine ls line rule → ⊥
     never-breaks line rule least = least.some (sym (least.broken (line_data 15 [])) ∙ keeps-lines least.place (line_data 15 []) least.within)
 
     holds-lines : HoldsSegments i.segments (object_of_draft (draft_from_lines (symbols_of_lines ls) ls))
@@ -143,7 +143,7 @@ module _ (i : ImageData) (back : ListingReadsBack i) (source : List ℕ) (is : s
       subst (HoldsSegments i.segments) (sym (e ∙ ap (λ xs. object_of_draft (draft_from_lines (symbols_of_lines (lines_in xs)) (lines_in xs))) is)) back.holds
   holds_of (Err x) e = e
 
-  pub never_of : (r : Result ObjectData AsmErr) → IfErr r (IfBadLine (IsFirstBrokenLine (lines_in source))) → IfErr r (λ e. e ≡ NoMemory)
+  pub never_of : (r : Result ObjectData AsmErr) → IfErr r (IfBadLine (IsFirstBadLine (lines_in source))) → IfErr r (λ e. e ≡ NoMemory)
   never_of (Ok o) h = h
-  never_of (Err (Bad line rule)) h = absurd (back.never line rule (subst (λ (xs : List ℕ). IsFirstBrokenLine (lines_in xs) line rule) is h))
+  never_of (Err (Bad line rule)) h = absurd (back.never line rule (subst (λ (xs : List ℕ). IsFirstBadLine (lines_in xs) line rule) is h))
   never_of (Err NoMemory) h = refl

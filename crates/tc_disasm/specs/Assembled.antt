@@ -7,7 +7,7 @@ use Rattle.tc_object.specs.Objects.{SectionData, ObjectData}
 use Rattle.tc_stmt.specs.Lines.{lines_in}
 use Rattle.tc_asm.specs.Objects.{object_of_draft}
 use Rattle.tc_asm.specs.DraftedSources.{symbols_of_lines, draft_from_lines}
-use Rattle.tc_asm.specs.Rules.{LinesKeepRules, IsFirstBrokenLine}
+use Rattle.tc_asm.specs.Rules.{LinesKeepRules, IsFirstBadLine}
 use Rattle.tc_disasm.specs.Listing.{listing_of}
 
 -- the name of a section in the object that a listing is assembled to, by its number: `s0`, `s1` and
@@ -31,10 +31,10 @@ pub record HoldsSegments (segments : List SegmentData) (o : ObjectData) : Type 0
 pub record ListingReadsBack (i : ImageData) : Type 0 where
   pub short : length (listing_of i) ≤ 2 ^ 30
   pub keeps : LinesKeepRules (lines_in (listing_of i)) (length (lines_in (listing_of i)))
-  pub never : (line rule : ℕ) → IsFirstBrokenLine (lines_in (listing_of i)) line rule → ⊥
+  pub never : (line rule : ℕ) → IsFirstBadLine (lines_in (listing_of i)) line rule → ⊥
   pub holds : HoldsSegments i.segments (object_of_draft (draft_from_lines (symbols_of_lines (lines_in (listing_of i))) (lines_in (listing_of i))))
 
 -- the listing of each image, when it is assembled, gives an object with the image's segments as its
 -- sections
-abbrev pub ListingLaw : Type 0
-ListingLaw = (i : ImageData) → IsImage i → ListingReadsBack i
+abbrev pub EveryListingReadsBack : Type 0
+EveryListingReadsBack = (i : ImageData) → IsImage i → ListingReadsBack i

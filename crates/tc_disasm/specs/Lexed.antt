@@ -2,7 +2,7 @@
 use Rattle.std.specs.Prelude.{◌≡◌, ℕ, zero, suc, ◌-◌, ◌==◌, false, if◌then◌else◌, List, ◌∷◌, take, Option, Some, None, option_map, []}
 use Rattle.tc_lex.specs.declared.kinds.Front.{Front}
 use Rattle.tc_lex.specs.declared.kinds.Front.TheVariants as front
-use Rattle.tc_lex.specs.Cut.{token_front_of}
+use Rattle.tc_lex.specs.Cut.{first_token_of}
 use Rattle.tc_lex.specs.Pieces.{PieceData, line_text_between as text_between}
 use Rattle.tc_disasm.specs.Tokens.{printed_token}
 use Rattle.tcd_base.specs.NameBytes.{is_name_byte}
@@ -19,7 +19,7 @@ listing_tokens_after (front.Token kind len) text room next = if room == 0 then N
 -- more, or the text is malformed
 unfoldable pub listing_tokens : List ℕ → ℕ → ℕ → Option (List PieceData)
 listing_tokens [] room skip = Some []
-listing_tokens (c ∷ cs) room zero = listing_tokens_after (token_front_of (c ∷ cs)) (c ∷ cs) room (listing_tokens cs)
+listing_tokens (c ∷ cs) room zero = listing_tokens_after (first_token_of (c ∷ cs)) (c ∷ cs) room (listing_tokens cs)
 listing_tokens (c ∷ cs) room (suc skip) = listing_tokens cs room skip
 
 -- a word or number of a listing can end before this rest: no byte is left, or the next is one that

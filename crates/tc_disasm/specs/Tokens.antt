@@ -10,7 +10,7 @@ use Rattle.tc_stmt.specs.declared.want.Want.{Want}
 use Rattle.tc_stmt.specs.declared.want.Want.TheVariants.{Reg, A10, Number, Target, Absolute, Memory}
 use Rattle.tc_isa.specs.Rows.{RowData}
 use Rattle.tc_stmt.specs.Wants.{wants_of}
-use Rattle.tc_lex.specs.Operands.{OperandData, operand}
+use Rattle.tc_lex.specs.Operands.{OperandData, operand_of_tokens}
 use Rattle.tc_lex.specs.Pieces.{PieceData}
 use Rattle.tc_stmt.specs.RowFields.{field_of}
 use Rattle.tc_disasm.specs.Texts.{register_text, is_printed_negative, printed_magnitude, absolute_text}
@@ -47,4 +47,4 @@ operand_tokens form f (Memory plus offset) = base_register_tokens plus f.s2 ++ (
 
 -- the printed operands of a row with these fields, as the operands that their tokens stand for
 abbrev pub printed_operands : RowData → Fields → List OperandData
-printed_operands r f = map (λ w. operand (operand_tokens r.form f w)) (wants_of r)
+printed_operands r f = map (λ w. operand_of_tokens (operand_tokens r.form f w)) (wants_of r)

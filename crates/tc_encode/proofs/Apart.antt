@@ -7,8 +7,8 @@ use Rattle.tc_isa.specs.declared.fields.Fields.{Fields}
 use Rattle.tc_isa.specs.declared.table.Form.{Form}
 use Rattle.tc_isa.specs.declared.table.Form.TheVariants.{Rlc, Rr, Rc, Bol, Bo, Brr, Brc, B, Abs, Sys, Sr, Sc, Sb, Sbr, Src, Srr, Slr, Ssr}
 use Rattle.tc_isa.specs.Rows.{RowData, table_rows, is_32_bit_row}
-use Rattle.tc_isa.specs.Forms.{second_code_by_form, form_index}
-use Rattle.tc_isa.specs.ValidRowFields.{FieldsFitRow, IsRow, have_clashing_codes, have_no_clashing_codes}
+use Rattle.tc_isa.specs.Forms.{second_opcode, form_index}
+use Rattle.tc_isa.specs.ValidRowFields.{FieldsFitRow, IsRow, have_clashing_opcodes, have_no_clashing_opcodes}
 use Rattle.tc_isa.specs.Spelling.{row_word, four_or_two_bytes, spelling}
 use Rattle.tc_encode.proofs.Inverse.{first-word, second-word}
 use Rattle.tc_isa.proofs.TableFacts.{row_at, rows_are_apart}
@@ -43,14 +43,14 @@ pub same_form : (f g : Form) → form_index f ≡ form_index g → f ≡ g
 same_form f g e = sym (form_back f) ∙ ap form_at e ∙ form_back g
 
 -- rows with one word have one first code, and another form or one second code
-pub clash_of : (r s : RowData) (f g : Fields) → IsRow r → IsRow s → FieldsFitRow r f → FieldsFitRow s g → row_word r f ≡ row_word s g → have_clashing_codes r s ≡ true
+pub clash_of : (r s : RowData) (f g : Fields) → IsRow r → IsRow s → FieldsFitRow r f → FieldsFitRow s g → row_word r f ≡ row_word s g → have_clashing_opcodes r s ≡ true
 clash_of r s f g row sow fits gits is =
     let first : r.op1 ≡ s.op1 = sym (first-word r.form r.op1 r.op2 f row.first row.second fits.below) ∙ ap (λ w. w % 256) is ∙ first-word s.form s.op1 s.op2 g sow.first sow.second gits.below in
     and_from _ _ (eq-eqb _ _ first) (elim (cases_Bool (form_index r.form == form_index s.form)) [
       | inr other ↦ or_left _ _ (not_from_false _ other)
       | inl same ↦
           let form : r.form ≡ s.form = same_form r.form s.form (eqb-true _ _ same) in
-          let second : r.op2 ≡ s.op2 = sym (second-word r.form r.op1 r.op2 f row.first row.second fits.below) ∙ ap (second_code_by_form r.form) is ∙ ap (λ x. second_code_by_form x (row_word s g)) form ∙ second-word s.form s.op1 s.op2 g sow.first sow.second gits.below in
+          let second : r.op2 ≡ s.op2 = sym (second-word r.form r.op1 r.op2 f row.first row.second fits.below) ∙ ap (second_opcode r.form) is ∙ ap (λ x. second_opcode x (row_word s g)) form ∙ second-word s.form s.op1 s.op2 g sow.first sow.second gits.below in
           or_right _ _ (eq-eqb _ _ second)
     ])
 
@@ -60,12 +60,12 @@ any_false t [] q x none at = cc
 any_false t (y ∷ ys) zero x none at = let e : y ≡ x = cc in subst (λ z. t z ≡ false) e (or_parts _ _ none).0
 any_false t (y ∷ ys) (suc q) x none at = any_false t ys q x (or_parts _ _ none).1 at
 
-later : (rs : List RowData) (p q : ℕ) (r s : RowData) → have_no_clashing_codes rs ≡ true → slice_get rs p ≡ Some r → slice_get rs q ≡ Some s → p < q → have_clashing_codes r s ≡ false
+later : (rs : List RowData) (p q : ℕ) (r s : RowData) → have_no_clashing_opcodes rs ≡ true → slice_get rs p ≡ Some r → slice_get rs q ≡ Some s → p < q → have_clashing_opcodes r s ≡ false
 later [] p q r s none at to lt = cc
 later (x ∷ xs) zero zero r s none at to lt = absurd (omega arith)
 later (x ∷ xs) zero (suc q) r s none at to lt =
     let e : x ≡ r = cc in
-    subst (λ z. have_clashing_codes z s ≡ false) e (any_false (have_clashing_codes x) xs q s (not-true _ (and_parts _ _ none).0) to)
+    subst (λ z. have_clashing_opcodes z s ≡ false) e (any_false (have_clashing_opcodes x) xs q s (not-true _ (and_parts _ _ none).0) to)
 later (x ∷ xs) (suc p) zero r s none at to lt = absurd (omega arith)
 later (x ∷ xs) (suc p) (suc q) r s none at to lt = later xs p q r s (and_parts _ _ none).1 at to (omega arith)
 

@@ -3,18 +3,18 @@ use Rattle.std.proofs.Common.{◌≡◌, ◌^◌, ◌<◌, ℕ, false, arith}
 use Rattle.tc_isa.specs.declared.fields.Fields.{Fields}
 use Rattle.tc_isa.specs.declared.table.Form.{Form}
 use Rattle.tc_isa.specs.declared.table.Form.TheVariants.{Rlc, Sr, Sc, Sb, Sbr, Src, Srr, Slr, Ssr}
-use Rattle.tc_isa.specs.Forms.{field_bounds, second_code_bound, is_32_bit_form}
-use Rattle.tc_isa.specs.Spelling.{word_by_form}
+use Rattle.tc_isa.specs.Forms.{field_bounds, second_opcode_bound, is_32_bit_form}
+use Rattle.tc_isa.specs.Spelling.{word_of_fields}
 use Rattle.tc_isa.specs.InBounds.{AreFieldsBelow}
 
 -- a word of 32 bits, and one of 16
-pub word-lt : (form : Form) (op1 op2 : ℕ) (f : Fields) → op1 < 256 → op2 < second_code_bound form → AreFieldsBelow f (field_bounds form) → word_by_form form op1 op2 f < 2 ^ 32
-unfolding word_by_form field_bounds second_code_bound
+pub word-lt : (form : Form) (op1 op2 : ℕ) (f : Fields) → op1 < 256 → op2 < second_opcode_bound form → AreFieldsBelow f (field_bounds form) → word_of_fields form op1 op2 f < 2 ^ 32
+unfolding word_of_fields field_bounds second_opcode_bound
 word-lt Rlc op1 op2 f first second below = omega arith
 word-lt _ op1 op2 f first second below = omega arith
 
-pub short-lt : (form : Form) (op1 op2 : ℕ) (f : Fields) → op1 < 256 → op2 < second_code_bound form → AreFieldsBelow f (field_bounds form) → is_32_bit_form form ≡ false → word_by_form form op1 op2 f < 2 ^ 16
-unfolding word_by_form field_bounds second_code_bound is_32_bit_form
+pub short-lt : (form : Form) (op1 op2 : ℕ) (f : Fields) → op1 < 256 → op2 < second_opcode_bound form → AreFieldsBelow f (field_bounds form) → is_32_bit_form form ≡ false → word_of_fields form op1 op2 f < 2 ^ 16
+unfolding word_of_fields field_bounds second_opcode_bound is_32_bit_form
 short-lt Sr op1 op2 f first second below short = omega arith
 short-lt Sc op1 op2 f first second below short = omega arith
 short-lt Sb op1 op2 f first second below short = omega arith

@@ -4,9 +4,9 @@ use Rattle.std.proofs.lemmas.Bool.{eqb-true, and_from, and_parts}
 use Rattle.tc_isa.specs.Rows.{RowData}
 use Rattle.tc_isa.specs.declared.fields.Fields.{Fields}
 use Rattle.tc_isa.specs.declared.fields.Uses.{Uses}
-use Rattle.tc_isa.specs.Forms.{word_fields}
+use Rattle.tc_isa.specs.Forms.{fields_of_word}
 use Rattle.tc_encode.specs.WordSearch.{with_low_bytes, power_of_256}
-use Rattle.tc_isa.specs.ValidRowFields.{FieldsFitRow, IsRow, uses_of, are_unused_fields_zero, are_registers_allowed, least_fields}
+use Rattle.tc_isa.specs.ValidRowFields.{FieldsFitRow, IsRow, used_fields, are_unused_fields_zero, are_registers_allowed, least_fields}
 use Rattle.tc_isa.specs.Spelling.{row_word}
 use Rattle.tc_encode.proofs.Mixed.{Mixed, mixed1, mixed2, mixed3}
 
@@ -38,8 +38,8 @@ apart_of r f g x (inr e) p q = apart_as r f x e.0 e.1 p
 pub completed : (r : RowData) (n : ℕ) (f : Fields) → IsRow r → FieldsFitRow r f → 1 ≤ n → n ≤ 3 → (x : Fields) × FieldsFitRow r x × (row_word r x ≡ with_low_bytes n (row_word r f) (row_word r (least_fields r)))
 completed r n f row fits low high =
     let m = mixed r n f row fits low high in
-    let x = word_fields r.form (with_low_bytes n (row_word r f) (row_word r (least_fields r))) in
-    (x, record { below = m.below; zero = zero_of (uses_of r) f (least_fields r) x fits.zero row.has_least.zero m.c m.s1 m.s2 m.n m.k; apart = apart_of r f (least_fields r) x m.registers fits.apart row.has_least.apart }, m.is)
+    let x = fields_of_word r.form (with_low_bytes n (row_word r f) (row_word r (least_fields r))) in
+    (x, record { below = m.below; zero = zero_of (used_fields r) f (least_fields r) x fits.zero row.has_least.zero m.c m.s1 m.s2 m.n m.k; apart = apart_of r f (least_fields r) x m.registers fits.apart row.has_least.apart }, m.is)
 
 pub same_mix : (n a b part rest s : ℕ) → a % power_of_256 n ≡ part → rest ≡ b → s ≡ power_of_256 n → with_low_bytes n a b ≡ part + rest / s * s
 same_mix n a b part rest s low same is = rw (same, is, low) refl

@@ -8,7 +8,7 @@ use Rattle.tc_isa.specs.Rows.{RowData, table_rows, is_32_bit_row}
 use Rattle.tc_isa.specs.Insts.{InstData, inst_fields}
 use Rattle.tc_isa.specs.ValidRowFields.{least_fields}
 use Rattle.tc_isa.specs.Spelling.{row_word, spelling, Spells}
-use Rattle.tc_encode.specs.Decoding.{BeginsWith, IsInstPrefix, decoded_row_length, is_prefix_of_row, leading_fields, instruction_at_row, first_row_match, decode_result, decoded_of}
+use Rattle.tc_encode.specs.Decoding.{BeginsWith, IsInstPrefix, row_instruction_length, is_prefix_of_row, leading_fields, instruction_at_row, first_row_match, decode_result, decoded_of}
 use Rattle.tc_encode.specs.declared.errors.DecodeErr.{DecodeErr}
 use Rattle.tc_encode.specs.declared.errors.DecodeErr.TheVariants.{Short, NotListed}
 use Rattle.tc_encode.specs.DecodeLaws.{MoreBytesChangeNothing, LengthIsTwoOrFour, DecodedIsSpelled, DecodedIffBytesBegin, SpellingIsDecoded, ShortIsPrefix, NotListedIsNeither, DecodeLaws, BytesSpellAtMostOne, NoSpellingIsPrefix, SpellingLaws}
@@ -66,7 +66,7 @@ answer_none xs e = ap (decode_result xs) e
 gives_spells : (xs : List ℕ) (i : InstData) (n : ℕ) → Gives xs 0 table_rows (i, n) → Spells (take n xs) i
 gives_spells xs i n g =
     let inst : i ≡ instruction_at_row g.at (leading_fields xs g.row) = ap (λ p. p.0) g.is ∙ ap (λ q. instruction_at_row q (leading_fields xs g.row)) (zero-add g.at) in
-    let size : n ≡ decoded_row_length g.row = ap (λ p. p.1) g.is in
+    let size : n ≡ row_instruction_length g.row = ap (λ p. p.1) g.is in
     subst (λ j. Spells (take n xs) j) (sym inst) (subst (λ m. Spells (take m xs) (instruction_at_row g.at (leading_fields xs g.row))) (sym size) (record {
       inst = record { row = g.row; at = g.listed; fits = fits_there xs g.row g.begins };
       is = stands_there xs g.row g.begins;
@@ -82,8 +82,8 @@ size_two false n e = inl e
 pub lengths_are_right : LengthIsTwoOrFour
 lengths_are_right xs i n e =
     let g = found_gives xs 0 table_rows (i, n) (ok_found xs (i, n) e) in
-    let size : n ≡ decoded_row_length g.row = ap (λ p. p.1) g.is in
-    let whole : min (decoded_row_length g.row) (length xs) ≡ decoded_row_length g.row = sym (length-take (decoded_row_length g.row) xs) ∙ ap length (stands_there xs g.row g.begins) ∙ size_spelling g.row (leading_fields xs g.row) in
+    let size : n ≡ row_instruction_length g.row = ap (λ p. p.1) g.is in
+    let whole : min (row_instruction_length g.row) (length xs) ≡ row_instruction_length g.row = sym (length-take (row_instruction_length g.row) xs) ∙ ap length (stands_there xs g.row g.begins) ∙ size_spelling g.row (leading_fields xs g.row) in
     let two = size_two (is_32_bit_row g.row) n size in
     (omega (arith, whole, size), four n two, two)
   where
@@ -105,16 +105,16 @@ spelled_decodes bytes rest i spells =
     let sow = row_at g.at g.row g.listed in
     let h = leading_fields xs g.row in
     let gits = fits_there xs g.row g.begins in
-    let split : xs ≡ spelling g.row h ++ drop (decoded_row_length g.row) xs = sym (take-append-drop (decoded_row_length g.row) xs) ∙ ap (λ front. front ++ drop (decoded_row_length g.row) xs) (stands_there xs g.row g.begins) in
-    let word : row_word r f ≡ row_word g.row h = one_word r g.row f h rest (drop (decoded_row_length g.row) xs) row sow spells.inst.fits gits (word-lt r.form r.op1 r.op2 f row.first row.second spells.inst.fits.below) (word-lt g.row.form g.row.op1 g.row.op2 h sow.first sow.second gits.below) split in
+    let split : xs ≡ spelling g.row h ++ drop (row_instruction_length g.row) xs = sym (take-append-drop (row_instruction_length g.row) xs) ∙ ap (λ front. front ++ drop (row_instruction_length g.row) xs) (stands_there xs g.row g.begins) in
+    let word : row_word r f ≡ row_word g.row h = one_word r g.row f h rest (drop (row_instruction_length g.row) xs) row sow spells.inst.fits gits (word-lt r.form r.op1 r.op2 f row.first row.second spells.inst.fits.below) (word-lt g.row.form g.row.op1 g.row.op2 h sow.first sow.second gits.below) split in
     let place : i.row ≡ g.at = one_row i.row g.at r g.row f h spells.inst.at g.listed spells.inst.fits gits word in
     let rows : r ≡ g.row = same_row i.row g.at r g.row spells.inst.at g.listed place in
-    let is : some.0 ≡ (i, decoded_row_length r) =
+    let is : some.0 ≡ (i, row_instruction_length r) =
     g.is
-    ∙ ap (λ p. (instruction_at_row p h, decoded_row_length g.row)) (zero-add g.at ∙ sym place)
-    ∙ ap (λ s. (instruction_at_row i.row (leading_fields xs s), decoded_row_length s)) (sym rows)
-    ∙ ap (λ e. (instruction_at_row i.row e, decoded_row_length r)) (fields_here r f rest row spells.inst.fits) in
-    let size : decoded_row_length r ≡ length bytes = sym (size_spelling r f) ∙ sym (ap length spells.is) in
+    ∙ ap (λ p. (instruction_at_row p h, row_instruction_length g.row)) (zero-add g.at ∙ sym place)
+    ∙ ap (λ s. (instruction_at_row i.row (leading_fields xs s), row_instruction_length s)) (sym rows)
+    ∙ ap (λ e. (instruction_at_row i.row e, row_instruction_length r)) (fields_here r f rest row spells.inst.fits) in
+    let size : row_instruction_length r ≡ length bytes = sym (size_spelling r f) ∙ sym (ap length spells.is) in
     let done : decoded_of xs ≡ Ok (i, length bytes) = found_ok xs some.0 some.1 ∙ ap (λ p. Ok p) (is ∙ ap (λ n. (i, n)) size) in
     subst (λ bs. decoded_of (bs ++ rest) ≡ Ok (i, length bytes)) (sym spells.is) done
 
@@ -165,9 +165,9 @@ ahead_front xs a =
     let rest = drop (length xs) (spelling a.row (least_fields a.row)) in
     let short = goes_on_short xs a.row a.goes in
     let begins = goes_on_begins xs a.row a.goes in
-    let left : length rest ≡ decoded_row_length a.row - length xs = length-drop (length xs) (spelling a.row (least_fields a.row)) ∙ ap (λ n. n - length xs) (size_spelling a.row (least_fields a.row)) in
-    let size : length (xs ++ rest) ≤ decoded_row_length a.row = omega (arith, length-append xs rest, left, short) in
-    let is : xs ++ rest ≡ spelling a.row (leading_fields (xs ++ rest) a.row) = sym (take_all (decoded_row_length a.row) (xs ++ rest) size) ∙ stands_there (xs ++ rest) a.row begins in
+    let left : length rest ≡ row_instruction_length a.row - length xs = length-drop (length xs) (spelling a.row (least_fields a.row)) ∙ ap (λ n. n - length xs) (size_spelling a.row (least_fields a.row)) in
+    let size : length (xs ++ rest) ≤ row_instruction_length a.row = omega (arith, length-append xs rest, left, short) in
+    let is : xs ++ rest ≡ spelling a.row (leading_fields (xs ++ rest) a.row) = sym (take_all (row_instruction_length a.row) (xs ++ rest) size) ∙ stands_there (xs ++ rest) a.row begins in
     record {
       rest = rest;
       more = λ e. let gone : length rest ≡ 0 = ap length e in omega (arith, gone, left, short);

@@ -7,7 +7,7 @@ use Rattle.tc_isa.specs.Spelling.{row_word, four_or_two_bytes, Spells, spelling_
 use Rattle.tcd_base.specs.Bytes.{four_bytes}
 use Rattle.tc_isa.specs.Insts.{InstData, IsInst, inst_fields}
 use Rattle.tc_isa.proofs.TableFacts.{row_at}
-use Rattle.tc_encode.specs.Decoding.{decoded_length}
+use Rattle.tc_encode.specs.Decoding.{instruction_length}
 use Rattle.tc_encode.proofs.Bytes.{word-lt, short-lt}
 
 four_le : (w : ℕ) → w < 2 ^ 32 → to_le_bytes w32 w ≡ four_bytes w
@@ -33,7 +33,7 @@ left false w small = λ k d h. zeros k d h
     zeros (suc zero) d h = let p = small refl in omega arith
     zeros (suc (suc k)) d h = absurd (omega arith)
 
-module _ (i : InstData) (is : IsInst i) (w len : ℕ) (bytes : List ℕ) (word_is : w ≡ row_word is.row (inst_fields i)) (bytes_are : bytes ≡ to_le_bytes w32 w) (len_is : len ≡ decoded_length is.row.op1) where
+module _ (i : InstData) (is : IsInst i) (w len : ℕ) (bytes : List ℕ) (word_is : w ≡ row_word is.row (inst_fields i)) (bytes_are : bytes ≡ to_le_bytes w32 w) (len_is : len ≡ instruction_length is.row.op1) where
   below : w < 2 ^ 32
   below = let row = row_at i.row is.row is.at in rw word_is (word-lt is.row.form is.row.op1 is.row.op2 (inst_fields i) row.first row.second is.fits.below)
 
@@ -44,10 +44,10 @@ module _ (i : InstData) (is : IsInst i) (w len : ℕ) (bytes : List ℕ) (word_i
   four = bytes_are ∙ four_le w below
 
   pub encoded : Spells (take len bytes) i
-  encoded = record { inst = is; is = ap (λ n. take n bytes) len_is ∙ ap (take (decoded_length is.row.op1)) four ∙ taken (is_32_bit_row is.row) w small ∙ ap (four_or_two_bytes (is_32_bit_row is.row)) word_is }
+  encoded = record { inst = is; is = ap (λ n. take n bytes) len_is ∙ ap (take (instruction_length is.row.op1)) four ∙ taken (is_32_bit_row is.row) w small ∙ ap (four_or_two_bytes (is_32_bit_row is.row)) word_is }
 
   pub counted : len ≡ length (instruction_bytes i)
   counted = len_is ∙ sym (spelled_length (is_32_bit_row is.row) (row_word is.row (inst_fields i))) ∙ sym (ap (λ o. length (spelling_if_row o i)) is.at)
 
   pub padded : All (λ b. b ≡ 0) (drop len bytes)
-  padded = subst (λ n. All (λ b. b ≡ 0) (drop n bytes)) (sym len_is) (subst (λ bs. All (λ b. b ≡ 0) (drop (decoded_length is.row.op1) bs)) (sym four) (left (is_32_bit_row is.row) w small))
+  padded = subst (λ n. All (λ b. b ≡ 0) (drop n bytes)) (sym len_is) (subst (λ bs. All (λ b. b ≡ 0) (drop (instruction_length is.row.op1) bs)) (sym four) (left (is_32_bit_row is.row) w small))

@@ -11,14 +11,14 @@ use Rattle.tc_isa.specs.declared.fields.Uses.{Uses}
 use Rattle.tc_isa.specs.declared.fields.Fields.{Fields}
 use Rattle.tc_isa.specs.declared.table.Form.{Form}
 use Rattle.tc_isa.specs.Rows.{RowData, table_rows}
-use Rattle.tc_isa.specs.Forms.{field_bounds, word_fields, second_code_by_form, form_index, is_32_bit_form}
+use Rattle.tc_isa.specs.Forms.{field_bounds, fields_of_word, second_opcode, form_index, is_32_bit_form}
 use Rattle.tc_isa.specs.InBounds.{AreFieldsBelow}
-use Rattle.tc_isa.specs.ValidRowFields.{FieldsFitRow, uses_of, are_unused_fields_zero, are_registers_allowed}
+use Rattle.tc_isa.specs.ValidRowFields.{FieldsFitRow, used_fields, are_unused_fields_zero, are_registers_allowed}
 use Rattle.tc_isa.specs.Spelling.{row_word}
 use Rattle.tc_isa.specs.Insts.{InstData, IsInst, inst_fields}
 use Rattle.tc_isa.proofs.TableFacts.{row_at}
 use Rattle.tc_encode.specs.Decoding.{instruction_at_row}
-use Rattle.tc_encode.specs.WordSearch.{IsWordOf, is_in_index_range, has_same_form, are_in_index_ranges, is_at_index_place, is_index_entry, are_at_index_places, are_unused_bits_zero, is_full_row, has_all_form_fields}
+use Rattle.tc_encode.specs.WordSearch.{IsWordOf, is_in_index_range, has_same_form, are_rows_in_index_ranges, is_at_index_place, is_index_entry, are_rows_indexed_by_opcodes, are_unused_bits_zero, has_all_fields, has_all_form_fields}
 use Rattle.tc_encode.proofs.Gaps.{fields_below, word_back, full_word}
 use Rattle.tc_encode.proofs.Inverse.{first-word, second-word}
 use Rattle.tc_encode.proofs.Only.{only}
@@ -29,7 +29,7 @@ pub row_is : (place : ℕ) (r : RowData) (i : InstData) (is : IsInst i) → slic
 row_is place r i is at same = some_same is.row r (sym is.at ∙ ap (slice_get table_rows) same ∙ at)
 
 -- the fields of the word are those of the instruction that has it
-pub makes_listed : (place w : ℕ) (r : RowData) (f : Fields) → slice_get table_rows place ≡ Some r → f ≡ word_fields r.form w → (i : InstData) → IsWordOf w i → i.row ≡ place → IsInst (instruction_at_row place f) × (row_word r f ≡ w)
+pub makes_listed : (place w : ℕ) (r : RowData) (f : Fields) → slice_get table_rows place ≡ Some r → f ≡ fields_of_word r.form w → (i : InstData) → IsWordOf w i → i.row ≡ place → IsInst (instruction_at_row place f) × (row_word r f ≡ w)
 makes_listed place w r f at is i m same =
     let row = row_is place r i m.inst at same in
     let fits : FieldsFitRow r (inst_fields i) = subst (λ (s : RowData). FieldsFitRow s (inst_fields i)) row m.inst.fits in
@@ -48,7 +48,7 @@ first_is w i m =
     ap (λ x. x % 256) (sym m.is) ∙ first-word s.form s.op1 s.op2 (inst_fields i) row.first row.second m.inst.fits.below
 
 -- rows are between the start and the end of their first byte
-held : (starts ends : List ℕ) (place : ℕ) (rows : List RowData) (q : ℕ) (r : RowData) → are_in_index_ranges starts ends place rows ≡ true → slice_get rows q ≡ Some r → is_in_index_range (place + q) r (slice_get starts r.op1) (slice_get ends r.op1) ≡ true
+held : (starts ends : List ℕ) (place : ℕ) (rows : List RowData) (q : ℕ) (r : RowData) → are_rows_in_index_ranges starts ends place rows ≡ true → slice_get rows q ≡ Some r → is_in_index_range (place + q) r (slice_get starts r.op1) (slice_get ends r.op1) ≡ true
 held starts ends place [] q r all at = cc
 held starts ends place (x ∷ xs) zero r all at =
     let e = some_same x r at in
@@ -76,7 +76,7 @@ between_from place r (Some s) (Some t) start end e is iz =
       form = subst (λ z. has_same_form r (slice_get table_rows z) ≡ true) x a.1;
     }
 
-pub stands_between : (starts ends : List ℕ) (w : ℕ) (i : InstData) (m : IsWordOf w i) → are_in_index_ranges starts ends 0 table_rows ≡ true → length starts ≡ 256 → length ends ≡ 256 → Between i.row m.inst.row (get_or starts (w % 256) 0) (get_or ends (w % 256) 0)
+pub stands_between : (starts ends : List ℕ) (w : ℕ) (i : InstData) (m : IsWordOf w i) → are_rows_in_index_ranges starts ends 0 table_rows ≡ true → length starts ≡ 256 → length ends ≡ 256 → Between i.row m.inst.row (get_or starts (w % 256) 0) (get_or ends (w % 256) 0)
 stands_between starts ends w i m all ls le =
     let r = m.inst.row in
     let first = first_is w i m in
@@ -100,11 +100,11 @@ none_map (Some x) p f = tt
 -- what an instruction's word says of the row at its place and of its fields
 pub record Stands (w : ℕ) (r : RowData) (f : Fields) : Type 0 where
   pub first : r.op1 ≡ w % 256
-  pub second : r.op2 ≡ second_code_by_form r.form w
+  pub second : r.op2 ≡ second_opcode r.form w
   pub full : are_unused_bits_zero r.form w ≡ true
   pub fits : FieldsFitRow r f
 
-pub stands : (place w : ℕ) (r : RowData) → slice_get table_rows place ≡ Some r → (i : InstData) → IsWordOf w i → i.row ≡ place → Stands w r (word_fields r.form w)
+pub stands : (place w : ℕ) (r : RowData) → slice_get table_rows place ≡ Some r → (i : InstData) → IsWordOf w i → i.row ≡ place → Stands w r (fields_of_word r.form w)
 stands place w r at i m same =
     let row = row_is place r i m.inst at same in
     let own = row_at place r at in
@@ -112,7 +112,7 @@ stands place w r at i m same =
     let word : row_word r (inst_fields i) ≡ w = subst (λ (s : RowData). row_word s (inst_fields i) ≡ w) row m.is in
     record {
       first = sym (first-word r.form r.op1 r.op2 (inst_fields i) own.first own.second fits.below) ∙ ap (λ x. x % 256) word;
-      second = sym (second-word r.form r.op1 r.op2 (inst_fields i) own.first own.second fits.below) ∙ ap (second_code_by_form r.form) word;
+      second = sym (second-word r.form r.op1 r.op2 (inst_fields i) own.first own.second fits.below) ∙ ap (second_opcode r.form) word;
       full = ap (are_unused_bits_zero r.form) (sym word) ∙ full_word r.form r.op1 r.op2 (inst_fields i) own.first own.second fits.below;
       fits = subst (λ (g : Fields). FieldsFitRow r g) (sym (only r (inst_fields i) w own fits word)) fits;
     }
@@ -121,7 +121,7 @@ even_of : (op1 w : ℕ) → (op1 % 2 == 1) ≡ false → op1 ≡ w % 256 → w %
 even_of op1 w e is = let odd = eqb-false (op1 % 2) 1 e in elim (cases_eq (op1 % 2) 1) [ inl x ↦ absurd (odd x) | inr y ↦ omega (arith, y) ]
 
 -- a word with the row's codes and no gap is the spelling of its fields, if they fit
-pub makes_of : (place w : ℕ) (r : RowData) (f : Fields) → slice_get table_rows place ≡ Some r → f ≡ word_fields r.form w → w < 2 ^ 32 → (w % 2 ≡ 0 → w < 2 ^ 16) → r.op1 ≡ w % 256 → r.op2 ≡ second_code_by_form r.form w → are_unused_bits_zero r.form w ≡ true → are_unused_fields_zero (uses_of r) f ≡ true → are_registers_allowed r f ≡ true → IsWordOf w (instruction_at_row place f)
+pub makes_of : (place w : ℕ) (r : RowData) (f : Fields) → slice_get table_rows place ≡ Some r → f ≡ fields_of_word r.form w → w < 2 ^ 32 → (w % 2 ≡ 0 → w < 2 ^ 16) → r.op1 ≡ w % 256 → r.op2 ≡ second_opcode r.form w → are_unused_bits_zero r.form w ≡ true → are_unused_fields_zero (used_fields r) f ≡ true → are_registers_allowed r f ≡ true → IsWordOf w (instruction_at_row place f)
 makes_of place w r f at is word short first second full rest apart =
     let row = row_at place r at in
     let small : is_32_bit_form r.form ≡ false → w < 2 ^ 16 = λ e. short (even_of r.op1 w (row.size ∙ e) first) in
@@ -131,7 +131,7 @@ makes_of place w r f at is word short first second full rest apart =
     }
 
 -- rows are after the base of their first byte
-held_at : (bases places : List ℕ) (place : ℕ) (rows : List RowData) (q : ℕ) (r : RowData) → are_at_index_places bases places place rows ≡ true → slice_get rows q ≡ Some r → is_at_index_place places (place + q) r (slice_get bases r.op1) ≡ true
+held_at : (bases places : List ℕ) (place : ℕ) (rows : List RowData) (q : ℕ) (r : RowData) → are_rows_indexed_by_opcodes bases places place rows ≡ true → slice_get rows q ≡ Some r → is_at_index_place places (place + q) r (slice_get bases r.op1) ≡ true
 held_at bases places place [] q r all at = cc
 held_at bases places place (x ∷ xs) zero r all at =
     subst (λ (s : RowData). is_at_index_place places (place + 0) s (slice_get bases s.op1) ≡ true) (some_same x r at)
@@ -148,7 +148,7 @@ at_from places place r (Some b) base e is = place_from (slice_get places (base +
     place_from None e = cc
     place_from (Some p) e = ap (λ z. Some z) (eqb-true p place e)
 
-pub row_between : (starts ends : List ℕ) (first place : ℕ) (r : RowData) → are_in_index_ranges starts ends 0 table_rows ≡ true → length starts ≡ 256 → length ends ≡ 256 → first < 256 → slice_get table_rows place ≡ Some r → r.op1 ≡ first → Between place r (get_or starts first 0) (get_or ends first 0)
+pub row_between : (starts ends : List ℕ) (first place : ℕ) (r : RowData) → are_rows_in_index_ranges starts ends 0 table_rows ≡ true → length starts ≡ 256 → length ends ≡ 256 → first < 256 → slice_get table_rows place ≡ Some r → r.op1 ≡ first → Between place r (get_or starts first 0) (get_or ends first 0)
 row_between starts ends first place r all ls le small at is =
     between_from place r (slice_get starts r.op1) (slice_get ends r.op1) (get_or starts first 0) (get_or ends first 0)
     (subst (λ p. is_in_index_range p r (slice_get starts r.op1) (slice_get ends r.op1) ≡ true) (zero-add place) (held starts ends 0 table_rows place r all at))
@@ -162,7 +162,7 @@ pub same_some : (x y : ℕ) → Some x ≡ Some y → x ≡ y
 same_some x y e = cc
 
 -- the row of two codes is where the index has it
-pub place_has : (bases places : List ℕ) (first a b place : ℕ) (r : RowData) → are_at_index_places bases places 0 table_rows ≡ true → length bases ≡ 256 → first < 256 → a ≡ get_or bases first 0 → slice_get table_rows place ≡ Some r → r.op1 ≡ first → r.op2 ≡ b → slice_get places (a + b) ≡ Some place
+pub place_has : (bases places : List ℕ) (first a b place : ℕ) (r : RowData) → are_rows_indexed_by_opcodes bases places 0 table_rows ≡ true → length bases ≡ 256 → first < 256 → a ≡ get_or bases first 0 → slice_get table_rows place ≡ Some r → r.op1 ≡ first → r.op2 ≡ b → slice_get places (a + b) ≡ Some place
 place_has bases places first a b place r all count small is_a at is_first is_b =
     ap (λ x. slice_get places (x + b)) is_a ∙ ap (λ y. slice_get places (get_or bases first 0 + y)) (sym is_b)
     ∙ at_from places place r (slice_get bases r.op1) (get_or bases first 0)
@@ -181,13 +181,13 @@ plain_zero u f b e low =
     (one_plain u.c f.c b.c s.0 low.c) (one_plain u.s1 f.s1 b.s1 s.1 low.s1)) (one_plain u.s2 f.s2 b.s2 r.1 low.s2)) (one_plain u.n f.n b.n q.1 low.n)) (one_plain u.k f.k b.k p.1 low.k)
 
 -- the list of such rows is right for the row at a place
-pub plain_at : (plain : List Bool) (place : ℕ) (d : Bool) (r : RowData) → plain ≡ map is_full_row table_rows → slice_get table_rows place ≡ Some r → get_or plain place d ≡ is_full_row r
+pub plain_at : (plain : List Bool) (place : ℕ) (d : Bool) (r : RowData) → plain ≡ map has_all_fields table_rows → slice_get table_rows place ≡ Some r → get_or plain place d ≡ has_all_fields r
 plain_at plain place d r are at =
-    ap (λ bs. get_or bs place d) are ∙ get_or-map is_full_row table_rows place r d (slice_get_within table_rows place r at) ∙ ap is_full_row (get_or_from_slice_get table_rows place r r at)
+    ap (λ bs. get_or bs place d) are ∙ get_or-map has_all_fields table_rows place r d (slice_get_within table_rows place r at) ∙ ap has_all_fields (get_or_from_slice_get table_rows place r r at)
 
-pub second_at : (form : Form) (place first second w : ℕ) (r : RowData) → ((place : ℕ) (r : RowData) → slice_get table_rows place ≡ Some r → r.op1 ≡ first → form_index r.form ≡ form_index form) → second ≡ second_code_by_form form w → slice_get table_rows place ≡ Some r → r.op1 ≡ first → second ≡ second_code_by_form r.form w
-second_at form place first second w r forms is at one = is ∙ ap (λ f. second_code_by_form f w) (sym (same_form r.form form (forms place r at one)))
+pub second_at : (form : Form) (place first second w : ℕ) (r : RowData) → ((place : ℕ) (r : RowData) → slice_get table_rows place ≡ Some r → r.op1 ≡ first → form_index r.form ≡ form_index form) → second ≡ second_opcode form w → slice_get table_rows place ≡ Some r → r.op1 ≡ first → second ≡ second_opcode r.form w
+second_at form place first second w r forms is at one = is ∙ ap (λ f. second_opcode f w) (sym (same_form r.form form (forms place r at one)))
 
-pub uses_at : (uses : List Uses) (place : ℕ) (d : Uses) (r : RowData) → uses ≡ map uses_of table_rows → slice_get table_rows place ≡ Some r → get_or uses place d ≡ uses_of r
+pub uses_at : (uses : List Uses) (place : ℕ) (d : Uses) (r : RowData) → uses ≡ map used_fields table_rows → slice_get table_rows place ≡ Some r → get_or uses place d ≡ used_fields r
 uses_at uses place d r are at =
-    ap (λ us. get_or us place d) are ∙ get_or-map uses_of table_rows place r d (slice_get_within table_rows place r at) ∙ ap uses_of (get_or_from_slice_get table_rows place r r at)
+    ap (λ us. get_or us place d) are ∙ get_or-map used_fields table_rows place r d (slice_get_within table_rows place r at) ∙ ap used_fields (get_or_from_slice_get table_rows place r r at)

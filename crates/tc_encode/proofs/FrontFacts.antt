@@ -8,7 +8,7 @@ use Rattle.tc_isa.specs.Rows.{RowData, is_32_bit_row}
 use Rattle.tc_encode.specs.WordSearch.{with_low_bytes}
 use Rattle.tc_isa.specs.ValidRowFields.{FieldsFitRow, IsRow, least_fields}
 use Rattle.tc_isa.specs.Spelling.{row_word, four_or_two_bytes, spelling}
-use Rattle.tc_encode.specs.Decoding.{decoded_row_length, begins_with_row, is_prefix_of_row}
+use Rattle.tc_encode.specs.Decoding.{row_instruction_length, begins_with_row, is_prefix_of_row}
 use Rattle.tc_encode.proofs.Complete.{completed}
 use Rattle.tc_encode.proofs.Spelled.{begins_here, size_spelling}
 
@@ -44,7 +44,7 @@ least_goes_on : (r : RowData) → IsRow r → begins_with_row (spelling r (least
 least_goes_on r row = subst (λ bs. begins_with_row bs r ≡ true) (append-nil (spelling r (least_fields r))) (begins_here r (least_fields r) [] row row.has_least)
 
 -- the first n bytes, completed
-gone_on : (r : RowData) (f : Fields) (n : ℕ) → IsRow r → FieldsFitRow r f → n < decoded_row_length r → begins_with_row (take n (spelling r f) ++ drop n (spelling r (least_fields r))) r ≡ true
+gone_on : (r : RowData) (f : Fields) (n : ℕ) → IsRow r → FieldsFitRow r f → n < row_instruction_length r → begins_with_row (take n (spelling r f) ++ drop n (spelling r (least_fields r))) r ≡ true
 gone_on r f zero row fits short = least_goes_on r row
 gone_on r f (suc n) row fits short =
     let x = completed r (suc n) f row fits (omega arith) (omega (arith, size_small (is_32_bit_row r))) in
@@ -58,13 +58,13 @@ has_some (b ∷ bs) some = omega arith
 
 pub front_goes_on : (bytes rest : List ℕ) (r : RowData) (f : Fields) → IsRow r → FieldsFitRow r f → rest ≢ [] → bytes ++ rest ≡ spelling r f → is_prefix_of_row bytes r ≡ true
 front_goes_on bytes rest r f row fits some is =
-    let size : length bytes + length rest ≡ decoded_row_length r = sym (length-append bytes rest) ∙ ap length is ∙ size_spelling r f in
-    let short : length bytes < decoded_row_length r = omega (arith, has_some rest some, size) in
+    let size : length bytes + length rest ≡ row_instruction_length r = sym (length-append bytes rest) ∙ ap length is ∙ size_spelling r f in
+    let short : length bytes < row_instruction_length r = omega (arith, has_some rest some, size) in
     let front : take (length bytes) (spelling r f) ≡ bytes = ap (take (length bytes)) (sym is) ∙ take_at bytes rest (length bytes) refl in
     and_from _ _ (lt-ltb _ _ short) (subst (λ bs. begins_with_row (bs ++ drop (length bytes) (spelling r (least_fields r))) r ≡ true) front (gone_on r f (length bytes) row fits short))
 
 -- bytes that are completed are fewer than the row's
-pub goes_on_short : (bytes : List ℕ) (r : RowData) → is_prefix_of_row bytes r ≡ true → length bytes < decoded_row_length r
+pub goes_on_short : (bytes : List ℕ) (r : RowData) → is_prefix_of_row bytes r ≡ true → length bytes < row_instruction_length r
 goes_on_short bytes r e = ltb-true _ _ (and_parts _ _ e).0
 
 pub goes_on_begins : (bytes : List ℕ) (r : RowData) → is_prefix_of_row bytes r ≡ true → begins_with_row (bytes ++ drop (length bytes) (spelling r (least_fields r))) r ≡ true

@@ -6,8 +6,8 @@ use Rattle.tc_isa.specs.ValidRowFields.{FieldsFitRow, least_fields}
 use Rattle.tc_isa.specs.Spelling.{row_word}
 use Rattle.tc_isa.specs.Insts.{InstData, inst_fields}
 use Rattle.tc_isa.proofs.TableFacts.{row_at}
-use Rattle.tc_encode.specs.Decoding.{instruction_at_row, decoded_row_length}
-use Rattle.tc_encode.specs.WordSearch.{IsWordOf, IsCompletionOf, power_of_256, are_in_index_ranges}
+use Rattle.tc_encode.specs.Decoding.{instruction_at_row, row_instruction_length}
+use Rattle.tc_encode.specs.WordSearch.{IsWordOf, IsCompletionOf, power_of_256, are_rows_in_index_ranges}
 use Rattle.tc_encode.proofs.Complete.{completed, same_mix}
 use Rattle.tc_encode.proofs.Finds.{row_is, first_is, Between, stands_between}
 
@@ -18,12 +18,12 @@ low_part (suc zero) part rest h = omega arith
 low_part (suc (suc zero)) part rest h = omega arith
 low_part (suc (suc (suc n))) part rest h = omega arith
 
-pub goes_from : (place n part rest s : ℕ) (r : RowData) (i : InstData) → slice_get table_rows place ≡ Some r → n < decoded_row_length r → part < power_of_256 n → s ≡ power_of_256 n → i.row ≡ place → IsWordOf (part + rest / s * s) i → IsCompletionOf n part i
+pub goes_from : (place n part rest s : ℕ) (r : RowData) (i : InstData) → slice_get table_rows place ≡ Some r → n < row_instruction_length r → part < power_of_256 n → s ≡ power_of_256 n → i.row ≡ place → IsWordOf (part + rest / s * s) i → IsCompletionOf n part i
 goes_from place n part rest s r i at longer small is same m =
     let row = row_is place r i m.inst at same in
     record {
       inst = m.inst;
-      longer = subst (λ (t : RowData). n < decoded_row_length t) (sym row) longer;
+      longer = subst (λ (t : RowData). n < row_instruction_length t) (sym row) longer;
       is = ap (λ w. w % power_of_256 n) (m.is ∙ ap (λ z. part + rest / z * z) is) ∙ low_part n part rest small;
     }
 
@@ -43,7 +43,7 @@ low_byte (suc zero) w h = omega arith
 low_byte (suc (suc zero)) w h = omega arith
 low_byte (suc (suc (suc n))) w h = omega arith
 
-pub goes_between : (starts ends : List ℕ) (first n part : ℕ) (i : InstData) (g : IsCompletionOf n part i) → are_in_index_ranges starts ends 0 table_rows ≡ true → length starts ≡ 256 → length ends ≡ 256 → 1 ≤ n → first ≡ part % 256 → Between i.row g.inst.row (get_or starts first 0) (get_or ends first 0)
+pub goes_between : (starts ends : List ℕ) (first n part : ℕ) (i : InstData) (g : IsCompletionOf n part i) → are_rows_in_index_ranges starts ends 0 table_rows ≡ true → length starts ≡ 256 → length ends ≡ 256 → 1 ≤ n → first ≡ part % 256 → Between i.row g.inst.row (get_or starts first 0) (get_or ends first 0)
 goes_between starts ends first n part i g all ls le low is =
     let w = row_word g.inst.row (inst_fields i) in
     let same : w % 256 ≡ first = sym (low_byte n w low) ∙ ap (λ p. p % 256) g.is ∙ sym is in

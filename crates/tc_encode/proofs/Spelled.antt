@@ -6,12 +6,12 @@ use Rattle.std.proofs.lemmas.Slice.Eq.{bytes_eq-Decides}
 use Rattle.std.proofs.lemmas.List.{take_at}
 use Rattle.tc_isa.specs.declared.fields.Fields.{Fields}
 use Rattle.tc_isa.specs.Rows.{RowData, is_32_bit_row}
-use Rattle.tc_isa.specs.Forms.{field_bounds, word_fields}
+use Rattle.tc_isa.specs.Forms.{field_bounds, fields_of_word}
 use Rattle.tc_isa.specs.InBounds.{AreFieldsBelow, are_fields_below}
 use Rattle.tc_isa.specs.ValidRowFields.{FieldsFitRow, IsRow}
 use Rattle.tc_isa.specs.Spelling.{row_word, four_or_two_bytes, spelling}
 use Rattle.tcd_base.specs.Bytes.{two_bytes, four_bytes, number_from_bytes}
-use Rattle.tc_encode.specs.Decoding.{decoded_row_length, decoded_fields_fit, leading_fields, begins_with_row}
+use Rattle.tc_encode.specs.Decoding.{row_instruction_length, decoded_fields_fit, leading_fields, begins_with_row}
 use Rattle.tc_encode.proofs.Inverse.{fields-word}
 use Rattle.tc_encode.proofs.Bytes.{word-lt}
 
@@ -37,7 +37,7 @@ size_spelled : (long : Bool) (w : ℕ) → length (four_or_two_bytes long w) ≡
 size_spelled true w = refl
 size_spelled false w = refl
 
-pub size_spelling : (r : RowData) (f : Fields) → length (spelling r f) ≡ decoded_row_length r
+pub size_spelling : (r : RowData) (f : Fields) → length (spelling r f) ≡ row_instruction_length r
 size_spelling r f = size_spelled (is_32_bit_row r) (row_word r f)
 
 -- the number of a spelling is its word
@@ -51,14 +51,14 @@ spelled_number : (long : Bool) (w : ℕ) → w < 2 ^ 32 → number_from_bytes (f
 spelled_number true w h = four_number w h
 spelled_number false w h = two_number w
 
-pub front_is : (r : RowData) (f : Fields) (rest : List ℕ) → take (decoded_row_length r) (spelling r f ++ rest) ≡ spelling r f
-front_is r f rest = take_at (spelling r f) rest (decoded_row_length r) (size_spelling r f)
+pub front_is : (r : RowData) (f : Fields) (rest : List ℕ) → take (row_instruction_length r) (spelling r f ++ rest) ≡ spelling r f
+front_is r f rest = take_at (spelling r f) rest (row_instruction_length r) (size_spelling r f)
 
 -- the fields in a spelling are those that it spells
 pub fields_here : (r : RowData) (f : Fields) (rest : List ℕ) → IsRow r → FieldsFitRow r f → leading_fields (spelling r f ++ rest) r ≡ f
 fields_here r f rest row fits =
-    ap (λ bs. word_fields r.form (number_from_bytes bs)) (front_is r f rest)
-    ∙ ap (word_fields r.form) (spelled_number (is_32_bit_row r) (row_word r f) (word-lt r.form r.op1 r.op2 f row.first row.second fits.below))
+    ap (λ bs. fields_of_word r.form (number_from_bytes bs)) (front_is r f rest)
+    ∙ ap (fields_of_word r.form) (spelled_number (is_32_bit_row r) (row_word r f) (word-lt r.form r.op1 r.op2 f row.first row.second fits.below))
     ∙ fields-word r.form r.op1 r.op2 f row.first row.second fits.below
 
 -- bytes that begin with a spelling of the row pass the test
@@ -73,5 +73,5 @@ begins_here r f rest row fits =
 pub fits_there : (bytes : List ℕ) (r : RowData) → begins_with_row bytes r ≡ true → FieldsFitRow r (leading_fields bytes r)
 fits_there bytes r e = fits_from r (leading_fields bytes r) (and_parts _ _ e).0
 
-pub stands_there : (bytes : List ℕ) (r : RowData) → begins_with_row bytes r ≡ true → take (decoded_row_length r) bytes ≡ spelling r (leading_fields bytes r)
+pub stands_there : (bytes : List ℕ) (r : RowData) → begins_with_row bytes r ≡ true → take (row_instruction_length r) bytes ≡ spelling r (leading_fields bytes r)
 stands_there bytes r e = (bytes_eq-Decides _ _).0 (and_parts _ _ e).1

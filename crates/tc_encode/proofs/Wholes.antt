@@ -3,9 +3,9 @@ use Rattle.std.proofs.Common.{◌≡◌, ◌+◌, ◌*◌, ◌/◌, ◌%◌, ◌
 use Rattle.std.specs.Prelude.{All, if◌then◌else◌}
 use Rattle.std.proofs.lemmas.Bool.{eq-eqb}
 use Rattle.std.proofs.lemmas.List.{take-append-drop}
-use Rattle.tc_isa.specs.Forms.{word_fields, field_bounds}
-use Rattle.tc_isa.specs.Spelling.{word_by_form, row_word, four_or_two_bytes, spelling}
-use Rattle.tc_encode.specs.Decoding.{BeginsWith, IsInstPrefix, decoded_of, decoded_length, decoded_row_length}
+use Rattle.tc_isa.specs.Forms.{fields_of_word, field_bounds}
+use Rattle.tc_isa.specs.Spelling.{word_of_fields, row_word, four_or_two_bytes, spelling}
+use Rattle.tc_encode.specs.Decoding.{BeginsWith, IsInstPrefix, decoded_of, instruction_length, row_instruction_length}
 use Rattle.tc_isa.specs.Insts.{InstData, IsInst, inst_fields}
 use Rattle.tc_isa.specs.Rows.{is_32_bit_row}
 use Rattle.tcd_base.specs.Bytes.{two_bytes, four_bytes, number_from_bytes}
@@ -28,14 +28,14 @@ first_of_spelling i is a more rest e =
     sym (head_of (is_32_bit_row is.row) (row_word is.row (inst_fields i)) a more rest e ∙ first-word is.row.form is.row.op1 is.row.op2 (inst_fields i) row.first row.second is.fits.below)
 
 -- the number of bytes by the first byte
-pub odd_need : (a : ℕ) → a % 2 ≡ 1 → decoded_length a ≡ 4
+pub odd_need : (a : ℕ) → a % 2 ≡ 1 → instruction_length a ≡ 4
 odd_need a odd = ap (λ b. if b then 4 else 2) (eq-eqb _ _ odd)
 
-pub even_need : (a : ℕ) → a % 2 ≡ 0 → decoded_length a ≡ 2
+pub even_need : (a : ℕ) → a % 2 ≡ 0 → instruction_length a ≡ 2
 even_need a even = ap (λ m. if m == 1 then 4 else 2) even
 
-pub length_of_spelling : (i : InstData) (is : IsInst i) (a : ℕ) (more rest : List ℕ) → a ∷ more ≡ spelling is.row (inst_fields i) ++ rest → length (spelling is.row (inst_fields i)) ≡ decoded_length a
-length_of_spelling i is a more rest e = size_spelling is.row (inst_fields i) ∙ ap decoded_length (first_of_spelling i is a more rest e)
+pub length_of_spelling : (i : InstData) (is : IsInst i) (a : ℕ) (more rest : List ℕ) → a ∷ more ≡ spelling is.row (inst_fields i) ++ rest → length (spelling is.row (inst_fields i)) ≡ instruction_length a
+length_of_spelling i is a more rest e = size_spelling is.row (inst_fields i) ∙ ap instruction_length (first_of_spelling i is a more rest e)
 
 -- bytes that begin with an instruction
 begun : (xs : List ℕ) (i : InstData) (n : ℕ) (b : BeginsWith xs i n) → xs ≡ spelling b.spells.inst.row (inst_fields i) ++ drop n xs
@@ -46,7 +46,7 @@ nonempty : (rest : List ℕ) → length rest ≡ 0 → rest ≡ []
 nonempty [] e = refl
 nonempty (x ∷ xs) e = absurd (omega arith)
 
-pub no_front : (a : ℕ) (more : List ℕ) → decoded_length a ≤ length (a ∷ more) → IsInstPrefix (a ∷ more) → ⊥
+pub no_front : (a : ℕ) (more : List ℕ) → instruction_length a ≤ length (a ∷ more) → IsInstPrefix (a ∷ more) → ⊥
 no_front a more enough front =
     let s = front.spells in
     let whole : (a ∷ more) ++ front.rest ≡ spelling s.inst.row (inst_fields front.inst) ++ [] = s.is ∙ sym (append_nil (spelling s.inst.row (inst_fields front.inst))) in
@@ -58,7 +58,7 @@ no_front a more enough front =
     append_nil (y ∷ ys) = ap (λ zs. y ∷ zs) (append_nil ys)
 
 -- too few bytes begin with no instruction
-pub none_begins : (a : ℕ) (more : List ℕ) → length (a ∷ more) < decoded_length a → (i : InstData) (n : ℕ) → BeginsWith (a ∷ more) i n → ⊥
+pub none_begins : (a : ℕ) (more : List ℕ) → length (a ∷ more) < instruction_length a → (i : InstData) (n : ℕ) → BeginsWith (a ∷ more) i n → ⊥
 none_begins a more few i n b =
     let size = length_of_spelling i b.spells.inst a more (drop n (a ∷ more)) (begun (a ∷ more) i n b) in
     let whole = ap length b.spells.is in
@@ -159,37 +159,37 @@ goes_front bytes i all low g =
       spells = record { inst = g.inst; is = ap (λ f. f ++ drop (length bytes) s) (sym front) ∙ take-append-drop (length bytes) s };
     }
 
-pub front_goes : (a : ℕ) (more : List ℕ) → length (a ∷ more) < decoded_length a → (front : IsInstPrefix (a ∷ more)) → IsCompletionOf (length (a ∷ more)) (number_from_bytes (a ∷ more)) front.inst
+pub front_goes : (a : ℕ) (more : List ℕ) → length (a ∷ more) < instruction_length a → (front : IsInstPrefix (a ∷ more)) → IsCompletionOf (length (a ∷ more)) (number_from_bytes (a ∷ more)) front.inst
 front_goes a more few front =
     let s = front.spells in
     let first = first_of_spelling front.inst s.inst a (more ++ front.rest) [] (s.is ∙ sym (append_nil (spelling s.inst.row (inst_fields front.inst)))) in
-    let longer : length (a ∷ more) < decoded_row_length s.inst.row = subst (λ n. length (a ∷ more) < decoded_length n) (sym first) few in
+    let longer : length (a ∷ more) < row_instruction_length s.inst.row = subst (λ n. length (a ∷ more) < instruction_length n) (sym first) few in
     record { inst = s.inst; longer = longer; is = low_number (is_32_bit_row s.inst.row) (row_word s.inst.row (inst_fields front.inst)) (a ∷ more) front.rest (omega arith) longer s.is }
   where
     append_nil : (ys : List ℕ) → ys ++ [] ≡ ys
     append_nil [] = refl
     append_nil (y ∷ ys) = ap (λ zs. y ∷ zs) (append_nil ys)
 
-pub front_short : (bytes : List ℕ) (n part first : ℕ) (i : InstData) → 1 ≤ n → n < decoded_length first → first ≡ part % 256 → length bytes ≡ n → All (λ b. b < 256) bytes → number_from_bytes bytes ≡ part → IsCompletionOf n part i → decoded_of bytes ≡ Err Short
+pub front_short : (bytes : List ℕ) (n part first : ℕ) (i : InstData) → 1 ≤ n → n < instruction_length first → first ≡ part % 256 → length bytes ≡ n → All (λ b. b < 256) bytes → number_from_bytes bytes ≡ part → IsCompletionOf n part i → decoded_of bytes ≡ Err Short
 front_short [] n part first i low high head len all num g = absurd (omega arith)
 front_short (a ∷ more) n part first i low high head len all num g =
     let la : a < 256 = all 0 0 (omega arith) in
     let same : first ≡ a = head ∙ omega (arith, num) in
-    let few : length (a ∷ more) < decoded_length a = subst (λ x. length (a ∷ more) < decoded_length x) same (omega (arith, high, len)) in
+    let few : length (a ∷ more) < instruction_length a = subst (λ x. length (a ∷ more) < instruction_length x) same (omega (arith, high, len)) in
     let goes : IsCompletionOf (length (a ∷ more)) (number_from_bytes (a ∷ more)) i = subst (λ p. IsCompletionOf (length (a ∷ more)) p i) (sym num) (subst (λ m. IsCompletionOf m part i) (sym len) g) in
     (short_is_front (a ∷ more)).1 (goes_front (a ∷ more) i all (omega arith) goes, none_begins a more few)
 
-pub front_none : (bytes : List ℕ) (n part first : ℕ) → 1 ≤ n → n < decoded_length first → first ≡ part % 256 → length bytes ≡ n → All (λ b. b < 256) bytes → number_from_bytes bytes ≡ part → ((i : InstData) → IsCompletionOf n part i → ⊥) → decoded_of bytes ≡ Err NotListed
+pub front_none : (bytes : List ℕ) (n part first : ℕ) → 1 ≤ n → n < instruction_length first → first ≡ part % 256 → length bytes ≡ n → All (λ b. b < 256) bytes → number_from_bytes bytes ≡ part → ((i : InstData) → IsCompletionOf n part i → ⊥) → decoded_of bytes ≡ Err NotListed
 front_none [] n part first low high head len all num none = absurd (omega arith)
 front_none (a ∷ more) n part first low high head len all num none =
     let la : a < 256 = all 0 0 (omega arith) in
     let same : first ≡ a = head ∙ omega (arith, num) in
-    let few : length (a ∷ more) < decoded_length a = subst (λ x. length (a ∷ more) < decoded_length x) same (omega (arith, high, len)) in
+    let few : length (a ∷ more) < instruction_length a = subst (λ x. length (a ∷ more) < instruction_length x) same (omega (arith, high, len)) in
     (not_listed_is_rest (a ∷ more)).1
     (λ front. none front.inst (subst (λ p. IsCompletionOf n p front.inst) num (subst (λ m. IsCompletionOf m (number_from_bytes (a ∷ more)) front.inst) len (front_goes a more few front))), none_begins a more few)
 
 -- no bytes are the beginning of an instruction
 pub empty_short : (xs : List ℕ) → length xs ≡ 0 → Err Short ≡ decoded_of xs
-unfolding decoded_of word_fields field_bounds word_by_form
+unfolding decoded_of fields_of_word field_bounds word_of_fields
 empty_short [] e = refl
 empty_short (x ∷ xs) e = absurd (omega arith)

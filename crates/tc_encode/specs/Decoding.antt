@@ -4,8 +4,8 @@ use Rattle.std.specs.List.{list_any}
 use Rattle.std.specs.Str.{bytes_eq}
 use Rattle.tc_isa.specs.declared.fields.Fields.{Fields}
 use Rattle.tc_isa.specs.Rows.{RowData, table_rows}
-use Rattle.tc_isa.specs.Forms.{field_bounds, word_fields}
-use Rattle.tc_isa.specs.ValidRowFields.{uses_of, are_unused_fields_zero, are_registers_allowed, least_fields}
+use Rattle.tc_isa.specs.Forms.{field_bounds, fields_of_word}
+use Rattle.tc_isa.specs.ValidRowFields.{used_fields, are_unused_fields_zero, are_registers_allowed, least_fields}
 use Rattle.tc_isa.specs.InBounds.{are_fields_below}
 use Rattle.tc_isa.specs.Spelling.{spelling, Spells}
 use Rattle.tc_isa.specs.Insts.{InstData}
@@ -14,30 +14,30 @@ use Rattle.tc_encode.specs.declared.errors.DecodeErr.TheVariants.{Short, NotList
 use Rattle.tcd_base.specs.Bytes.{number_from_bytes}
 
 -- the number of bytes of an instruction with this first byte: 4 if bit 0 is set, else 2
-abbrev pub decoded_length : ℕ → ℕ
-decoded_length first = if first % 2 == 1 then 4 else 2
+abbrev pub instruction_length : ℕ → ℕ
+instruction_length first = if first % 2 == 1 then 4 else 2
 
 -- the number of bytes of a row's instructions
-abbrev pub decoded_row_length : RowData → ℕ
-decoded_row_length r = decoded_length r.op1
+abbrev pub row_instruction_length : RowData → ℕ
+row_instruction_length r = instruction_length r.op1
 
 -- decoded fields fit the row: below the bounds of its form, 0 if the row doesn't have them, and
 -- with registers that the row allows
 abbrev pub decoded_fields_fit : RowData → Fields → Bool
-decoded_fields_fit r f = are_fields_below f (field_bounds r.form) && are_unused_fields_zero (uses_of r) f && are_registers_allowed r f
+decoded_fields_fit r f = are_fields_below f (field_bounds r.form) && are_unused_fields_zero (used_fields r) f && are_registers_allowed r f
 
 -- the fields in the word that the bytes begin with, if that has the row's form
 abbrev pub leading_fields : List ℕ → RowData → Fields
-leading_fields bytes r = word_fields r.form (number_from_bytes (take (decoded_row_length r) bytes))
+leading_fields bytes r = fields_of_word r.form (number_from_bytes (take (row_instruction_length r) bytes))
 
 -- the bytes begin with an instruction of the row: the fields there fit, and spell these bytes
 abbrev pub begins_with_row : List ℕ → RowData → Bool
-begins_with_row bytes r = decoded_fields_fit r (leading_fields bytes r) && bytes_eq (take (decoded_row_length r) bytes) (spelling r (leading_fields bytes r))
+begins_with_row bytes r = decoded_fields_fit r (leading_fields bytes r) && bytes_eq (take (row_instruction_length r) bytes) (spelling r (leading_fields bytes r))
 
 -- the bytes are the beginning of an instruction of the row: completed by its least fields, they
 -- spell one
 abbrev pub is_prefix_of_row : List ℕ → RowData → Bool
-is_prefix_of_row bytes r = nat_lt (length bytes) (decoded_row_length r) && begins_with_row (bytes ++ drop (length bytes) (spelling r (least_fields r))) r
+is_prefix_of_row bytes r = nat_lt (length bytes) (row_instruction_length r) && begins_with_row (bytes ++ drop (length bytes) (spelling r (least_fields r))) r
 
 -- the decoded instruction: that of the row with this number, with these fields
 abbrev pub instruction_at_row : ℕ → Fields → InstData
@@ -47,7 +47,7 @@ instruction_at_row place f = record { row = place; c = f.c; s1 = f.s1; s2 = f.s2
 -- instruction, and its number of bytes
 abbrev pub first_row_match : List ℕ → ℕ → List RowData → Option (InstData × ℕ)
 first_row_match bytes place [] = None
-first_row_match bytes place (r ∷ rs) = if begins_with_row bytes r then Some (instruction_at_row place (leading_fields bytes r), decoded_row_length r) else first_row_match bytes (suc place) rs
+first_row_match bytes place (r ∷ rs) = if begins_with_row bytes r then Some (instruction_at_row place (leading_fields bytes r), row_instruction_length r) else first_row_match bytes (suc place) rs
 
 -- the instruction found, with its length; else Short if the bytes begin one, else NotListed
 abbrev pub decode_result : List ℕ → Option (InstData × ℕ) → Result (InstData × ℕ) DecodeErr

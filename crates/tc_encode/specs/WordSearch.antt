@@ -6,10 +6,10 @@ use Rattle.tc_isa.specs.Rows.{RowData, table_rows}
 use Rattle.tc_isa.specs.declared.fields.Fields.{Fields}
 use Rattle.tc_isa.specs.declared.fields.Uses.{Uses}
 use Rattle.tc_isa.specs.Forms.{form_index, field_bounds}
-use Rattle.tc_isa.specs.ValidRowFields.{uses_of}
+use Rattle.tc_isa.specs.ValidRowFields.{used_fields}
 use Rattle.tc_isa.specs.Spelling.{row_word}
 use Rattle.tc_isa.specs.Insts.{InstData, IsInst, inst_fields}
-use Rattle.tc_encode.specs.Decoding.{decoded_row_length}
+use Rattle.tc_encode.specs.Decoding.{row_instruction_length}
 
 -- w is the word of the instruction
 pub record IsWordOf (w : ℕ) (i : InstData) : Type 0 where
@@ -50,7 +50,7 @@ with_low_bytes n a b = a % power_of_256 n + b / power_of_256 n * power_of_256 n
 -- the low n bytes of the instruction's word are `part`, and the instruction is longer than n bytes
 pub record IsCompletionOf (n part : ℕ) (i : InstData) : Type 0 where
   pub inst : IsInst i
-  pub longer : n < decoded_row_length inst.row
+  pub longer : n < row_instruction_length inst.row
   pub is : row_word inst.row (inst_fields i) % power_of_256 n ≡ part
 
 -- no instruction of the row with this number is longer than n bytes and has the low n bytes `part`
@@ -72,14 +72,14 @@ is_in_index_range place r (Some start) (Some end) = nat_le start place && nat_lt
 
 -- for the search by a word: each row, numbered from `place` on, is in the index range of its first
 -- byte, and the row at the start of that range has its form
-abbrev pub are_in_index_ranges : List ℕ → List ℕ → ℕ → List RowData → Bool
-are_in_index_ranges starts ends place [] = true
-are_in_index_ranges starts ends place (r ∷ rs) = is_in_index_range place r (slice_get starts r.op1) (slice_get ends r.op1) && are_in_index_ranges starts ends (suc place) rs
+abbrev pub are_rows_in_index_ranges : List ℕ → List ℕ → ℕ → List RowData → Bool
+are_rows_in_index_ranges starts ends place [] = true
+are_rows_in_index_ranges starts ends place (r ∷ rs) = is_in_index_range place r (slice_get starts r.op1) (slice_get ends r.op1) && are_rows_in_index_ranges starts ends (suc place) rs
 
 -- each row of the instruction table is in the index range of its first byte, from the entry of
 -- `starts` up to before that of `ends`, and the row at the range's start has the same form
 abbrev pub IndexesRowsByFirstByte : List ℕ → List ℕ → Type 0
-IndexesRowsByFirstByte starts ends = are_in_index_ranges starts ends 0 table_rows ≡ true
+IndexesRowsByFirstByte starts ends = are_rows_in_index_ranges starts ends 0 table_rows ≡ true
 
 -- the entry that the index of codes has for a search by a word is this row's number
 abbrev pub is_index_entry : ℕ → Option ℕ → Bool
@@ -94,14 +94,14 @@ is_at_index_place places place r (Some base) = is_index_entry place (slice_get p
 
 -- for the search by a word: the index has the place of each row, numbered from `place` on, by its
 -- first byte and second code
-abbrev pub are_at_index_places : List ℕ → List ℕ → ℕ → List RowData → Bool
-are_at_index_places bases places place [] = true
-are_at_index_places bases places place (r ∷ rs) = is_at_index_place places place r (slice_get bases r.op1) && are_at_index_places bases places (suc place) rs
+abbrev pub are_rows_indexed_by_opcodes : List ℕ → List ℕ → ℕ → List RowData → Bool
+are_rows_indexed_by_opcodes bases places place [] = true
+are_rows_indexed_by_opcodes bases places place (r ∷ rs) = is_at_index_place places place r (slice_get bases r.op1) && are_rows_indexed_by_opcodes bases places (suc place) rs
 
 -- the index has the number of each row of the instruction table, in the list of numbers at the base
 -- of the row's first opcode plus its second opcode
 abbrev pub IndexesRowsByOpcodes : List ℕ → List ℕ → Type 0
-IndexesRowsByOpcodes bases numbers = are_at_index_places bases numbers 0 table_rows ≡ true
+IndexesRowsByOpcodes bases numbers = are_rows_indexed_by_opcodes bases numbers 0 table_rows ≡ true
 
 -- each field is one that the row has, or always 0 in its form, so that the search by a word needn't
 -- test it
@@ -109,8 +109,8 @@ abbrev pub has_all_form_fields : Uses → Fields → Bool
 has_all_form_fields u b = (u.c || b.c == 1) && (u.s1 || b.s1 == 1) && (u.s2 || b.s2 == 1) && (u.n || b.n == 1) && (u.k || b.k == 1)
 
 -- the row has all fields of its form, so that the search by a word needn't test that others are 0
-abbrev pub is_full_row : RowData → Bool
-is_full_row r = has_all_form_fields (uses_of r) (field_bounds r.form)
+abbrev pub has_all_fields : RowData → Bool
+has_all_fields r = has_all_form_fields (used_fields r) (field_bounds r.form)
 
 -- the word to search an instruction by is 0 in the bits that its form has for no field and no code
 unfoldable pub are_unused_bits_zero : Form → ℕ → Bool

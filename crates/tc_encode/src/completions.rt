@@ -3,7 +3,7 @@ ghost use Rattle.std.specs.Prelude.{◌≡◌, ◌<◌, ◌≤◌, ◌%◌, IfSo
 ghost use Rattle.tc_isa.specs.Rows.{row_of, table_rows};
 ghost use Rattle.tc_isa.specs.ValidRowFields.{least_fields};
 ghost use Rattle.tc_isa.specs.Insts.{InstData};
-ghost use Rattle.tc_encode.specs.Decoding.{decoded_row_length, decoded_length};
+ghost use Rattle.tc_encode.specs.Decoding.{row_instruction_length, instruction_length};
 ghost use Rattle.tc_encode.specs.WordSearch.{IsCompletionOf, RowLacksCompletion, power_of_256};
 
 use crate::decoding::decode_row_word;
@@ -15,7 +15,7 @@ use tc_isa::{Fields, Inst, ROW_COUNT, Row, rows};
 /// first, or `None` if there is none. The lowest is `first`.
 pub fn completion(first: u8, n: u8, part: u32) -> Option<Inst>
     requires low { 1 ≤ n }
-    requires high { n < decoded_length first }
+    requires high { n < instruction_length first }
     requires part { part < power_of_256 n }
     requires first { first ≡ part % 256 }
     ensures some { IfSome result (IsCompletionOf n part) }
@@ -31,7 +31,7 @@ pub fn completion(first: u8, n: u8, part: u32) -> Option<Inst>
 fn completion_in_rows(from: u8, to: u8, first: u8, n: u8, part: u32) -> Option<Inst>
     requires places { to ≤ ROW_COUNT }
     requires low { 1 ≤ n }
-    requires high { n < decoded_length first }
+    requires high { n < instruction_length first }
     requires part { part < power_of_256 n }
     requires first { first ≡ part % 256 }
     ensures some { IfSome result (IsCompletionOf n part) }
@@ -51,7 +51,7 @@ fn completion_in_rows(from: u8, to: u8, first: u8, n: u8, part: u32) -> Option<I
 fn completion_at_row(place: u8, first: u8, n: u8, part: u32) -> Option<Inst>
     requires place { place < ROW_COUNT }
     requires low { 1 ≤ n }
-    requires high { n < decoded_length first }
+    requires high { n < instruction_length first }
     requires part { part < power_of_256 n }
     requires first { first ≡ part % 256 }
     ensures some { IfSome result (IsCompletionOf n part) }
@@ -71,7 +71,7 @@ fn completion_in_row(place: u8, row: &Row, n: u8, part: u32) -> Option<Inst>
     requires low { 1 ≤ n }
     requires high { n ≤ 3 }
     requires part { part < power_of_256 n }
-    requires longer { n < decoded_row_length (row_of row.now) }
+    requires longer { n < row_instruction_length (row_of row.now) }
     ensures some { IfSome result (IsCompletionOf n part) }
     ensures none { IfNone result (RowLacksCompletion place n part) }
 {

@@ -1,7 +1,7 @@
 // Decodes the instruction that bytes begin with.
 ghost use Rattle.std.specs.Prelude.{◌≡◌, ◌↔◌, Ok, ◌<◌, ◌≤◌, ◌%◌, ◌^◌, ℕ, List, [], ◌∷◌, length, Err, All, slice_index, IfOk, IfSome, IfNone, slice_get, Some};
 ghost use Rattle.tc_isa.specs.Insts.{InstData};
-ghost use Rattle.tc_encode.specs.Decoding.{BeginsWith, IsInstPrefix, decoded_of, decoded_length};
+ghost use Rattle.tc_encode.specs.Decoding.{BeginsWith, IsInstPrefix, decoded_of, instruction_length};
 ghost use Rattle.tcd_base.specs.Bytes.{number_from_bytes};
 ghost use Rattle.tc_isa.specs.Rows.{row_of, table_rows};
 ghost use Rattle.tc_encode.specs.WordSearch.{IsWordOf, RowLacksWord};
@@ -48,7 +48,7 @@ pub(crate) fn decode_row_word(place: u8, row: &Row, w: u32) -> Option<Inst>
 
 /// Returns the length of an instruction whose first byte is this one: 4 bytes if it is odd, else 2.
 pub(crate) fn instruction_length(first: u8) -> u8
-    ensures { result ≡ decoded_length first }
+    ensures { result ≡ instruction_length first }
 {
     if first % 2 == 1 { 4 } else { 2 }
 }
@@ -101,7 +101,7 @@ fn decode_16_bit(bytes: &[u8]) -> Result<(Inst, usize), DecodeErr>
 /// `Short` if they begin one, else `NotListed`. `part` has them, lowest first.
 fn decode_error(first: u8, n: u8, part: u32) -> DecodeErr
     requires low { 1 ≤ n }
-    requires high { n < decoded_length first }
+    requires high { n < instruction_length first }
     requires first { first ≡ part % 256 }
     requires part { part < 256 ^ n }
     ensures { (bytes : List ℕ) → length bytes ≡ n → All (λ b. b < 256) bytes

@@ -1,17 +1,17 @@
 // The words of instructions, form by form.
 ghost use Rattle.std.specs.Prelude.{◌≡◌, ◌<◌, ◌^◌};
-ghost use Rattle.tc_isa.specs.Forms.{field_bounds, second_code_bound, word_fields, second_code_by_form};
-ghost use Rattle.tc_isa.specs.Spelling.{word_by_form};
+ghost use Rattle.tc_isa.specs.Forms.{field_bounds, second_opcode_bound, fields_of_word, second_opcode};
+ghost use Rattle.tc_isa.specs.Spelling.{word_of_fields};
 ghost use Rattle.tc_isa.specs.InBounds.{AreFieldsBelow};
 
 use tc_isa::{Fields, Form};
 
 /// Returns the fields in the word of an instruction of this form.
-#[tactic(auto, unfolding(tc_isa::specs::Forms::word_fields))]
+#[tactic(auto, unfolding(tc_isa::specs::Forms::fields_of_word))]
 #[inline(always)]
 pub fn fields_of_word(form: Form, w: u32) -> Fields
     requires { w < 2 ^ 32 }
-    ensures { result ≡ word_fields form w }
+    ensures { result ≡ fields_of_word form w }
 {
     match form {
         Form::Rlc => Fields {
@@ -120,10 +120,10 @@ pub fn fields_of_word(form: Form, w: u32) -> Fields
 
 /// Returns the second operation code in the word of an instruction of this form, or 0 if the form
 /// has none.
-#[tactic(auto, unfolding(tc_isa::specs::Forms::second_code_by_form))]
+#[tactic(auto, unfolding(tc_isa::specs::Forms::second_opcode))]
 pub fn second_opcode(form: Form, w: u32) -> u8
     requires { w < 2 ^ 32 }
-    ensures { result ≡ second_code_by_form form w }
+    ensures { result ≡ second_opcode form w }
 {
     match form {
         Form::Rr => (w / 1048576 % 256) as u8,
@@ -137,11 +137,11 @@ pub fn second_opcode(form: Form, w: u32) -> u8
 }
 
 /// Returns the word of the instruction of this form with these operation codes and fields.
-#[tactic(auto, unfolding(tc_isa::specs::Spelling::word_by_form, tc_isa::specs::Forms::field_bounds, tc_isa::specs::Forms::second_code_bound))]
+#[tactic(auto, unfolding(tc_isa::specs::Spelling::word_of_fields, tc_isa::specs::Forms::field_bounds, tc_isa::specs::Forms::second_opcode_bound))]
 pub fn word_of_fields(form: Form, op1: u8, op2: u8, f: &Fields) -> u32
-    requires second { op2 < second_code_bound form }
+    requires second { op2 < second_opcode_bound form }
     requires below { AreFieldsBelow f.now (field_bounds form) }
-    ensures { result ≡ word_by_form form op1 op2 f.now }
+    ensures { result ≡ word_of_fields form op1 op2 f.now }
 {
     let op1 = u32::from(op1);
     let op2 = u32::from(op2);

@@ -2,7 +2,7 @@
 ghost use Rattle.std.specs.Prelude.{◌≡◌, length, map, true, nat_le, nat_lt, ◌<◌, ℕ, IfSome, slice_get, Some};
 ghost use Rattle.std.specs.List.{list_all};
 ghost use Rattle.tc_isa.specs.Rows.{table_rows, RowData};
-ghost use Rattle.tc_encode.specs.WordSearch.{IndexesRowsByFirstByte, IndexesRowsByOpcodes, is_full_row};
+ghost use Rattle.tc_encode.specs.WordSearch.{IndexesRowsByFirstByte, IndexesRowsByOpcodes, has_all_fields};
 ghost use Rattle.tc_isa.specs.Forms.{form_index};
 
 use tc_isa::{Form, ROW_COUNT, rows};
@@ -243,7 +243,7 @@ static PLAIN: [bool; ROW_COUNT] = [
 /// Returns for each row of the table, by number, whether it has all fields of its form.
 #[tactic(auto, unfolding(tc_isa::specs::Forms::field_bounds))]
 pub fn has_all_fields_by_row() -> &'static [bool; ROW_COUNT]
-    ensures { result.now ≡ map is_full_row table_rows }
+    ensures { result.now ≡ map has_all_fields table_rows }
 {
     &PLAIN
 }

@@ -1,9 +1,9 @@
 // Finds the instruction of a word by the index of codes.
 ghost use Rattle.std.specs.Prelude.{◌≡◌, ◌<◌, ◌%◌, ℕ, IfSome, IfNone, slice_get, Some};
 ghost use Rattle.tc_isa.specs.Rows.{RowData, row_of, table_rows};
-ghost use Rattle.tc_isa.specs.Forms.{second_code_by_form, field_bounds};
+ghost use Rattle.tc_isa.specs.Forms.{second_opcode, field_bounds};
 ghost use Rattle.tc_isa.specs.InBounds.{AreFieldsBelow};
-ghost use Rattle.tc_isa.specs.ValidRowFields.{uses_of, are_unused_fields_zero};
+ghost use Rattle.tc_isa.specs.ValidRowFields.{used_fields, are_unused_fields_zero};
 ghost use Rattle.tc_encode.specs.WordSearch.{EvenWordHas16Bits, IsWordOf, NoInstructionHasWord, RowLacksWord, are_unused_bits_zero};
 
 use crate::forms::{fields_of_word, second_opcode};
@@ -33,7 +33,7 @@ pub(crate) fn instruction_in_row(place: u8, row: &Row, w: u32) -> Option<Inst>
     requires place { slice_get table_rows place ≡ Some (row_of row.now) }
     requires within { place < ROW_COUNT }
     requires first { row.now.op1 ≡ w % 256 }
-    requires second { row.now.op2 ≡ second_code_by_form row.now.form w }
+    requires second { row.now.op2 ≡ second_opcode row.now.form w }
     requires short { EvenWordHas16Bits w }
     ensures some { IfSome result (IsWordOf w) }
     ensures none { IfNone result (RowLacksWord place w) }
@@ -64,7 +64,7 @@ pub(crate) fn instruction_by_opcodes(place: u8, first: u8, second: u8, w: u32) -
     requires place { place < ROW_COUNT }
     requires first { first ≡ w % 256 }
     requires second { (r : RowData) → slice_get table_rows place ≡ Some r → r.op1 ≡ first
-        → second ≡ second_code_by_form r.form w }
+        → second ≡ second_opcode r.form w }
     requires short { EvenWordHas16Bits w }
     ensures some { IfSome result (IsWordOf w) }
     ensures none { IfNone result (RowLacksWord place w) }
@@ -84,7 +84,7 @@ pub(crate) fn instruction_by_opcodes(place: u8, first: u8, second: u8, w: u32) -
 /// this byte.
 fn second_opcode_by_first_byte(first: u8, w: u32) -> u8
     ensures { (place : ℕ) (r : RowData) → slice_get table_rows place ≡ Some r → r.op1 ≡ first
-        → result ≡ second_code_by_form r.form w }
+        → result ≡ second_opcode r.form w }
 {
     second_opcode(form_of_first_byte(first), w)
 }
@@ -107,7 +107,7 @@ fn are_missing_fields_zero(place: u8, row: &Row, f: &Fields) -> bool
     requires place { slice_get table_rows place ≡ Some (row_of row.now) }
     requires within { place < ROW_COUNT }
     requires below { AreFieldsBelow f.now (field_bounds row.now.form) }
-    ensures { result ≡ are_unused_fields_zero (uses_of (row_of row.now)) f.now }
+    ensures { result ≡ are_unused_fields_zero (used_fields (row_of row.now)) f.now }
 {
     let at = usize::from(place);
     has_all_fields_by_row()[at] || are_unused_fields_zero(&used_fields_by_row()[at], f)

@@ -7,7 +7,7 @@ use Rattle.tcd_base.proofs.OptionLaws.{some_same}
 use Rattle.tc_isa.specs.Rows.{RowData, row_of, table_rows}
 use Rattle.tc_isa.specs.declared.table.Row.{Row}
 use Rattle.tc_isa.specs.declared.fields.Uses.{Uses}
-use Rattle.tc_isa.specs.ValidRowFields.{FieldsFitRow, uses_of}
+use Rattle.tc_isa.specs.ValidRowFields.{FieldsFitRow, used_fields}
 use Rattle.tc_isa.specs.Insts.{InstData, IsInst, inst_fields}
 use Rattle.tc_isa.proofs.Places.{at_here, uses_here}
 
@@ -28,8 +28,8 @@ inst_within rows i are is =
     let b : length table_rows ≡ length rows = sym (ap length are) ∙ length-map rows row_of in
     subst (λ n. i.row < n) b a
 
-pub uses_listed : (rows : List Row) (uses : List Uses) (i : ℕ) (d : Row) (u : Uses) → map row_of rows ≡ table_rows → uses ≡ map uses_of table_rows → i < length rows → get_or uses i u ≡ uses_of (row_of (get_or rows i d))
-uses_listed rows uses i d u are is within = uses_here rows uses i d u (is ∙ ap (map uses_of) (sym are)) within
+pub uses_listed : (rows : List Row) (uses : List Uses) (i : ℕ) (d : Row) (u : Uses) → map row_of rows ≡ table_rows → uses ≡ map used_fields table_rows → i < length rows → get_or uses i u ≡ used_fields (row_of (get_or rows i d))
+uses_listed rows uses i d u are is within = uses_here rows uses i d u (is ∙ ap (map used_fields) (sym are)) within
 
 -- the row of an instruction is the one at this place of the program's table
 pub row_of_inst : (rows : List Row) (p : ℕ) (d : Row) (i : InstData) (is : IsInst i) → map row_of rows ≡ table_rows → p ≡ i.row → is.row ≡ row_of (get_or rows p d)

@@ -11,18 +11,18 @@ use Rattle.tc_isa.specs.declared.table.Form.{Form}
 use Rattle.tc_isa.specs.declared.table.Form.TheVariants.{Rlc}
 use Rattle.tc_isa.specs.Rows.{table_rows}
 use Rattle.tc_isa.specs.Forms.{field_bounds}
-use Rattle.tc_isa.specs.InBounds.{AreFieldsBelow, AreFieldsSmall}
+use Rattle.tc_isa.specs.InBounds.{AreFieldsBelow, FieldsFitTheirBits}
 use Rattle.tc_isa.specs.Insts.{InstData, IsInst, inst_fields}
 use Rattle.tc_isa.specs.Meanings.{MeaningLine, meanings, meaning_by_line, shape_of}
 use Rattle.tc_isa.specs.FromFields.{shape_from_fields}
 
 -- bounds of the fields of a form
-small_in : (form : Form) (f : Fields) → AreFieldsBelow f (field_bounds form) → AreFieldsSmall f
+small_in : (form : Form) (f : Fields) → AreFieldsBelow f (field_bounds form) → FieldsFitTheirBits f
 unfolding field_bounds
 small_in Rlc f b = record { c = omega arith; s1 = omega arith; s2 = omega arith; n = omega arith; k = omega arith }
 small_in _ f b = record { c = omega arith; s1 = omega arith; s2 = omega arith; n = omega arith; k = omega arith }
 
-pub small : (i : InstData) → IsInst i → AreFieldsSmall (inst_fields i)
+pub small : (i : InstData) → IsInst i → FieldsFitTheirBits (inst_fields i)
 small i is = small_in is.row.form (inst_fields i) is.fits.below
 
 count_listed : length table_rows ≡ ROW_COUNT

@@ -6,8 +6,8 @@ use Rattle.std.specs.List.{list_all}
 use Rattle.std.proofs.lemmas.Bool.{ltb-true, and_parts}
 use Rattle.std.proofs.lemmas.List.Sums.{AllPass-from_list_all}
 use Rattle.tc_isa.specs.Rows.{RowData, table_rows}
-use Rattle.tc_isa.specs.Forms.{second_code_bound, field_bounds, is_32_bit_form, form_index}
-use Rattle.tc_isa.specs.ValidRowFields.{IsRow, is_row, are_bools_equal, have_no_clashing_codes}
+use Rattle.tc_isa.specs.Forms.{second_opcode_bound, field_bounds, is_32_bit_form, form_index}
+use Rattle.tc_isa.specs.ValidRowFields.{IsRow, is_row, are_bools_equal, have_no_clashing_opcodes}
 
 same_tested : (a b : Bool) → are_bools_equal a b ≡ true → a ≡ b
 same_tested true true e = refl
@@ -39,7 +39,7 @@ row_from r e =
     }
 
 pub all_tested : list_all is_row table_rows ≡ true
-unfolding is_row second_code_bound field_bounds is_32_bit_form
+unfolding is_row second_opcode_bound field_bounds is_32_bit_form
 all_tested = refl
 
 pub rows_are : All IsRow table_rows
@@ -48,6 +48,6 @@ rows_are = λ k d h. row_from _ (AllPass-from_list_all is_row table_rows all_tes
 pub row_at : (place : ℕ) (r : RowData) → slice_get table_rows place ≡ Some r → IsRow r
 row_at place r at = subst IsRow (get_or_from_slice_get table_rows place r r at) (rows_are place r (slice_get_within table_rows place r at))
 
-pub rows_are_apart : have_no_clashing_codes table_rows ≡ true
+pub rows_are_apart : have_no_clashing_opcodes table_rows ≡ true
 unfolding form_index
 rows_are_apart = refl

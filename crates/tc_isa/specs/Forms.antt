@@ -32,68 +32,68 @@ field_bounds Ssr = fields 1 16 16 1 1
 
 -- the bound, exclusive, of the second operation code in instructions of this form; 1 for a form
 -- without one
-unfoldable pub second_code_bound : Form → ℕ
-second_code_bound Rlc = 1
-second_code_bound Rr = 256
-second_code_bound Rc = 128
-second_code_bound Bol = 1
-second_code_bound Bo = 64
-second_code_bound Brr = 2
-second_code_bound Brc = 2
-second_code_bound B = 1
-second_code_bound Abs = 4
-second_code_bound Sys = 64
-second_code_bound Sr = 16
-second_code_bound Sc = 1
-second_code_bound Sb = 1
-second_code_bound Sbr = 1
-second_code_bound Src = 1
-second_code_bound Srr = 1
-second_code_bound Slr = 1
-second_code_bound Ssr = 1
+unfoldable pub second_opcode_bound : Form → ℕ
+second_opcode_bound Rlc = 1
+second_opcode_bound Rr = 256
+second_opcode_bound Rc = 128
+second_opcode_bound Bol = 1
+second_opcode_bound Bo = 64
+second_opcode_bound Brr = 2
+second_opcode_bound Brc = 2
+second_opcode_bound B = 1
+second_opcode_bound Abs = 4
+second_opcode_bound Sys = 64
+second_opcode_bound Sr = 16
+second_opcode_bound Sc = 1
+second_opcode_bound Sb = 1
+second_opcode_bound Sbr = 1
+second_opcode_bound Src = 1
+second_opcode_bound Srr = 1
+second_opcode_bound Slr = 1
+second_opcode_bound Ssr = 1
 
 -- the fields in the word of an instruction of this form; 0 for a field that the form doesn't have
-unfoldable pub word_fields : Form → ℕ → Fields
-word_fields Rlc w = fields (w / 2 ^ 28) (w / 2 ^ 8 % 16) (0) (0) (w / 2 ^ 12 % 2 ^ 16)
-word_fields Rr w = fields (w / 2 ^ 28) (w / 2 ^ 8 % 16) (w / 2 ^ 12 % 16) (w / 2 ^ 16 % 4) (0)
-word_fields Rc w = fields (w / 2 ^ 28) (w / 2 ^ 8 % 16) (0) (0) (w / 2 ^ 12 % 512)
-word_fields Bol w = fields (0) (w / 2 ^ 8 % 16) (w / 2 ^ 12 % 16) (0) (w / 2 ^ 28 * 64 + w / 2 ^ 22 % 64 * 1024 + w / 2 ^ 16 % 64)
-word_fields Bo w = fields (0) (w / 2 ^ 8 % 16) (w / 2 ^ 12 % 16) (0) (w / 2 ^ 28 * 64 + w / 2 ^ 16 % 64)
-word_fields Brr w = fields (0) (w / 2 ^ 8 % 16) (w / 2 ^ 12 % 16) (0) (w / 2 ^ 16 % 2 ^ 15)
-word_fields Brc w = fields (0) (w / 2 ^ 8 % 16) (w / 2 ^ 12 % 16) (0) (w / 2 ^ 16 % 2 ^ 15)
-word_fields B w = fields (0) (0) (0) (0) (w / 2 ^ 8 % 256 * 2 ^ 16 + w / 2 ^ 16)
-word_fields Abs w = fields (0) (w / 2 ^ 8 % 16) (0) (0) (w / 2 ^ 28 * 64 + w / 2 ^ 22 % 16 * 1024 + w / 2 ^ 16 % 64 + w / 2 ^ 12 % 16 * 2 ^ 14)
-word_fields Sys w = fields (0) (0) (0) (0) (0)
-word_fields Sr w = fields (0) (w / 2 ^ 8 % 16) (0) (0) (0)
-word_fields Sc w = fields (0) (0) (0) (0) (w / 2 ^ 8 % 256)
-word_fields Sb w = fields (0) (0) (0) (0) (w / 2 ^ 8 % 256)
-word_fields Sbr w = fields (0) (0) (w / 2 ^ 12 % 16) (0) (w / 2 ^ 8 % 16)
-word_fields Src w = fields (0) (w / 2 ^ 8 % 16) (0) (0) (w / 2 ^ 12 % 16)
-word_fields Srr w = fields (0) (w / 2 ^ 8 % 16) (w / 2 ^ 12 % 16) (0) (0)
-word_fields Slr w = fields (0) (w / 2 ^ 8 % 16) (w / 2 ^ 12 % 16) (0) (0)
-word_fields Ssr w = fields (0) (w / 2 ^ 8 % 16) (w / 2 ^ 12 % 16) (0) (0)
+unfoldable pub fields_of_word : Form → ℕ → Fields
+fields_of_word Rlc w = fields (w / 2 ^ 28) (w / 2 ^ 8 % 16) (0) (0) (w / 2 ^ 12 % 2 ^ 16)
+fields_of_word Rr w = fields (w / 2 ^ 28) (w / 2 ^ 8 % 16) (w / 2 ^ 12 % 16) (w / 2 ^ 16 % 4) (0)
+fields_of_word Rc w = fields (w / 2 ^ 28) (w / 2 ^ 8 % 16) (0) (0) (w / 2 ^ 12 % 512)
+fields_of_word Bol w = fields (0) (w / 2 ^ 8 % 16) (w / 2 ^ 12 % 16) (0) (w / 2 ^ 28 * 64 + w / 2 ^ 22 % 64 * 1024 + w / 2 ^ 16 % 64)
+fields_of_word Bo w = fields (0) (w / 2 ^ 8 % 16) (w / 2 ^ 12 % 16) (0) (w / 2 ^ 28 * 64 + w / 2 ^ 16 % 64)
+fields_of_word Brr w = fields (0) (w / 2 ^ 8 % 16) (w / 2 ^ 12 % 16) (0) (w / 2 ^ 16 % 2 ^ 15)
+fields_of_word Brc w = fields (0) (w / 2 ^ 8 % 16) (w / 2 ^ 12 % 16) (0) (w / 2 ^ 16 % 2 ^ 15)
+fields_of_word B w = fields (0) (0) (0) (0) (w / 2 ^ 8 % 256 * 2 ^ 16 + w / 2 ^ 16)
+fields_of_word Abs w = fields (0) (w / 2 ^ 8 % 16) (0) (0) (w / 2 ^ 28 * 64 + w / 2 ^ 22 % 16 * 1024 + w / 2 ^ 16 % 64 + w / 2 ^ 12 % 16 * 2 ^ 14)
+fields_of_word Sys w = fields (0) (0) (0) (0) (0)
+fields_of_word Sr w = fields (0) (w / 2 ^ 8 % 16) (0) (0) (0)
+fields_of_word Sc w = fields (0) (0) (0) (0) (w / 2 ^ 8 % 256)
+fields_of_word Sb w = fields (0) (0) (0) (0) (w / 2 ^ 8 % 256)
+fields_of_word Sbr w = fields (0) (0) (w / 2 ^ 12 % 16) (0) (w / 2 ^ 8 % 16)
+fields_of_word Src w = fields (0) (w / 2 ^ 8 % 16) (0) (0) (w / 2 ^ 12 % 16)
+fields_of_word Srr w = fields (0) (w / 2 ^ 8 % 16) (w / 2 ^ 12 % 16) (0) (0)
+fields_of_word Slr w = fields (0) (w / 2 ^ 8 % 16) (w / 2 ^ 12 % 16) (0) (0)
+fields_of_word Ssr w = fields (0) (w / 2 ^ 8 % 16) (w / 2 ^ 12 % 16) (0) (0)
 
 -- the second code in the word of an instruction, from the bits where its form has it; 0 for a form
 -- without one
-unfoldable pub second_code_by_form : Form → ℕ → ℕ
-second_code_by_form Rlc w = 0
-second_code_by_form Rr w = w / 2 ^ 20 % 256
-second_code_by_form Rc w = w / 2 ^ 21 % 128
-second_code_by_form Bol w = 0
-second_code_by_form Bo w = w / 2 ^ 22 % 64
-second_code_by_form Brr w = w / 2 ^ 31
-second_code_by_form Brc w = w / 2 ^ 31
-second_code_by_form B w = 0
-second_code_by_form Abs w = w / 2 ^ 26 % 4
-second_code_by_form Sys w = w / 2 ^ 22 % 64
-second_code_by_form Sr w = w / 2 ^ 12 % 16
-second_code_by_form Sc w = 0
-second_code_by_form Sb w = 0
-second_code_by_form Sbr w = 0
-second_code_by_form Src w = 0
-second_code_by_form Srr w = 0
-second_code_by_form Slr w = 0
-second_code_by_form Ssr w = 0
+unfoldable pub second_opcode : Form → ℕ → ℕ
+second_opcode Rlc w = 0
+second_opcode Rr w = w / 2 ^ 20 % 256
+second_opcode Rc w = w / 2 ^ 21 % 128
+second_opcode Bol w = 0
+second_opcode Bo w = w / 2 ^ 22 % 64
+second_opcode Brr w = w / 2 ^ 31
+second_opcode Brc w = w / 2 ^ 31
+second_opcode B w = 0
+second_opcode Abs w = w / 2 ^ 26 % 4
+second_opcode Sys w = w / 2 ^ 22 % 64
+second_opcode Sr w = w / 2 ^ 12 % 16
+second_opcode Sc w = 0
+second_opcode Sb w = 0
+second_opcode Sbr w = 0
+second_opcode Src w = 0
+second_opcode Srr w = 0
+second_opcode Slr w = 0
+second_opcode Ssr w = 0
 
 -- instructions of this form have 32 bits; those of the other forms have 16
 unfoldable pub is_32_bit_form : Form → Bool

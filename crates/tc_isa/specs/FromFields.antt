@@ -60,58 +60,58 @@ abbrev pub forward_distance : Fields → ℕ
 forward_distance f = 2 * f.k % 2 ^ 32
 
 -- the register that a field names, or a fixed one
-abbrev pub shape_register : RegField → Fields → ℕ
-shape_register Dc f = d f.c
-shape_register Ds1 f = d f.s1
-shape_register Ds2 f = d f.s2
-shape_register D15 f = d 15
-shape_register Ac f = a f.c
-shape_register As1 f = a f.s1
-shape_register As2 f = a f.s2
-shape_register A10 f = a 10
+abbrev pub register_from_fields : RegField → Fields → ℕ
+register_from_fields Dc f = d f.c
+register_from_fields Ds1 f = d f.s1
+register_from_fields Ds2 f = d f.s2
+register_from_fields D15 f = d 15
+register_from_fields Ac f = a f.c
+register_from_fields As1 f = a f.s1
+register_from_fields As2 f = a f.s2
+register_from_fields A10 f = a 10
 
 -- the word of a constant, from the fields
-abbrev pub shape_constant : Immediate → Fields → ℕ
-shape_constant Zero f = 0
-shape_constant Signed4 f = sk 4 f
-shape_constant Signed9 f = sk 9 f
-shape_constant Signed10 f = sk 10 f
-shape_constant Signed16 f = sk 16 f
-shape_constant Unsigned f = uk f
-shape_constant High f = high_constant f
-shape_constant Address f = address_in_constant f
-shape_constant SignedS2 f = sign_extended 4 (f.s2 % 2 ^ 4)
-shape_constant UnsignedS2 f = f.s2
+abbrev pub constant_from_fields : Immediate → Fields → ℕ
+constant_from_fields Zero f = 0
+constant_from_fields Signed4 f = sk 4 f
+constant_from_fields Signed9 f = sk 9 f
+constant_from_fields Signed10 f = sk 10 f
+constant_from_fields Signed16 f = sk 16 f
+constant_from_fields Unsigned f = uk f
+constant_from_fields High f = high_constant f
+constant_from_fields Address f = address_in_constant f
+constant_from_fields SignedS2 f = sign_extended 4 (f.s2 % 2 ^ 4)
+constant_from_fields UnsignedS2 f = f.s2
 
 -- an operand from the fields: a register, or the word of a constant
-abbrev pub shape_operand : Operand → Fields → Arg
-shape_operand (At p) f = Reg (shape_register p f)
-shape_operand (Of c) f = Word (shape_constant c f)
+abbrev pub operand_from_fields : Operand → Fields → Arg
+operand_from_fields (At p) f = Reg (register_from_fields p f)
+operand_from_fields (Of c) f = Word (constant_from_fields c f)
 
 -- the distance in bytes of a jump or a branch, from its displacement
-abbrev pub shape_distance : Displacement → Fields → ℕ
-shape_distance Ahead8 f = doubled_displacement 8 f
-shape_distance Ahead15 f = doubled_displacement 15 f
-shape_distance Ahead24 f = doubled_displacement 24 f
-shape_distance AheadOnly f = forward_distance f
+abbrev pub distance_from_fields : Displacement → Fields → ℕ
+distance_from_fields Ahead8 f = doubled_displacement 8 f
+distance_from_fields Ahead15 f = doubled_displacement 15 f
+distance_from_fields Ahead24 f = doubled_displacement 24 f
+distance_from_fields AheadOnly f = forward_distance f
 
 -- the target of a jump or a call, from the fields
-abbrev pub shape_target : Destination → Fields → Target
-shape_target (By b) f = target.Rel (shape_distance b f)
-shape_target Code f = target.Abs (code_address_in_constant f)
-shape_target (In p) f = target.Reg (shape_register p f)
+abbrev pub target_from_fields : Destination → Fields → Target
+target_from_fields (By b) f = target.Rel (distance_from_fields b f)
+target_from_fields Code f = target.Abs (code_address_in_constant f)
+target_from_fields (In p) f = target.Reg (register_from_fields p f)
 
 -- what the instruction does, with these fields
 abbrev pub shape_from_fields : Meaning → Fields → Shape
-shape_from_fields (Computes op dst x y) f = Compute op (shape_register dst f) (shape_operand x f) (shape_operand y f)
-shape_from_fields (Scales dst base index) f = Scaled (shape_register dst f) (shape_register base f) (shape_register index f) f.n
-shape_from_fields (Loads dst base offset size sign after) f = Load (shape_register dst f) (shape_operand base f) (shape_constant offset f) size sign after
-shape_from_fields (Stores src base offset size after) f = Store (shape_register src f) (shape_operand base f) (shape_constant offset f) size after
-shape_from_fields (Branches cond x y by lowers) f = Branch cond (shape_register x f) (shape_operand y f) (shape_distance by f) lowers
-shape_from_fields (Jumps to) f = Jump (shape_target to f)
-shape_from_fields (Calls to) f = Call (shape_target to f)
+shape_from_fields (Computes op dst x y) f = Compute op (register_from_fields dst f) (operand_from_fields x f) (operand_from_fields y f)
+shape_from_fields (Scales dst base index) f = Scaled (register_from_fields dst f) (register_from_fields base f) (register_from_fields index f) f.n
+shape_from_fields (Loads dst base offset size sign after) f = Load (register_from_fields dst f) (operand_from_fields base f) (constant_from_fields offset f) size sign after
+shape_from_fields (Stores src base offset size after) f = Store (register_from_fields src f) (operand_from_fields base f) (constant_from_fields offset f) size after
+shape_from_fields (Branches cond x y by lowers) f = Branch cond (register_from_fields x f) (operand_from_fields y f) (distance_from_fields by f) lowers
+shape_from_fields (Jumps to) f = Jump (target_from_fields to f)
+shape_from_fields (Calls to) f = Call (target_from_fields to f)
 shape_from_fields Masks f = Bisr (uk f % 256)
 shape_from_fields Traps f = Syscall (uk f % 256)
-shape_from_fields (ReadsCore dst) f = Mfcr (shape_register dst f) (uk f % 2 ^ 16)
-shape_from_fields (WritesCore src) f = Mtcr (shape_register src f) (uk f % 2 ^ 16)
+shape_from_fields (ReadsCore dst) f = Mfcr (register_from_fields dst f) (uk f % 2 ^ 16)
+shape_from_fields (WritesCore src) f = Mtcr (register_from_fields src f) (uk f % 2 ^ 16)
 shape_from_fields (Always s) f = s

@@ -15,43 +15,43 @@ abbrev pub IsRegister : ℕ → Type 0
 IsRegister r = r < 32
 
 -- an operand: one of the registers, or a word
-abbrev pub IsArg : Arg → Type 0
-IsArg (Reg r) = IsRegister r
-IsArg (Word w) = IsWord w
+abbrev pub IsArgInBounds : Arg → Type 0
+IsArgInBounds (Reg r) = IsRegister r
+IsArgInBounds (Word w) = IsWord w
 
 -- a target: a distance, an address, or one of the registers
-abbrev pub IsTarget : Target → Type 0
-IsTarget (target.Rel w) = IsWord w
-IsTarget (target.Abs w) = IsWord w
-IsTarget (target.Reg r) = IsRegister r
+abbrev pub IsTargetInBounds : Target → Type 0
+IsTargetInBounds (target.Rel w) = IsWord w
+IsTargetInBounds (target.Abs w) = IsWord w
+IsTargetInBounds (target.Reg r) = IsRegister r
 
 -- the size of an access in the shape of an instruction is in bounds: one, two or four bytes
-abbrev pub IsShapeAccessSize : ℕ → Type 0
-IsShapeAccessSize n = (n ≡ 1) ⊎ ((n ≡ 2) ⊎ (n ≡ 4))
+abbrev pub IsOneTwoOrFour : ℕ → Type 0
+IsOneTwoOrFour n = (n ≡ 1) ⊎ ((n ≡ 2) ⊎ (n ≡ 4))
 
 -- the registers, words, sizes and numbers of a shape are within their bounds
-abbrev pub IsShape : Shape → Type 0
-IsShape (Compute op dst x y) = IsRegister dst × IsArg x × IsArg y
-IsShape (Scaled dst base index n) = IsRegister dst × IsRegister base × IsRegister index × (n < 4)
-IsShape (Load dst base offset size sign after) = IsRegister dst × IsArg base × IsWord offset × IsShapeAccessSize size
-IsShape (Store src base offset size after) = IsRegister src × IsArg base × IsWord offset × IsShapeAccessSize size
-IsShape (Branch cond x y by lowers) = IsRegister x × IsArg y × IsWord by
-IsShape (Jump to) = IsTarget to
-IsShape (Call to) = IsTarget to
-IsShape Ret = Unit {0}
-IsShape Rfe = Unit {0}
-IsShape Svlcx = Unit {0}
-IsShape Rslcx = Unit {0}
-IsShape (Bisr c) = c < 256
-IsShape Enable = Unit {0}
-IsShape Disable = Unit {0}
-IsShape (Syscall tin) = tin < 256
-IsShape (Mfcr dst number) = IsRegister dst × (number < 2 ^ 16)
-IsShape (Mtcr src number) = IsRegister src × (number < 2 ^ 16)
-IsShape Nothing = Unit {0}
+abbrev pub IsShapeInBounds : Shape → Type 0
+IsShapeInBounds (Compute op dst x y) = IsRegister dst × IsArgInBounds x × IsArgInBounds y
+IsShapeInBounds (Scaled dst base index n) = IsRegister dst × IsRegister base × IsRegister index × (n < 4)
+IsShapeInBounds (Load dst base offset size sign after) = IsRegister dst × IsArgInBounds base × IsWord offset × IsOneTwoOrFour size
+IsShapeInBounds (Store src base offset size after) = IsRegister src × IsArgInBounds base × IsWord offset × IsOneTwoOrFour size
+IsShapeInBounds (Branch cond x y by lowers) = IsRegister x × IsArgInBounds y × IsWord by
+IsShapeInBounds (Jump to) = IsTargetInBounds to
+IsShapeInBounds (Call to) = IsTargetInBounds to
+IsShapeInBounds Ret = Unit {0}
+IsShapeInBounds Rfe = Unit {0}
+IsShapeInBounds Svlcx = Unit {0}
+IsShapeInBounds Rslcx = Unit {0}
+IsShapeInBounds (Bisr c) = c < 256
+IsShapeInBounds Enable = Unit {0}
+IsShapeInBounds Disable = Unit {0}
+IsShapeInBounds (Syscall tin) = tin < 256
+IsShapeInBounds (Mfcr dst number) = IsRegister dst × (number < 2 ^ 16)
+IsShapeInBounds (Mtcr src number) = IsRegister src × (number < 2 ^ 16)
+IsShapeInBounds Nothing = Unit {0}
 
 -- the fields of an instruction are small: register fields have four bits, n two, and k at most 24
-pub record AreFieldsSmall (f : Fields) : Type 0 where
+pub record FieldsFitTheirBits (f : Fields) : Type 0 where
   pub c : f.c < 16
   pub s1 : f.s1 < 16
   pub s2 : f.s2 < 16

@@ -8,29 +8,29 @@ use Rattle.tc_isa.specs.declared.table.Form.{Form}
 use Rattle.tc_isa.specs.declared.table.Form.TheVariants.{Rlc, Rr, Rc, Bol, Bo, Brr, Brc, B, Abs, Sys, Sr, Sc, Sb, Sbr, Src, Srr, Slr, Ssr}
 
 -- the spelling of an instruction of this form as one number, the first byte lowest
-unfoldable pub word_by_form : Form → ℕ → ℕ → Fields → ℕ
-word_by_form Rlc op1 op2 f = f.c * 2 ^ 28 + f.k * 2 ^ 12 + f.s1 * 2 ^ 8 + op1
-word_by_form Rr op1 op2 f = f.c * 2 ^ 28 + op2 * 2 ^ 20 + f.n * 2 ^ 16 + f.s2 * 2 ^ 12 + f.s1 * 2 ^ 8 + op1
-word_by_form Rc op1 op2 f = f.c * 2 ^ 28 + op2 * 2 ^ 21 + f.k * 2 ^ 12 + f.s1 * 2 ^ 8 + op1
-word_by_form Bol op1 op2 f = f.k / 64 % 16 * 2 ^ 28 + f.k / 1024 * 2 ^ 22 + f.k % 64 * 2 ^ 16 + f.s2 * 2 ^ 12 + f.s1 * 2 ^ 8 + op1
-word_by_form Bo op1 op2 f = f.k / 64 * 2 ^ 28 + op2 * 2 ^ 22 + f.k % 64 * 2 ^ 16 + f.s2 * 2 ^ 12 + f.s1 * 2 ^ 8 + op1
-word_by_form Brr op1 op2 f = op2 * 2 ^ 31 + f.k * 2 ^ 16 + f.s2 * 2 ^ 12 + f.s1 * 2 ^ 8 + op1
-word_by_form Brc op1 op2 f = op2 * 2 ^ 31 + f.k * 2 ^ 16 + f.s2 * 2 ^ 12 + f.s1 * 2 ^ 8 + op1
-word_by_form B op1 op2 f = f.k % 2 ^ 16 * 2 ^ 16 + f.k / 2 ^ 16 * 2 ^ 8 + op1
-word_by_form Abs op1 op2 f = f.k / 64 % 16 * 2 ^ 28 + op2 * 2 ^ 26 + f.k / 1024 % 16 * 2 ^ 22 + f.k % 64 * 2 ^ 16 + f.k / 2 ^ 14 * 2 ^ 12 + f.s1 * 2 ^ 8 + op1
-word_by_form Sys op1 op2 f = op2 * 2 ^ 22 + op1
-word_by_form Sr op1 op2 f = op2 * 2 ^ 12 + f.s1 * 2 ^ 8 + op1
-word_by_form Sc op1 op2 f = f.k * 2 ^ 8 + op1
-word_by_form Sb op1 op2 f = f.k * 2 ^ 8 + op1
-word_by_form Sbr op1 op2 f = f.s2 * 2 ^ 12 + f.k * 2 ^ 8 + op1
-word_by_form Src op1 op2 f = f.k * 2 ^ 12 + f.s1 * 2 ^ 8 + op1
-word_by_form Srr op1 op2 f = f.s2 * 2 ^ 12 + f.s1 * 2 ^ 8 + op1
-word_by_form Slr op1 op2 f = f.s2 * 2 ^ 12 + f.s1 * 2 ^ 8 + op1
-word_by_form Ssr op1 op2 f = f.s2 * 2 ^ 12 + f.s1 * 2 ^ 8 + op1
+unfoldable pub word_of_fields : Form → ℕ → ℕ → Fields → ℕ
+word_of_fields Rlc op1 op2 f = f.c * 2 ^ 28 + f.k * 2 ^ 12 + f.s1 * 2 ^ 8 + op1
+word_of_fields Rr op1 op2 f = f.c * 2 ^ 28 + op2 * 2 ^ 20 + f.n * 2 ^ 16 + f.s2 * 2 ^ 12 + f.s1 * 2 ^ 8 + op1
+word_of_fields Rc op1 op2 f = f.c * 2 ^ 28 + op2 * 2 ^ 21 + f.k * 2 ^ 12 + f.s1 * 2 ^ 8 + op1
+word_of_fields Bol op1 op2 f = f.k / 64 % 16 * 2 ^ 28 + f.k / 1024 * 2 ^ 22 + f.k % 64 * 2 ^ 16 + f.s2 * 2 ^ 12 + f.s1 * 2 ^ 8 + op1
+word_of_fields Bo op1 op2 f = f.k / 64 * 2 ^ 28 + op2 * 2 ^ 22 + f.k % 64 * 2 ^ 16 + f.s2 * 2 ^ 12 + f.s1 * 2 ^ 8 + op1
+word_of_fields Brr op1 op2 f = op2 * 2 ^ 31 + f.k * 2 ^ 16 + f.s2 * 2 ^ 12 + f.s1 * 2 ^ 8 + op1
+word_of_fields Brc op1 op2 f = op2 * 2 ^ 31 + f.k * 2 ^ 16 + f.s2 * 2 ^ 12 + f.s1 * 2 ^ 8 + op1
+word_of_fields B op1 op2 f = f.k % 2 ^ 16 * 2 ^ 16 + f.k / 2 ^ 16 * 2 ^ 8 + op1
+word_of_fields Abs op1 op2 f = f.k / 64 % 16 * 2 ^ 28 + op2 * 2 ^ 26 + f.k / 1024 % 16 * 2 ^ 22 + f.k % 64 * 2 ^ 16 + f.k / 2 ^ 14 * 2 ^ 12 + f.s1 * 2 ^ 8 + op1
+word_of_fields Sys op1 op2 f = op2 * 2 ^ 22 + op1
+word_of_fields Sr op1 op2 f = op2 * 2 ^ 12 + f.s1 * 2 ^ 8 + op1
+word_of_fields Sc op1 op2 f = f.k * 2 ^ 8 + op1
+word_of_fields Sb op1 op2 f = f.k * 2 ^ 8 + op1
+word_of_fields Sbr op1 op2 f = f.s2 * 2 ^ 12 + f.k * 2 ^ 8 + op1
+word_of_fields Src op1 op2 f = f.k * 2 ^ 12 + f.s1 * 2 ^ 8 + op1
+word_of_fields Srr op1 op2 f = f.s2 * 2 ^ 12 + f.s1 * 2 ^ 8 + op1
+word_of_fields Slr op1 op2 f = f.s2 * 2 ^ 12 + f.s1 * 2 ^ 8 + op1
+word_of_fields Ssr op1 op2 f = f.s2 * 2 ^ 12 + f.s1 * 2 ^ 8 + op1
 
 -- the word of a row's instruction with these fields: its bytes as one number, the first lowest
 abbrev pub row_word : RowData → Fields → ℕ
-row_word r f = word_by_form r.form r.op1 r.op2 f
+row_word r f = word_of_fields r.form r.op1 r.op2 f
 
 -- the bytes of an instruction's word, lowest first: four if the Bool is true (32 bits), else two
 abbrev pub four_or_two_bytes : Bool → ℕ → List ℕ

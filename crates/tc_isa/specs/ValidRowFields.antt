@@ -4,7 +4,7 @@ use Rattle.std.specs.List.{list_any}
 use Rattle.tc_isa.specs.Rows.{RowData, is_32_bit_row}
 use Rattle.tc_isa.specs.declared.fields.Fields.{Fields}
 use Rattle.tc_isa.specs.declared.fields.Uses.{Uses}
-use Rattle.tc_isa.specs.Forms.{field_bounds, second_code_bound, fields, is_32_bit_form, form_index}
+use Rattle.tc_isa.specs.Forms.{field_bounds, second_opcode_bound, fields, is_32_bit_form, form_index}
 use Rattle.tc_isa.specs.InBounds.{AreFieldsBelow, are_fields_below}
 
 -- these two characters stand side by side in the text of a row's operands: s1 or s2 for the field
@@ -20,8 +20,8 @@ abbrev pub has_operand_byte : ℕ → List ℕ → Bool
 has_operand_byte a xs = list_any (λ x. x == a) xs
 
 -- which fields a row has, by letters in the text of its operands: c; s1; s2 or k4; n; k, T or U
-abbrev pub uses_of : RowData → Uses
-uses_of r = record {
+abbrev pub used_fields : RowData → Uses
+used_fields r = record {
   c = has_operand_byte 99 r.operands;
   s1 = has_operand_pair 115 49 r.operands;
   s2 = has_operand_pair 115 50 r.operands || has_operand_pair 107 52 r.operands;
@@ -42,7 +42,7 @@ are_registers_allowed r f = not ((r.op1 == 9 || r.op1 == 137) && r.op2 == 6) || 
 -- with registers that the row allows
 pub record FieldsFitRow (r : RowData) (f : Fields) : Type 0 where
   pub below : AreFieldsBelow f (field_bounds r.form)
-  pub zero : are_unused_fields_zero (uses_of r) f ≡ true
+  pub zero : are_unused_fields_zero (used_fields r) f ≡ true
   pub apart : are_registers_allowed r f ≡ true
 
 -- two truth values are equal, as those must be that say whether a valid row and its form are long
@@ -57,21 +57,21 @@ least_fields r = if are_registers_allowed r (fields 0 0 0 0 0) then fields 0 0 0
 -- a row of the instruction table is valid: its codes fit the form, and its least fields the row
 pub record IsRow (r : RowData) : Type 0 where
   pub first : r.op1 < 256
-  pub second : r.op2 < second_code_bound r.form
+  pub second : r.op2 < second_opcode_bound r.form
   pub has_least : FieldsFitRow r (least_fields r)
   pub size : is_32_bit_row r ≡ is_32_bit_form r.form
 
 -- the test that a row of the instruction table is valid: its codes fit the form, and its least
 -- fields the row
 unfoldable pub is_row : RowData → Bool
-is_row r = nat_lt r.op1 256 && nat_lt r.op2 (second_code_bound r.form) && are_fields_below (least_fields r) (field_bounds r.form) && are_unused_fields_zero (uses_of r) (least_fields r) && are_registers_allowed r (least_fields r) && are_bools_equal (is_32_bit_row r) (is_32_bit_form r.form)
+is_row r = nat_lt r.op1 256 && nat_lt r.op2 (second_opcode_bound r.form) && are_fields_below (least_fields r) (field_bounds r.form) && are_unused_fields_zero (used_fields r) (least_fields r) && are_registers_allowed r (least_fields r) && are_bools_equal (is_32_bit_row r) (is_32_bit_form r.form)
 
 -- two rows clash if some word could be both: they have one first code, and different forms or equal
 -- second codes
-abbrev pub have_clashing_codes : RowData → RowData → Bool
-have_clashing_codes r s = r.op1 == s.op1 && (not (form_index r.form == form_index s.form) || r.op2 == s.op2)
+abbrev pub have_clashing_opcodes : RowData → RowData → Bool
+have_clashing_opcodes r s = r.op1 == s.op1 && (not (form_index r.form == form_index s.form) || r.op2 == s.op2)
 
 -- no two rows of the list have codes that clash
-abbrev pub have_no_clashing_codes : List RowData → Bool
-have_no_clashing_codes [] = true
-have_no_clashing_codes (r ∷ rs) = not (list_any (have_clashing_codes r) rs) && have_no_clashing_codes rs
+abbrev pub have_no_clashing_opcodes : List RowData → Bool
+have_no_clashing_opcodes [] = true
+have_no_clashing_opcodes (r ∷ rs) = not (list_any (have_clashing_opcodes r) rs) && have_no_clashing_opcodes rs

@@ -1,7 +1,7 @@
 // Builds an instruction from the number of a row, if the fields fit the row.
 ghost use Rattle.std.specs.Prelude.{◌≡◌, ◌↔◌, IsTrue, IsSome, IfSome};
 ghost use Rattle.tc_isa.specs.Rows.{row_of};
-ghost use Rattle.tc_isa.specs.ValidRowFields.{FieldsFitRow, uses_of, are_registers_allowed};
+ghost use Rattle.tc_isa.specs.ValidRowFields.{FieldsFitRow, used_fields, are_registers_allowed};
 ghost use Rattle.tc_isa.specs.Insts.{IsInst};
 ghost use Rattle.tc_isa.specs.NamedInstructions.{instruction};
 
@@ -54,7 +54,7 @@ pub fn are_registers_allowed(row: &Row, f: &Fields) -> bool
 
 /// Returns true if the fields fit the row, so that an instruction can be built from them.
 fn fields_fit_row(row: &Row, uses: &Uses, fields: &Fields) -> bool
-    requires { uses.now ≡ uses_of (row_of row.now) }
+    requires { uses.now ≡ used_fields (row_of row.now) }
     ensures { IsTrue result ↔ FieldsFitRow (row_of row.now) fields.now }
 {
     are_fields_below(fields, &field_bounds(row.form))

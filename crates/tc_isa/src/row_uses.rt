@@ -1,7 +1,7 @@
 // The fields that each row has, as its operands say. Printed by tools/rows.py.
 ghost use Rattle.std.specs.Prelude.{◌≡◌, map};
 ghost use Rattle.tc_isa.specs.Rows.{table_rows};
-ghost use Rattle.tc_isa.specs.ValidRowFields.{uses_of, are_unused_fields_zero};
+ghost use Rattle.tc_isa.specs.ValidRowFields.{used_fields, are_unused_fields_zero};
 
 use crate::{Fields, ROW_COUNT, Uses};
 
@@ -248,7 +248,7 @@ static USES: [Uses; ROW_COUNT] = [
 
 /// Returns for each row of the table, in order, which fields its instructions have.
 pub fn used_fields_by_row() -> &'static [Uses]
-    ensures { result.now ≡ map uses_of table_rows }
+    ensures { result.now ≡ map used_fields table_rows }
 {
     &USES
 }

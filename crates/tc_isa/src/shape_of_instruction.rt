@@ -3,8 +3,8 @@ ghost use Rattle.std.specs.Prelude.{◌≡◌, map};
 ghost use Rattle.tc_isa.specs.Insts.{InstData, IsInst};
 ghost use Rattle.tc_isa.specs.Rows.{table_rows};
 ghost use Rattle.tc_isa.specs.Meanings.{shape_of, meanings};
-ghost use Rattle.tc_isa.specs.InBounds.{IsShape, AreFieldsSmall};
-ghost use Rattle.tc_isa.specs.FromFields.{shape_register, shape_operand, shape_distance, shape_target, shape_from_fields, shape_constant};
+ghost use Rattle.tc_isa.specs.InBounds.{IsShapeInBounds, FieldsFitTheirBits};
+ghost use Rattle.tc_isa.specs.FromFields.{register_from_fields, operand_from_fields, distance_from_fields, target_from_fields, shape_from_fields, constant_from_fields};
 
 use crate::meaning::{Destination, Displacement, Immediate, Meaning, Operand, RegField};
 use crate::row_meanings::row_meanings;
@@ -14,7 +14,7 @@ use tcd_base::sext;
 /// Returns what the instruction does: the meaning of its row, with its fields.
 pub fn shape(inst: &Inst) -> Shape
     ensures shape { result ≡ shape_of inst.now }
-    ensures bounded { IsShape result }
+    ensures bounded { IsShapeInBounds result }
 {
     let fields = Fields {
         c: inst.c,
@@ -29,14 +29,14 @@ pub fn shape(inst: &Inst) -> Shape
 /// Laws of instructions' shapes: registers are below 32, words below 2^32, sizes 1, 2 or 4. The
 /// table of meanings has the rows' names.
 pub fn shape_laws()
-    ensures bounded { (i : InstData) → IsInst i → IsShape (shape_of i) }
+    ensures bounded { (i : InstData) → IsInst i → IsShapeInBounds (shape_of i) }
     ensures names { map (λ l. l.name) meanings ≡ map (λ r. r.name) table_rows }
 {}
 
 /// Returns the word of a constant in what an instruction does (its shape), from its fields by the
 /// meaning of its row.
 pub(crate) fn constant_from_fields(constant: Immediate, f: &Fields) -> u32
-    ensures { result ≡ shape_constant constant f.now }
+    ensures { result ≡ constant_from_fields constant f.now }
 {
     match constant {
         Immediate::Zero => 0,
@@ -54,7 +54,7 @@ pub(crate) fn constant_from_fields(constant: Immediate, f: &Fields) -> u32
 
 /// Returns what an instruction of this meaning does with these fields.
 fn shape_from_fields(meaning: &Meaning, f: &Fields) -> Shape
-    requires { AreFieldsSmall f.now }
+    requires { FieldsFitTheirBits f.now }
     ensures { result ≡ shape_from_fields meaning.now f.now }
 {
     match *meaning {
@@ -119,8 +119,8 @@ fn shape_from_fields(meaning: &Meaning, f: &Fields) -> Shape
 /// Returns the number of a register in what an instruction does (its shape), by the meaning of its
 /// row: that of a field, or a fixed one.
 fn register_from_fields(place: RegField, f: &Fields) -> u8
-    requires { AreFieldsSmall f.now }
-    ensures { result ≡ shape_register place f.now }
+    requires { FieldsFitTheirBits f.now }
+    ensures { result ≡ register_from_fields place f.now }
 {
     match place {
         RegField::Dc => f.c,
@@ -136,8 +136,8 @@ fn register_from_fields(place: RegField, f: &Fields) -> u8
 
 /// Returns an operand of an instruction's shape: a register, or the word of a constant.
 fn operand_from_fields(operand: Operand, f: &Fields) -> Arg
-    requires { AreFieldsSmall f.now }
-    ensures { result ≡ shape_operand operand f.now }
+    requires { FieldsFitTheirBits f.now }
+    ensures { result ≡ operand_from_fields operand f.now }
 {
     match operand {
         Operand::At(place) => Arg::Reg(register_from_fields(place, f)),
@@ -147,7 +147,7 @@ fn operand_from_fields(operand: Operand, f: &Fields) -> Arg
 
 /// Returns the distance in bytes of a jump or a branch, from its displacement.
 fn distance_from_fields(distance: Displacement, f: &Fields) -> u32
-    ensures { result ≡ shape_distance distance f.now }
+    ensures { result ≡ distance_from_fields distance f.now }
 {
     match distance {
         Displacement::Ahead8 => sext(f.k % 256, 8).wrapping_mul(2),
@@ -159,8 +159,8 @@ fn distance_from_fields(distance: Displacement, f: &Fields) -> u32
 
 /// Returns the target of a jump or a call, from the fields.
 fn target_from_fields(goal: Destination, f: &Fields) -> Target
-    requires { AreFieldsSmall f.now }
-    ensures { result ≡ shape_target goal f.now }
+    requires { FieldsFitTheirBits f.now }
+    ensures { result ≡ target_from_fields goal f.now }
 {
     match goal {
         Destination::By(by) => Target::Rel(distance_from_fields(by, f)),

@@ -1,6 +1,6 @@
 // The registers that an instruction writes by itself.
 ghost use Rattle.std.specs.Prelude.{◌≡◌, ◌<◌};
-ghost use Rattle.tc_isa.specs.InBounds.{IsArg};
+ghost use Rattle.tc_isa.specs.InBounds.{IsArgInBounds};
 ghost use Rattle.tc_isa.specs.Writes.{written_registers, increased_base_bit, register_bit};
 
 use crate::shape_of_instruction::shape;
@@ -37,7 +37,7 @@ fn register_bit(register: u8) -> u32
 /// Returns the bit, in the mask of written registers, of the base register of an access with
 /// post-increment (`after`), or 0 without post-increment.
 fn increased_base_bit(after: bool, base: Arg) -> u32
-    requires { IsArg base }
+    requires { IsArgInBounds base }
     ensures { result ≡ increased_base_bit after base }
 {
     match base {

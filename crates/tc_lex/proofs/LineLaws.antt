@@ -13,7 +13,7 @@ use Rattle.tc_lex.specs.declared.kinds.Front.{Front}
 use Rattle.tc_lex.specs.declared.kinds.Front.TheVariants as front
 use Rattle.tcd_base.specs.NameBytes.{is_name_start}
 use Rattle.tc_lex.specs.Bytes.{is_digit, is_blank}
-use Rattle.tc_lex.specs.Cut.{cut, token_front_by_byte, tokens_after_front, with_first_tokens, token, tokens_of, IsLongestToken, BeginsNoToken, AreBlanks, IsNextToken, AreTokens, AreAllTokens, IsStrayByte, IsTokenPastLimit, IsTokenFault}
+use Rattle.tc_lex.specs.Cut.{tokens_after_skip, first_token_by_byte, tokens_after_front, with_first_tokens, token, tokens_of, IsLongestToken, BeginsNoToken, AreBlanks, IsNextToken, AreTokens, AreAllTokens, IsStrayByte, IsTokenPastLimit, IsTokenFault}
 use Rattle.tc_lex.proofs.TextLaws.{empty_none}
 use Rattle.tc_lex.proofs.LongestLaws.{comma_longest, colon_longest, open_longest, close_longest, plus_longest, minus_longest, word_longest, number_longest, begins_none}
 
@@ -40,8 +40,8 @@ alone c k cs kind longest e = told (rw ((Decides-eqb c k).0 e) longest)
 not_passed : (c : ℕ) → (c == 35) ≡ false → (c == 32) ≡ false → (c == 9) ≡ false → (is_blank c || c == 35) ≡ false
 not_passed c h b t = rw (b, t, h) refl
 
-front_says : (c : ℕ) (cs : List ℕ) → Says c cs (token_front_by_byte c (c ∷ cs))
-unfolding token_front_by_byte
+front_says : (c : ℕ) (cs : List ℕ) → Says c cs (first_token_by_byte c (c ∷ cs))
+unfolding first_token_by_byte
 front_says c cs =
     says_if c cs (c == 35) _ _ (λ e. ended ((Decides-eqb c 35).0 e)) (λ hash.
     says_if c cs (c == 32) _ _ (λ e. blank (rw e refl)) (λ space.
@@ -123,14 +123,14 @@ module _ (line : List ℕ) where
         rw (eqb-suc-zero room, less) (in_front at room (token kind at len) (next room (at + 1) (len - 1)) (next_is kind len longest) (rw there at (rest room (len - 1) fits)))
 
   -- the rest of the line after a place
-  pub cut_means : (text : List ℕ) (room at skip : ℕ) → drop at line ≡ text → at + skip ≤ length line → Meaning (at + skip) room (cut text room at skip)
-  unfolding cut
+  pub cut_means : (text : List ℕ) (room at skip : ℕ) → drop at line ≡ text → at + skip ≤ length line → Meaning (at + skip) room (tokens_after_skip text room at skip)
+  unfolding tokens_after_skip
   cut_means [] room at skip e h =
       let ended_at : length line ≤ at + skip = omega (arith, length-drop at line, ap length e) in
       record { stop = at + skip; ends = inl (omega arith); tokens = none_from (at + skip) h; few = omega arith }
   cut_means (c ∷ cs) room at zero e h =
       let same : at + 0 ≡ at = omega arith in
-      rw same (follow_means at c cs e (token_front_by_byte c (c ∷ cs)) room (cut cs) (front_says c cs) (λ r s fits. cut_means cs r (at + 1) s (sym (drop-drop 1 at line) ∙ ap (drop 1) e) fits))
+      rw same (follow_means at c cs e (first_token_by_byte c (c ∷ cs)) room (tokens_after_skip cs) (front_says c cs) (λ r s fits. cut_means cs r (at + 1) s (sym (drop-drop 1 at line) ∙ ap (drop 1) e) fits))
   cut_means (c ∷ cs) room at (suc skip) e h =
       let same : at + suc skip ≡ at + 1 + skip = omega arith in
       rw same (cut_means cs room (at + 1) skip (sym (drop-drop 1 at line) ∙ ap (drop 1) e) (omega arith))

@@ -8,7 +8,7 @@ use Rattle.tc_lex.specs.Numbers.{token_number}
 use Rattle.tc_lex.specs.Pieces.{PieceData, is_token_kind, token_text, kind_index}
 use Rattle.tc_lex.specs.declared.operand.Shape.TheVariants as shape
 use Rattle.std.proofs.lemmas.Bool.Decides.{Decides-eqb}
-use Rattle.tc_lex.specs.Operands.{ValueData, value_with_shape, number_operand_value, operand_number_at, name_or_sum_at, symbol_value_at, operand_value_at, plain_operand, operand}
+use Rattle.tc_lex.specs.Operands.{ValueData, value_with_shape, number_operand_value, operand_number_at, name_or_sum_at, symbol_value_at, operand_value_at, plain_operand, operand_of_tokens}
 
 other : (k : TokenKind) (i : ℕ) → (kind_index k == 0) ≡ true → i ≡ 1 → (kind_index k == i) ≡ false
 unfolding kind_index
@@ -53,23 +53,23 @@ word_value ps at e h =
 abbrev token_with : TokenKind → List ℕ → PieceData
 token_with k text = record { kind = k; text = text }
 
-lone_word_of : (k : TokenKind) (text : List ℕ) → is_token_kind (token_with k text ∷ []) 0 Word ≡ true → plain_operand (value_with_shape shape.Word text false 0) ≡ operand (token_with k text ∷ [])
-unfolding operand operand_value_at operand_number_at symbol_value_at name_or_sum_at is_token_kind kind_index token_text
+lone_word_of : (k : TokenKind) (text : List ℕ) → is_token_kind (token_with k text ∷ []) 0 Word ≡ true → plain_operand (value_with_shape shape.Word text false 0) ≡ operand_of_tokens (token_with k text ∷ [])
+unfolding operand_of_tokens operand_value_at operand_number_at symbol_value_at name_or_sum_at is_token_kind kind_index token_text
 lone_word_of Word text e = refl
 lone_word_of _ text e = cc
 
-lone_number_of : (k : TokenKind) (text : List ℕ) → is_token_kind (token_with k text ∷ []) 0 Number ≡ true → plain_operand (number_operand_value false (token_number text)) ≡ operand (token_with k text ∷ [])
-unfolding operand operand_value_at operand_number_at is_token_kind kind_index token_text
+lone_number_of : (k : TokenKind) (text : List ℕ) → is_token_kind (token_with k text ∷ []) 0 Number ≡ true → plain_operand (number_operand_value false (token_number text)) ≡ operand_of_tokens (token_with k text ∷ [])
+unfolding operand_of_tokens operand_value_at operand_number_at is_token_kind kind_index token_text
 lone_number_of Number text e = refl
 lone_number_of _ text e = cc
 
-pub lone_word : (ps : List PieceData) → length ps ≡ 1 → is_token_kind ps 0 Word ≡ true → plain_operand (value_with_shape shape.Word (token_text ps 0) false 0) ≡ operand ps
+pub lone_word : (ps : List PieceData) → length ps ≡ 1 → is_token_kind ps 0 Word ≡ true → plain_operand (value_with_shape shape.Word (token_text ps 0) false 0) ≡ operand_of_tokens ps
 unfolding token_text
 lone_word [] n e = absurd (omega arith)
 lone_word (p ∷ []) n e = lone_word_of p.kind p.text e
 lone_word (p ∷ q ∷ qs) n e = absurd (omega arith)
 
-pub lone_number : (ps : List PieceData) → length ps ≡ 1 → is_token_kind ps 0 Number ≡ true → plain_operand (number_operand_value false (token_number (token_text ps 0))) ≡ operand ps
+pub lone_number : (ps : List PieceData) → length ps ≡ 1 → is_token_kind ps 0 Number ≡ true → plain_operand (number_operand_value false (token_number (token_text ps 0))) ≡ operand_of_tokens ps
 unfolding token_text
 lone_number [] n e = absurd (omega arith)
 lone_number (p ∷ []) n e = lone_number_of p.kind p.text e

@@ -9,7 +9,7 @@ use Rattle.std.proofs.lemmas.List.Sums.{fails_before_first}
 use Rattle.tc_lex.specs.declared.kinds.TokenKind.TheVariants.{Word}
 use Rattle.tc_lex.specs.declared.pieces.Piece.{Piece}
 use Rattle.tc_lex.specs.Pieces.{PieceData, piece_of}
-use Rattle.tc_lex.specs.Operands.{OperandData, operand, operands, is_comma}
+use Rattle.tc_lex.specs.Operands.{OperandData, operand_of_tokens, operands_of_tokens, is_comma}
 use Rattle.tc_lex.proofs.Mapped.{position-map}
 use Rattle.std.proofs.lemmas.Bool.{ltb-true, ltb-false}
 
@@ -30,22 +30,22 @@ split_whole xs e =
     slice_split_none is_comma xs (λ k d h. fails_before_first is_comma xs k d (omega (arith, past)))
 
 pub parted_more : (out : List OperandData) (ps : List Piece) (i : ℕ) → position (λ p. is_comma (piece_of p)) ps ≡ Some i
-    → (out ++ operand (take i (map piece_of ps)) ∷ []) ++ map operand (slice_split is_comma (map piece_of (drop (i + 1) ps))) ≡ out ++ map operand (slice_split is_comma (map piece_of ps))
+    → (out ++ operand_of_tokens (take i (map piece_of ps)) ∷ []) ++ map operand_of_tokens (slice_split is_comma (map piece_of (drop (i + 1) ps))) ≡ out ++ map operand_of_tokens (slice_split is_comma (map piece_of ps))
 parted_more out ps i e =
-    append_assoc out (operand (take i (map piece_of ps)) ∷ []) (map operand (slice_split is_comma (map piece_of (drop (i + 1) ps))))
-    ∙ ap (λ xs. out ++ (operand (take i (map piece_of ps)) ∷ map operand (slice_split is_comma xs))) (sym (drop-map piece_of (i + 1) ps))
-    ∙ ap (λ parts. out ++ map operand parts) (sym (split_at (map piece_of ps) i (sym (position-map is_comma piece_of ps) ∙ e)))
+    append_assoc out (operand_of_tokens (take i (map piece_of ps)) ∷ []) (map operand_of_tokens (slice_split is_comma (map piece_of (drop (i + 1) ps))))
+    ∙ ap (λ xs. out ++ (operand_of_tokens (take i (map piece_of ps)) ∷ map operand_of_tokens (slice_split is_comma xs))) (sym (drop-map piece_of (i + 1) ps))
+    ∙ ap (λ parts. out ++ map operand_of_tokens parts) (sym (split_at (map piece_of ps) i (sym (position-map is_comma piece_of ps) ∙ e)))
 
 pub parted_end : (out : List OperandData) (ps : List Piece) → position (λ p. is_comma (piece_of p)) ps ≡ None
-    → out ++ operand (map piece_of ps) ∷ [] ≡ out ++ map operand (slice_split is_comma (map piece_of ps))
-parted_end out ps e = ap (λ parts. out ++ map operand parts) (sym (split_whole (map piece_of ps) (sym (position-map is_comma piece_of ps) ∙ e)))
+    → out ++ operand_of_tokens (map piece_of ps) ∷ [] ≡ out ++ map operand_of_tokens (slice_split is_comma (map piece_of ps))
+parted_end out ps e = ap (λ parts. out ++ map operand_of_tokens parts) (sym (split_whole (map piece_of ps) (sym (position-map is_comma piece_of ps) ∙ e)))
 
-pub operands-some : (ps : List Piece) → 0 < length ps → map operand (slice_split is_comma (map piece_of ps)) ≡ operands (map piece_of ps)
-unfolding operands
+pub operands-some : (ps : List Piece) → 0 < length ps → map operand_of_tokens (slice_split is_comma (map piece_of ps)) ≡ operands_of_tokens (map piece_of ps)
+unfolding operands_of_tokens
 operands-some [] h = absurd (omega arith)
 operands-some (p ∷ ps) h = refl
 
-pub operands-none : (ps : List Piece) → length ps ≡ 0 → [] ≡ operands (map piece_of ps)
-unfolding operands
+pub operands-none : (ps : List Piece) → length ps ≡ 0 → [] ≡ operands_of_tokens (map piece_of ps)
+unfolding operands_of_tokens
 operands-none [] h = refl
 operands-none (p ∷ ps) h = absurd (omega arith)

@@ -22,8 +22,8 @@ number_len bs = if has_hex_prefix bs then 2 + prefix_len is_hex_digit (drop 2 bs
 
 -- what the rest of a line with this first byte begins with: a token with its length, a blank, the
 -- end, or a bad byte
-unfoldable pub token_front_by_byte : ℕ → List ℕ → Front
-token_front_by_byte c text =
+unfoldable pub first_token_by_byte : ℕ → List ℕ → Front
+first_token_by_byte c text =
     if c == 35 then front.End
     else (if c == 32 then front.Blank
     else (if c == 9 then front.Blank
@@ -38,9 +38,9 @@ token_front_by_byte c text =
     else front.Bad))))))))))
 
 -- what the rest of a line begins with: a token with its length, a blank, the end, or a bad byte
-abbrev pub token_front_of : List ℕ → Front
-token_front_of [] = front.End
-token_front_of (c ∷ cs) = token_front_by_byte c (c ∷ cs)
+abbrev pub first_token_of : List ℕ → Front
+first_token_of [] = front.End
+first_token_of (c ∷ cs) = first_token_by_byte c (c ∷ cs)
 
 -- the token that a text begins with has at least one byte, and ends within the text
 abbrev pub IsTokenWithin : Front → ℕ → Type 0
@@ -67,14 +67,14 @@ tokens_after_front front.Bad room at next = Err at
 tokens_after_front (front.Token kind len) room at next = if room == 0 then Err at else with_first_tokens (token kind at len ∷ []) (next (room - 1) (at + 1) (len - 1))
 
 -- The tokens of a text after its first `skip` bytes, at most `room`, or the first bad place.
-unfoldable pub cut : List ℕ → ℕ → ℕ → ℕ → Result (List Token) ℕ
-cut [] room at skip = Ok []
-cut (c ∷ cs) room at zero = tokens_after_front (token_front_of (c ∷ cs)) room at (cut cs)
-cut (c ∷ cs) room at (suc skip) = cut cs room (at + 1) skip
+unfoldable pub tokens_after_skip : List ℕ → ℕ → ℕ → ℕ → Result (List Token) ℕ
+tokens_after_skip [] room at skip = Ok []
+tokens_after_skip (c ∷ cs) room at zero = tokens_after_front (first_token_of (c ∷ cs)) room at (tokens_after_skip cs)
+tokens_after_skip (c ∷ cs) room at (suc skip) = tokens_after_skip cs room (at + 1) skip
 
 -- the tokens of a line, at most 64, or the place of the first byte that can't be taken
 abbrev pub tokens_of : List ℕ → Result (List Token) ℕ
-tokens_of line = cut line 64 0 0
+tokens_of line = tokens_after_skip line 64 0 0
 
 -- the code's answer for a line is this: the tokens, or the place of a fault
 abbrev pub GivesTokens : Result (ArrayVec Token) ℕ → Result (List Token) ℕ → Type 0

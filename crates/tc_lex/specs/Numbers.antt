@@ -12,12 +12,12 @@ abbrev pub below_2_128 : ℕ → Option ℕ
 below_2_128 n = if nat_lt n (2 ^ 128) then Some n else None
 
 -- the number of a token with one more digit, if it is below 2^128
-unfoldable pub add_digit : ℕ → Option ℕ → ℕ → Option ℕ
-add_digit base o c = option_and_then (λ n. below_2_128 (n * base + token_digit_value c)) o
+unfoldable pub append_digit : ℕ → Option ℕ → ℕ → Option ℕ
+append_digit base o c = option_and_then (λ n. below_2_128 (n * base + token_digit_value c)) o
 
 -- the number that these digits spell, if it is below 2^128
 abbrev pub number_by_digits : ℕ → List ℕ → Option ℕ
-number_by_digits base text = fold (add_digit base) (Some 0) text
+number_by_digits base text = fold (append_digit base) (Some 0) text
 
 -- the number of a token: hexadecimal after `0x`, else decimal
 unfoldable pub token_number : List ℕ → Option ℕ
@@ -32,5 +32,5 @@ unfoldable pub exact_token_number : List ℕ → ℕ
 exact_token_number text = if has_hex_prefix text then exact_number_by_digits 16 (drop 2 text) else exact_number_by_digits 10 text
 
 -- a token's number is what its digits spell, if that is below 2^128
-abbrev pub NumberLaw : Type 0
-NumberLaw = (text : List ℕ) → token_number text ≡ below_2_128 (exact_token_number text)
+abbrev pub TokenNumbersAreExact : Type 0
+TokenNumbersAreExact = (text : List ℕ) → token_number text ≡ below_2_128 (exact_token_number text)

@@ -95,8 +95,8 @@ abbrev pub bracketed_operand : Bool → List ℕ → ValueData → OperandData
 bracketed_operand plus base v = record { is_memory = true; plus = plus; base = base; value = v }
 
 -- an operand: `[BASE]` or `[BASE+]` and a value, or a value alone
-unfoldable pub operand : List PieceData → OperandData
-operand ps =
+unfoldable pub operand_of_tokens : List PieceData → OperandData
+operand_of_tokens ps =
     if is_token_kind ps 0 kind.Open
     then (if is_token_kind ps 1 kind.Word
     then (if is_token_kind ps 2 kind.Close then bracketed_operand false (token_text ps 1) (operand_value_at ps 3)
@@ -110,6 +110,6 @@ abbrev pub is_comma : PieceData → Bool
 is_comma p = kind_index p.kind == 2
 
 -- the operands that a line's tokens spell, separated by commas
-unfoldable pub operands : List PieceData → List OperandData
-operands [] = []
-operands (p ∷ ps) = map operand (slice_split is_comma (p ∷ ps))
+unfoldable pub operands_of_tokens : List PieceData → List OperandData
+operands_of_tokens [] = []
+operands_of_tokens (p ∷ ps) = map operand_of_tokens (slice_split is_comma (p ∷ ps))

@@ -3,7 +3,7 @@ ghost use Rattle.std.specs.Prelude.{◌≡◌, ◌<◌, ◌≤◌, ◌-◌, drop
 ghost use Rattle.std.specs.List.{prefix_len};
 ghost use Rattle.tc_lex.specs.Bytes.{is_digit, is_hex_digit};
 ghost use Rattle.tcd_base.specs.NameBytes.{is_name_byte};
-ghost use Rattle.tc_lex.specs.Cut.{has_hex_prefix, number_len, token_front_of, token_front_by_byte, IsTokenWithin};
+ghost use Rattle.tc_lex.specs.Cut.{has_hex_prefix, number_len, first_token_of, first_token_by_byte, IsTokenWithin};
 
 use crate::bytes::{is_digit, is_hex_digit};
 use crate::kinds::{Front, TokenKind};
@@ -13,7 +13,7 @@ use tcd_base::{is_name_byte, is_name_start};
 /// What byte `at` of a line begins: the longest token there, a blank, the end, or a bad byte.
 pub(crate) fn longest_token_at(line: &[u8], at: usize) -> Front
     requires { at < length line.now }
-    ensures value { result ≡ token_front_of (drop at line.now) }
+    ensures value { result ≡ first_token_of (drop at line.now) }
     ensures within { IsTokenWithin result (length line.now - at) }
 {
     first_token_by_byte(line[at], &line[at..])
@@ -21,11 +21,11 @@ pub(crate) fn longest_token_at(line: &[u8], at: usize) -> Front
 
 // What the rest of a source's line begins with: a token with its length, a blank, the end, or a bad
 // byte. `c` is the first byte of that rest.
-#[tactic(auto, unfolding(crate::specs::Cut::token_front_by_byte))]
+#[tactic(auto, unfolding(crate::specs::Cut::first_token_by_byte))]
 fn first_token_by_byte(c: u8, text: &[u8]) -> Front
     requires some { 0 < length text.now }
     requires first { c ≡ slice_index text.now 0 }
-    ensures value { result ≡ token_front_by_byte c text.now }
+    ensures value { result ≡ first_token_by_byte c text.now }
     ensures within { IsTokenWithin result (length text.now) }
 {
     if c == b'#' {

@@ -1,6 +1,6 @@
 // Reads the numbers that tokens spell.
 ghost use Rattle.std.specs.Prelude.{◌≡◌, ◌<◌, Some, length, ◌-◌, IsTrue};
-ghost use Rattle.tc_lex.specs.Numbers.{token_digit_value, add_digit, number_by_digits, token_number};
+ghost use Rattle.tc_lex.specs.Numbers.{token_digit_value, append_digit, number_by_digits, token_number};
 ghost use Rattle.tc_lex.specs.Bytes.{is_hex_digit};
 ghost use Rattle.tc_lex.specs.Cut.{has_hex_prefix};
 
@@ -39,9 +39,9 @@ fn number_by_digits(base: u8, text: &[u8]) -> Option<u128>
 }
 
 /// The number of a token with one more digit c, in base 10 or 16; `None` if 2^128 or more.
-#[tactic(auto, unfolding(crate::specs::Numbers::add_digit), using(crate::proofs::SmallTimes::small_times))]
+#[tactic(auto, unfolding(crate::specs::Numbers::append_digit), using(crate::proofs::SmallTimes::small_times))]
 fn append_digit(base: u8, so_far: Option<u128>, c: u8) -> Option<u128>
-    ensures { result ≡ add_digit base so_far c }
+    ensures { result ≡ append_digit base so_far c }
 {
     match so_far {
         None => None,
@@ -71,9 +71,9 @@ fn token_digit_value(c: u8) -> u8
 
 // The number n, of 2^64 or more, with one more digit c; `None` if 2^128 or more.
 #[inline(never)]
-#[tactic(auto, unfolding(crate::specs::Numbers::add_digit))]
+#[tactic(auto, unfolding(crate::specs::Numbers::append_digit))]
 fn append_digit_to_large_number(base: u8, n: u128, c: u8) -> Option<u128>
-    ensures { result ≡ add_digit base (Some n) c }
+    ensures { result ≡ append_digit base (Some n) c }
 {
     match n.checked_mul(u128::from(base)) {
         None => None,

@@ -2,7 +2,7 @@
 ghost use Rattle.std.specs.Prelude.{◌≡◌, ◌≢◌, ◌<◌, ◌≤◌, ◌+◌, ◌++◌, ◌∷◌, [], map, length, true};
 ghost use Rattle.tc_lex.specs.declared.kinds.TokenKind.TheVariants.{Word, Number, Colon, Open};
 ghost use Rattle.tc_lex.specs.Pieces.{piece_of, is_token_kind};
-ghost use Rattle.tc_lex.specs.Operands.{value_of, operand_of, operand_number_at, name_or_sum_at, symbol_value_at, operand_value_at, operand, value_with_shape, plain_operand, bracketed_operand, number_operand_value, sum_operand_value, operands};
+ghost use Rattle.tc_lex.specs.Operands.{value_of, operand_of, operand_number_at, name_or_sum_at, symbol_value_at, operand_value_at, operand_of_tokens, value_with_shape, plain_operand, bracketed_operand, number_operand_value, sum_operand_value, operands_of_tokens};
 
 use crate::TokenKind;
 use crate::numbers::token_number;
@@ -17,7 +17,7 @@ use crate::split_operands::operands_into;
 pub(crate) fn read_operand_into<'a>(ps: &[Piece<'a>], out: &mut Scratch<Operand<'a>, 65>)
     requires { length out.old.items < 65 }
     ensures operands { map operand_of out.new.items
-        ≡ map operand_of out.old.items ++ operand (map piece_of ps.now) ∷ [] }
+        ≡ map operand_of out.old.items ++ operand_of_tokens (map piece_of ps.now) ∷ [] }
     ensures one_more { length out.new.items ≡ length out.old.items + 1 }
 {
     if ps.len() != 1 {
@@ -44,11 +44,11 @@ pub(crate) fn push_operand<'a>(operand: Operand<'a>, out: &mut Scratch<Operand<'
 /// Reads one operand from tokens that aren't a single word or number, and adds it to the list. Its
 /// locals are large, so they have a function of their own.
 #[inline(never)]
-#[tactic(auto, unfolding(crate::specs::Operands::operand))]
+#[tactic(auto, unfolding(crate::specs::Operands::operand_of_tokens))]
 fn read_longer_operand_into<'a>(ps: &[Piece<'a>], out: &mut Scratch<Operand<'a>, 65>)
     requires { length out.old.items < 65 }
     ensures operands { map operand_of out.new.items
-        ≡ map operand_of out.old.items ++ operand (map piece_of ps.now) ∷ [] }
+        ≡ map operand_of out.old.items ++ operand_of_tokens (map piece_of ps.now) ∷ [] }
     ensures one_more { length out.new.items ≡ length out.old.items + 1 }
 {
     if is_token_kind(ps, 0, TokenKind::Open) {
@@ -62,7 +62,7 @@ fn read_longer_operand_into<'a>(ps: &[Piece<'a>], out: &mut Scratch<Operand<'a>,
 fn lone_word_operand<'a>(ps: &[Piece<'a>]) -> Operand<'a>
     requires one { length ps.now ≡ 1 }
     requires word { is_token_kind (map piece_of ps.now) 0 Word ≡ true }
-    ensures { operand_of result ≡ operand (map piece_of ps.now) }
+    ensures { operand_of result ≡ operand_of_tokens (map piece_of ps.now) }
 {
     plain_operand(value_with_shape(Shape::Word, token_text(ps, 0), false, 0))
 }
@@ -71,17 +71,17 @@ fn lone_word_operand<'a>(ps: &[Piece<'a>]) -> Operand<'a>
 fn lone_number_operand<'a>(ps: &[Piece<'a>]) -> Operand<'a>
     requires one { length ps.now ≡ 1 }
     requires number { is_token_kind (map piece_of ps.now) 0 Number ≡ true }
-    ensures { operand_of result ≡ operand (map piece_of ps.now) }
+    ensures { operand_of result ≡ operand_of_tokens (map piece_of ps.now) }
 {
     plain_operand(number_operand_value(false, token_number(token_text(ps, 0))))
 }
 
 // Reads an operand that begins with `[`. If malformed, the operand is a bad value.
 #[inline(never)]
-#[tactic(auto, unfolding(crate::specs::Operands::operand))]
+#[tactic(auto, unfolding(crate::specs::Operands::operand_of_tokens))]
 fn memory_operand<'a>(ps: &[Piece<'a>]) -> Operand<'a>
     requires { is_token_kind (map piece_of ps.now) 0 Open ≡ true }
-    ensures { operand_of result ≡ operand (map piece_of ps.now) }
+    ensures { operand_of result ≡ operand_of_tokens (map piece_of ps.now) }
 {
     if is_token_kind(ps, 1, TokenKind::Word) {
         if is_token_kind(ps, 2, TokenKind::Close) {

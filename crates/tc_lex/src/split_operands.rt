@@ -1,7 +1,7 @@
 // Splits the tokens of a statement at its commas into operands.
 ghost use Rattle.std.specs.Prelude.{◌≡◌, ◌≤◌, ◌<◌, map, length, position, IfSome, take, drop, ◌+◌, ◌++◌, ◌∷◌, []};
 ghost use Rattle.tc_lex.specs.Pieces.{piece_of, kind_index};
-ghost use Rattle.tc_lex.specs.Operands.{operand_of, operands, is_comma, operand};
+ghost use Rattle.tc_lex.specs.Operands.{operand_of, operands_of_tokens, is_comma, operand_of_tokens};
 
 use crate::kinds::kind_index;
 use crate::operand::Operand;
@@ -12,7 +12,7 @@ use crate::scratch::Scratch;
 /// Replaces the contents of `out` by the operands that these tokens spell.
 pub fn operands_into<'a>(ps: &[Piece<'a>], out: &mut Scratch<Operand<'a>, 65>)
     requires { length ps.now ≤ 64 }
-    ensures { map operand_of out.new.items ≡ operands (map piece_of ps.now) }
+    ensures { map operand_of out.new.items ≡ operands_of_tokens (map piece_of ps.now) }
 {
     out.clear();
     if ps.is_empty() {
@@ -39,7 +39,7 @@ fn read_operand_before<'a>(ps: &[Piece<'a>], i: usize, out: &mut Scratch<Operand
     requires place { i ≤ length ps.now }
     requires room { length out.old.items < 65 }
     ensures operands { map operand_of out.new.items
-        ≡ map operand_of out.old.items ++ operand (take i (map piece_of ps.now)) ∷ [] }
+        ≡ map operand_of out.old.items ++ operand_of_tokens (take i (map piece_of ps.now)) ∷ [] }
     ensures one_more { length out.new.items ≡ length out.old.items + 1 }
 {
     read_operand_into(&ps[..i], out);

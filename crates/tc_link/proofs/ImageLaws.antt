@@ -5,10 +5,10 @@ use Rattle.std.specs.List.{sum_by, list_any, list_all}
 use Rattle.std.proofs.lemmas.Bool.{le-leb, leb-false, ltb-false, ltb-true, and_from}
 use Rattle.std.proofs.lemmas.List.Folds.{list_any-append}
 use Rattle.std.proofs.lemmas.List.Sums.{sum_by-cons}
-use Rattle.elf_image.specs.Images.{SegmentData, ImageData, AreSegmentBytes, IsImage, is_segment, are_segments_disjoint, are_all_segments_disjoint}
+use Rattle.elf_image.specs.Images.{SegmentData, ImageData, HoldOnlyBytes, IsImage, is_segment, are_segments_disjoint, are_all_segments_disjoint}
 use Rattle.tc_object.specs.Objects.{SectionData, AllInTurn}
 use Rattle.tc_link.specs.Layouts.{PlaceData, LayoutData, IsPlace, IsPlaceAfter, IsLayout, are_overlapping_places}
-use Rattle.tc_link.specs.PlaceSizes.{used_place_size, are_places_overfull, total_used_size}
+use Rattle.tc_link.specs.PlaceSizes.{used_place_size, has_region_overflow, total_used_size}
 use Rattle.tc_link.specs.Segments.{joined_sections, segment_of, segments_of}
 use Rattle.tc_link.specs.Shapes.{section_shape}
 use Rattle.tc_link.proofs.ShapeLaws.{length-joined, taken-shapes}
@@ -127,12 +127,12 @@ pub record KeepsLimits (i : ImageData) : Type 0 where
   pub apart : IsTrue (are_all_segments_disjoint i.segments)
   pub small : sum_by (λ s. length s.bytes) i.segments ≤ 2 ^ 24
 
-pub image_of_bytes : (i : ImageData) → KeepsLimits i → AreSegmentBytes i.segments → IsImage i
+pub image_of_bytes : (i : ImageData) → KeepsLimits i → HoldOnlyBytes i.segments → IsImage i
 image_of_bytes i l bytes = record { entry = l.entry; few = l.few; segments = l.segments; bytes = bytes; apart = l.apart; small = l.small }
 
-pub image_is : (layout : LayoutData) (contents sections : List SectionData) (entry : ℕ) → IsLayout layout → map section_shape contents ≡ map section_shape sections → are_places_overfull layout.places sections ≡ false → entry < 2 ^ 32
+pub image_is : (layout : LayoutData) (contents sections : List SectionData) (entry : ℕ) → IsLayout layout → map section_shape contents ≡ map section_shape sections → has_region_overflow layout.places sections ≡ false → entry < 2 ^ 32
     → KeepsLimits (record { entry = entry; segments = segments_of layout.places contents })
-unfolding are_places_overfull total_used_size segments_of
+unfolding has_region_overflow total_used_size segments_of
 image_is layout contents sections entry good same room small =
     let parts = or_false (list_any (λ p. ltb p.most (used_place_size p.section sections)) layout.places) (ltb (2 ^ 24) (sum_by (λ p. used_place_size p.section sections) layout.places)) room in
     let fits = fits_from contents sections [] layout.places same good.places parts.0 in

@@ -10,7 +10,7 @@ use Rattle.tc_link.specs.GlobalSymbols.{globals_of, first_global_address}
 use Rattle.tc_link.specs.Segments.{segments_of}
 use Rattle.tcd_base.specs.Refusing.{unless_refused}
 use Rattle.tc_link.specs.Linked.{image_with_entry, image_of_placed, image_or_reloc_refusal, image_of_objects}
-use Rattle.tc_link.specs.Refusals.{refusal_before_relocs, Refusal, no_entry, first_repeated_symbol_refusal, first_missing_symbol_refusal, first_no_place_refusal, first_no_room_refusal, first_reloc_refusal}
+use Rattle.tc_link.specs.Refusals.{refusal_before_relocs, Refusal, no_entry, first_duplicate_symbol_refusal, first_missing_symbol_refusal, first_no_place_refusal, first_no_room_refusal, first_reloc_refusal}
 use Rattle.tc_link.specs.Relocated.{all_relocated_sections}
 use Rattle.tc_link.specs.Shapes.{section_shape}
 use Rattle.tc_link.proofs.RoomLaws.{room_end, room_start}
@@ -24,19 +24,19 @@ or_next {A} a b c e f = ap (λ (o : Option A). option_or o b) e ∙ f
 some_first : {A : Type 0} (a b : Option A) (x : A) → a ≡ Some x → option_or a b ≡ Some x
 some_first {A} a b x e = ap (λ (o : Option A). option_or o b) e
 
-pub early_none : (objects : List ObjectData) (layout : LayoutData) → first_repeated_symbol_refusal objects ≡ None → first_missing_symbol_refusal objects ≡ None → first_no_place_refusal layout.places objects ≡ None → first_no_room_refusal layout.places [] (sections_to_link objects) ≡ None → refusal_before_relocs layout objects ≡ None
+pub early_none : (objects : List ObjectData) (layout : LayoutData) → first_duplicate_symbol_refusal objects ≡ None → first_missing_symbol_refusal objects ≡ None → first_no_place_refusal layout.places objects ≡ None → first_no_room_refusal layout.places [] (sections_to_link objects) ≡ None → refusal_before_relocs layout objects ≡ None
 early_none objects layout a b c d = or_next _ _ _ a (or_next _ _ _ b (or_next _ _ _ c d))
 
-early_twice : (objects : List ObjectData) (layout : LayoutData) (r : Refusal) → first_repeated_symbol_refusal objects ≡ Some r → refusal_before_relocs layout objects ≡ Some r
+early_twice : (objects : List ObjectData) (layout : LayoutData) (r : Refusal) → first_duplicate_symbol_refusal objects ≡ Some r → refusal_before_relocs layout objects ≡ Some r
 early_twice objects layout r e = some_first _ _ r e
 
-early_missing : (objects : List ObjectData) (layout : LayoutData) (r : Refusal) → first_repeated_symbol_refusal objects ≡ None → first_missing_symbol_refusal objects ≡ Some r → refusal_before_relocs layout objects ≡ Some r
+early_missing : (objects : List ObjectData) (layout : LayoutData) (r : Refusal) → first_duplicate_symbol_refusal objects ≡ None → first_missing_symbol_refusal objects ≡ Some r → refusal_before_relocs layout objects ≡ Some r
 early_missing objects layout r a e = or_next _ _ _ a (some_first _ _ r e)
 
-early_place : (objects : List ObjectData) (layout : LayoutData) (r : Refusal) → first_repeated_symbol_refusal objects ≡ None → first_missing_symbol_refusal objects ≡ None → first_no_place_refusal layout.places objects ≡ Some r → refusal_before_relocs layout objects ≡ Some r
+early_place : (objects : List ObjectData) (layout : LayoutData) (r : Refusal) → first_duplicate_symbol_refusal objects ≡ None → first_missing_symbol_refusal objects ≡ None → first_no_place_refusal layout.places objects ≡ Some r → refusal_before_relocs layout objects ≡ Some r
 early_place objects layout r a b e = or_next _ _ _ a (or_next _ _ _ b (some_first _ _ r e))
 
-early_room : (objects : List ObjectData) (layout : LayoutData) (r : Refusal) → first_repeated_symbol_refusal objects ≡ None → first_missing_symbol_refusal objects ≡ None → first_no_place_refusal layout.places objects ≡ None
+early_room : (objects : List ObjectData) (layout : LayoutData) (r : Refusal) → first_duplicate_symbol_refusal objects ≡ None → first_missing_symbol_refusal objects ≡ None → first_no_place_refusal layout.places objects ≡ None
     → first_no_room_refusal layout.places [] (sections_to_link objects) ≡ Some r → refusal_before_relocs layout objects ≡ Some r
 early_room objects layout r a b c e = or_next _ _ _ a (or_next _ _ _ b (or_next _ _ _ c e))
 
@@ -45,17 +45,17 @@ told : {A : Type 0} (o : Option Refusal) (x : Option Refusal) (f : Refusal → A
 told o None f all g h = tt
 told o (Some r) f all g h = g r h
 
-pub told_twice : (objects : List ObjectData) (layout : LayoutData) (x : Option Refusal) → IfSome x (λ r. first_repeated_symbol_refusal objects ≡ Some r) → IfSome x (λ r. refusal_before_relocs layout objects ≡ Some r)
-told_twice objects layout x h = told {A = Option Refusal} (first_repeated_symbol_refusal objects) x (λ r. Some r) (refusal_before_relocs layout objects) (early_twice objects layout) h
+pub told_twice : (objects : List ObjectData) (layout : LayoutData) (x : Option Refusal) → IfSome x (λ r. first_duplicate_symbol_refusal objects ≡ Some r) → IfSome x (λ r. refusal_before_relocs layout objects ≡ Some r)
+told_twice objects layout x h = told {A = Option Refusal} (first_duplicate_symbol_refusal objects) x (λ r. Some r) (refusal_before_relocs layout objects) (early_twice objects layout) h
 
-pub told_missing : (objects : List ObjectData) (layout : LayoutData) (x : Option Refusal) → first_repeated_symbol_refusal objects ≡ None → IfSome x (λ r. first_missing_symbol_refusal objects ≡ Some r) → IfSome x (λ r. refusal_before_relocs layout objects ≡ Some r)
+pub told_missing : (objects : List ObjectData) (layout : LayoutData) (x : Option Refusal) → first_duplicate_symbol_refusal objects ≡ None → IfSome x (λ r. first_missing_symbol_refusal objects ≡ Some r) → IfSome x (λ r. refusal_before_relocs layout objects ≡ Some r)
 told_missing objects layout x a h = told {A = Option Refusal} (first_missing_symbol_refusal objects) x (λ r. Some r) (refusal_before_relocs layout objects) (λ r e. early_missing objects layout r a e) h
 
-pub told_place : (objects : List ObjectData) (layout : LayoutData) (x : Option Refusal) → first_repeated_symbol_refusal objects ≡ None → first_missing_symbol_refusal objects ≡ None → IfSome x (λ r. first_no_place_refusal layout.places objects ≡ Some r)
+pub told_place : (objects : List ObjectData) (layout : LayoutData) (x : Option Refusal) → first_duplicate_symbol_refusal objects ≡ None → first_missing_symbol_refusal objects ≡ None → IfSome x (λ r. first_no_place_refusal layout.places objects ≡ Some r)
     → IfSome x (λ r. refusal_before_relocs layout objects ≡ Some r)
 told_place objects layout x a b h = told {A = Option Refusal} (first_no_place_refusal layout.places objects) x (λ r. Some r) (refusal_before_relocs layout objects) (λ r e. early_place objects layout r a b e) h
 
-pub told_room : (objects : List ObjectData) (layout : LayoutData) (x : Option Refusal) → first_repeated_symbol_refusal objects ≡ None → first_missing_symbol_refusal objects ≡ None → first_no_place_refusal layout.places objects ≡ None
+pub told_room : (objects : List ObjectData) (layout : LayoutData) (x : Option Refusal) → first_duplicate_symbol_refusal objects ≡ None → first_missing_symbol_refusal objects ≡ None → first_no_place_refusal layout.places objects ≡ None
     → IfSome x (λ r. first_no_room_refusal layout.places [] (sections_to_link objects) ≡ Some r) → IfSome x (λ r. refusal_before_relocs layout objects ≡ Some r)
 told_room objects layout x a b c h = told {A = Option Refusal} (first_no_room_refusal layout.places [] (sections_to_link objects)) x (λ r. Some r) (refusal_before_relocs layout objects) (λ r e. early_room objects layout r a b c e) h
 
@@ -64,7 +64,7 @@ pub record ArePlaced (objects : List ObjectData) (layout : LayoutData) (placed :
   pub none : refusal_before_relocs layout objects ≡ None
   pub same : placed ≡ placed_in_layout layout objects
 
-pub are_placed : (objects : List ObjectData) (layout : LayoutData) (ps qs : List PlaceData) (placed : List PlacedData) → ps ≡ layout.places → qs ≡ layout.places → first_repeated_symbol_refusal objects ≡ None → first_missing_symbol_refusal objects ≡ None
+pub are_placed : (objects : List ObjectData) (layout : LayoutData) (ps qs : List PlaceData) (placed : List PlacedData) → ps ≡ layout.places → qs ≡ layout.places → first_duplicate_symbol_refusal objects ≡ None → first_missing_symbol_refusal objects ≡ None
     → first_no_place_refusal ps objects ≡ None → first_no_room_refusal qs [] (sections_to_link objects) ≡ None → placed ≡ placed_after qs [] objects → ArePlaced objects layout placed
 are_placed objects layout ps qs placed e f a b c d p = record {
   none = early_none objects layout a b (ap (λ (l : List PlaceData). first_no_place_refusal l objects) (sym e) ∙ c) (ap (λ (l : List PlaceData). first_no_room_refusal l [] (sections_to_link objects)) (sym f) ∙ d);
@@ -107,7 +107,7 @@ placed_length places before [] = refl
 placed_length places before (o ∷ os) = ap (λ n. suc n) (placed_length places (before ++ o.sections) os)
 
 none_room : (objects : List ObjectData) (layout : LayoutData) → refusal_before_relocs layout objects ≡ None → first_no_room_refusal layout.places [] (sections_to_link objects) ≡ None
-none_room objects layout e = last_none (first_repeated_symbol_refusal objects) (first_missing_symbol_refusal objects) (first_no_place_refusal layout.places objects) _ e
+none_room objects layout e = last_none (first_duplicate_symbol_refusal objects) (first_missing_symbol_refusal objects) (first_no_place_refusal layout.places objects) _ e
   where
     last_none : (a b c d : Option Refusal) → option_or a (option_or b (option_or c d)) ≡ None → d ≡ None
     last_none None None None d e = e

@@ -11,7 +11,7 @@ use Rattle.tc_link.specs.LayoutLines.{LayoutLineData, layout_line_contents, entr
 use Rattle.std.specs.List.{filter_map, cons_option}
 use Rattle.tcd_base.specs.Refusing.{unless_refused}
 use Rattle.tc_link.specs.LayoutFaults.{layout_line_fault, first_layout_fault, layout_of_lines, IsLayoutFault, IsLayoutFaultOf}
-use Rattle.tc_link.specs.LayoutDrafts.{with_entry, LayoutDraftData, draft_with_line}
+use Rattle.tc_link.specs.LayoutDrafts.{finished_layout, LayoutDraftData, draft_with_line}
 
 -- the first n lines have no fault and lead to the draft; the text is the rest
 pub record Reached (all : List (List ℕ)) (n : ℕ) (rest : List ℕ) (d : LayoutDraftData) : Type 0 where
@@ -69,7 +69,7 @@ reached_fault all n rest line after d e r lines f = by_err e f
     told_first x is = sym (next_fault all n rest line after d r lines) ∙ ap (λ (o : Option LayoutErr). option_or o (first_layout_fault (take n all ++ line ∷ []) (text_lines after))) is
 
     told : (x : LayoutErr) → layout_line_fault (n + 1) d.entries d.places (layout_line_contents line) ≡ Some x → layout_of_lines all ≡ Err x
-    told x is = ap (λ (o : Option LayoutErr). unless_refused o (with_entry (length all) (entries_in_lines all) (places_in_lines all))) (told_first x is)
+    told x is = ap (λ (o : Option LayoutErr). unless_refused o (finished_layout (length all) (entries_in_lines all) (places_in_lines all))) (told_first x is)
 
     by_err : (x : LayoutErr) → IsLayoutFault (layout_line_fault (n + 1) d.entries d.places (layout_line_contents line)) x → IsLayoutFaultOf (layout_of_lines all) x
     by_err (BadLine k) h = told (BadLine k) h
@@ -79,16 +79,16 @@ reached_fault all n rest line after d e r lines f = by_err e f
     by_err NoMemory h = tt
 
 -- all lines were read
-end_at : (all : List (List ℕ)) (n : ℕ) (d : LayoutDraftData) → Reached all n [] d → layout_of_lines all ≡ with_entry n d.entries d.places
+end_at : (all : List (List ℕ)) (n : ℕ) (d : LayoutDraftData) → Reached all n [] d → layout_of_lines all ≡ finished_layout n d.entries d.places
 unfolding text_lines first_layout_fault
 end_at all n d r =
     let whole : n ≡ length all = omega (arith, ap length r.rest_lines, length-drop n all, r.count) in
     let taken : take n all ≡ all = take_all n all (omega (arith, whole)) in
-    ap (λ (o : Option LayoutErr). unless_refused o (with_entry (length all) (entries_in_lines all) (places_in_lines all))) (sym r.good)
-    ∙ ap (λ (es : List (List ℕ)). with_entry (length all) es (places_in_lines all)) (ap entries_in_lines (sym taken) ∙ sym r.entries)
-    ∙ ap (λ (ps : List PlaceData). with_entry (length all) d.entries ps) (ap places_in_lines (sym taken) ∙ sym r.places)
-    ∙ ap (λ k. with_entry k d.entries d.places) (sym whole)
+    ap (λ (o : Option LayoutErr). unless_refused o (finished_layout (length all) (entries_in_lines all) (places_in_lines all))) (sym r.good)
+    ∙ ap (λ (es : List (List ℕ)). finished_layout (length all) es (places_in_lines all)) (ap entries_in_lines (sym taken) ∙ sym r.entries)
+    ∙ ap (λ (ps : List PlaceData). finished_layout (length all) d.entries ps) (ap places_in_lines (sym taken) ∙ sym r.places)
+    ∙ ap (λ k. finished_layout k d.entries d.places) (sym whole)
 
-pub reached_end : (all : List (List ℕ)) (n : ℕ) (rest : List ℕ) (d : LayoutDraftData) → Reached all n rest d → length rest ≡ 0 → layout_of_lines all ≡ with_entry n d.entries d.places
+pub reached_end : (all : List (List ℕ)) (n : ℕ) (rest : List ℕ) (d : LayoutDraftData) → Reached all n rest d → length rest ≡ 0 → layout_of_lines all ≡ finished_layout n d.entries d.places
 reached_end all n [] d r e = end_at all n d r
 reached_end all n (c ∷ cs) d r e = absurd (omega arith)

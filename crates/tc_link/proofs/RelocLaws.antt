@@ -12,8 +12,8 @@ use Rattle.tc_object.specs.Objects.{SectionData, ObjectData, AllInTurn, IsReloc,
 use Rattle.tc_link.specs.Layouts.{PlaceData}
 use Rattle.tc_link.specs.Placing.{PlacedData, sections_to_link, section_bases_after, placed_after}
 use Rattle.tc_link.specs.GlobalSymbols.{GlobalData}
-use Rattle.tc_link.specs.Relocated.{section_with_filled_field, section_with_reloc, sections_with_reloc, reloc_field_address, reloc_value, relocated_sections}
-use Rattle.tc_link.specs.Refusals.{reloc_error, reloc, refusal_at}
+use Rattle.tc_link.specs.Relocated.{section_with_filled_field, section_after_reloc, sections_after_reloc, reloc_field_address, reloc_value, relocated_sections}
+use Rattle.tc_link.specs.Refusals.{reloc_error, reloc, reloc_refusal}
 use Rattle.tc_reloc.specs.declared.refusals.RelocErr.{RelocErr}
 use Rattle.tc_link.specs.Shapes.{SectionShape, section_shape}
 use Rattle.tc_link.proofs.ShapeLaws.{filled_shape}
@@ -38,20 +38,20 @@ size_at-shapes ss ts n e =
     sizes_are (slice_get ss n) ∙ ap size_in (sym (slice_get-map section_shape ss n) ∙ ap (λ (l : List SectionShape). slice_get l n) e ∙ slice_get-map section_shape ts n) ∙ sym (sizes_are (slice_get ts n))
 
 -- a single relocation keeps the shapes
-pub with_reloc_shapes : (g : List GlobalData) (p : PlacedData) (ss : List SectionData) (r : Reloc) → r.offset + 4 ≤ section_size_at ss r.section → map section_shape (sections_with_reloc g p ss r) ≡ map section_shape ss
+pub with_reloc_shapes : (g : List GlobalData) (p : PlacedData) (ss : List SectionData) (r : Reloc) → r.offset + 4 ≤ section_size_at ss r.section → map section_shape (sections_after_reloc g p ss r) ≡ map section_shape ss
 with_reloc_shapes g p ss r h = by_section (slice_get ss r.section) refl
   where
-    by_section : (o : Option SectionData) → slice_get ss r.section ≡ o → map section_shape (option_map_or (λ x. set ss r.section (section_with_reloc g p r x)) o ss) ≡ map section_shape ss
+    by_section : (o : Option SectionData) → slice_get ss r.section ≡ o → map section_shape (option_map_or (λ x. set ss r.section (section_after_reloc g p r x)) o ss) ≡ map section_shape ss
     by_section None at = refl
     by_section (Some x) at =
-        set_shape ss r.section x (section_with_reloc g p r x) at (filled_shape r (reloc_field_address p r) (reloc_value g p r) x (omega (arith, h, ap section_size at)))
+        set_shape ss r.section x (section_after_reloc g p r x) at (filled_shape r (reloc_field_address p r) (reloc_value g p r) x (omega (arith, h, ap section_size at)))
 
 relocs_shapes : (g : List GlobalData) (p : PlacedData) (sections ss : List SectionData) (symbols : ℕ) (before rs : List Reloc) → map section_shape ss ≡ map section_shape sections → AllInTurn (IsReloc sections symbols) before rs
-    → map section_shape (fold (sections_with_reloc g p) ss rs) ≡ map section_shape sections
+    → map section_shape (fold (sections_after_reloc g p) ss rs) ≡ map section_shape sections
 relocs_shapes g p sections ss symbols before [] same turn = same
 relocs_shapes g p sections ss symbols before (r ∷ rs) same turn =
     let room : r.offset + 4 ≤ section_size_at ss r.section = omega (arith, turn.0.room, size_at-shapes ss sections r.section same) in
-    relocs_shapes g p sections (sections_with_reloc g p ss r) symbols (before ++ r ∷ []) rs (with_reloc_shapes g p ss r room ∙ same) turn.1
+    relocs_shapes g p sections (sections_after_reloc g p ss r) symbols (before ++ r ∷ []) rs (with_reloc_shapes g p ss r room ∙ same) turn.1
 
 pub relocated_shapes : (g : List GlobalData) (p : PlacedData) → IsObject p.object → map section_shape (relocated_sections g p) ≡ map section_shape p.object.sections
 unfolding relocated_sections
@@ -95,18 +95,18 @@ shapes_in r ss new x place value h is room e =
 
 -- a further relocation
 pub relocs_next : (g : List GlobalData) (p : PlacedData) (sections ss new : List SectionData) (rs : List Reloc) (i : ℕ) (r : Reloc) → i < length rs → r ≡ get_or rs i r
-    → ss ≡ fold (sections_with_reloc g p) sections (take i rs) → new ≡ sections_with_reloc g p ss r → new ≡ fold (sections_with_reloc g p) sections (take (i + 1) rs)
+    → ss ≡ fold (sections_after_reloc g p) sections (take i rs) → new ≡ sections_after_reloc g p ss r → new ≡ fold (sections_after_reloc g p) sections (take (i + 1) rs)
 relocs_next g p sections ss new rs i r h is s e =
     e
-    ∙ ap (λ (l : List SectionData). sections_with_reloc g p l r) s
-    ∙ ap (λ (q : Reloc). sections_with_reloc g p (fold (sections_with_reloc g p) sections (take i rs)) q) is
-    ∙ sym (fold_more (sections_with_reloc g p) sections rs i r h)
+    ∙ ap (λ (l : List SectionData). sections_after_reloc g p l r) s
+    ∙ ap (λ (q : Reloc). sections_after_reloc g p (fold (sections_after_reloc g p) sections (take i rs)) q) is
+    ∙ sym (fold_more (sections_after_reloc g p) sections rs i r h)
 
 -- whether it is refused
-pub refusal_none : (g : List GlobalData) (object : ℕ) (p : PlacedData) (i : ℕ) (r : Reloc) → reloc_error g p r ≡ None → refusal_at g object p i r ≡ None
+pub refusal_none : (g : List GlobalData) (object : ℕ) (p : PlacedData) (i : ℕ) (r : Reloc) → reloc_error g p r ≡ None → reloc_refusal g object p i r ≡ None
 refusal_none g object p i r e = ap (option_map (λ (err : RelocErr). reloc object r.section r.offset err)) e
 
-pub refusal_some : (g : List GlobalData) (object : ℕ) (p : PlacedData) (i : ℕ) (r : Reloc) (err : RelocErr) → reloc_error g p r ≡ Some err → refusal_at g object p i r ≡ Some (reloc object r.section r.offset err)
+pub refusal_some : (g : List GlobalData) (object : ℕ) (p : PlacedData) (i : ℕ) (r : Reloc) (err : RelocErr) → reloc_error g p r ≡ Some err → reloc_refusal g object p i r ≡ Some (reloc object r.section r.offset err)
 refusal_some g object p i r err e = ap (option_map (λ (x : RelocErr). reloc object r.section r.offset x)) e
 
 -- the sections of one object more

@@ -15,7 +15,7 @@ use Rattle.std.proofs.lemmas.List.Quantifiers.{position-Some}
 use Rattle.tc_object.specs.Objects.{SectionData, ObjectData}
 use Rattle.tc_link.specs.Layouts.{PlaceData}
 use Rattle.tc_link.specs.Placing.{PlacedData, sections_to_link, section_base, section_bases_after, placed_after}
-use Rattle.tc_link.specs.PlaceSizes.{next_multiple_of_4, used_size_with_section, used_place_size, AreTaken, are_places_overfull, total_used_size}
+use Rattle.tc_link.specs.PlaceSizes.{next_multiple_of_4, used_size_with_section, used_place_size, AreUsedSizes, has_region_overflow, total_used_size}
 use Rattle.tc_link.specs.Refusals.{Refusal, no_room, no_room_refusal, first_no_room_refusal}
 use Rattle.std.specs.Bool.{then_some}
 use Rattle.std.proofs.lemmas.Bool.Decides.{nat_tests}
@@ -74,11 +74,11 @@ placed_push places before (x ∷ xs) o =
     ∙ ap (λ (b : List SectionData). record { object = x; bases = section_bases_after places before x.sections } ∷ (placed_after places (before ++ x.sections) xs ++ record { object = o; bases = section_bases_after places b o.sections } ∷ [])) (append_assoc before x.sections (sections_to_link xs))
 
 -- ---- rooms
-pub are_taken_none : (places : List PlaceData) (sizes : List ℕ) → ((k : ℕ) → get_or sizes k 0 ≡ 0) → AreTaken places [] sizes
+pub are_taken_none : (places : List PlaceData) (sizes : List ℕ) → ((k : ℕ) → get_or sizes k 0 ≡ 0) → AreUsedSizes places [] sizes
 are_taken_none places sizes zeros = λ k d h. zeros k ∙ sym (taken_none (get_or places k d).section)
 
-pub are_taken_more : (places : List PlaceData) (before : List SectionData) (s : SectionData) (sizes new : List ℕ) → AreTaken places before sizes
-    → ((k : ℕ) (d : PlaceData) → k < length places → get_or new k 0 ≡ used_size_with_section (get_or places k d).section (get_or sizes k 0) s) → AreTaken places (before ++ s ∷ []) new
+pub are_taken_more : (places : List PlaceData) (before : List SectionData) (s : SectionData) (sizes new : List ℕ) → AreUsedSizes places before sizes
+    → ((k : ℕ) (d : PlaceData) → k < length places → get_or new k 0 ≡ used_size_with_section (get_or places k d).section (get_or sizes k 0) s) → AreUsedSizes places (before ++ s ∷ []) new
 are_taken_more places before s sizes new t each = λ k d h.
     each k d h
     ∙ ap (λ n. used_size_with_section (get_or places k d).section n s) (t k d h)
@@ -102,7 +102,7 @@ pub base_none : (places : List PlaceData) (before : List SectionData) (s : Secti
 base_none places before s e = sym (ap (λ (o : Option PlaceData). option_map_or (λ p. p.at + next_multiple_of_4 (used_place_size s.name before)) o 0) (find_none (λ p. bytes_eq s.name p.section) places e))
 
 -- a section begins after the earlier sections of its place
-pub base_some : (places : List PlaceData) (before : List SectionData) (s : SectionData) (i : ℕ) (p : PlaceData) (sizes : List ℕ) → AreTaken places before sizes
+pub base_some : (places : List PlaceData) (before : List SectionData) (s : SectionData) (i : ℕ) (p : PlaceData) (sizes : List ℕ) → AreUsedSizes places before sizes
     → position (λ p. bytes_eq s.name p.section) places ≡ Some i → p ≡ get_or places i p → p.at + next_multiple_of_4 (get_or sizes i 0) ≡ section_base places before s
 base_some places before s i p sizes t e is =
     let at = position-Some (λ q. bytes_eq s.name q.section) places i p e in
@@ -121,12 +121,12 @@ none_parts None b e = (refl, e)
 none_parts (Some x) b e = cc
 
 -- if there is room for each section, there is room for all
-pub room_end : (places : List PlaceData) (before ss : List SectionData) → are_places_overfull places before ≡ false → first_no_room_refusal places before ss ≡ None → are_places_overfull places (before ++ ss) ≡ false
+pub room_end : (places : List PlaceData) (before ss : List SectionData) → has_region_overflow places before ≡ false → first_no_room_refusal places before ss ≡ None → has_region_overflow places (before ++ ss) ≡ false
 unfolding first_no_room_refusal
-room_end places before [] room e = ap (are_places_overfull places) (append-nil before) ∙ room
+room_end places before [] room e = ap (has_region_overflow places) (append-nil before) ∙ room
 room_end places before (s ∷ ss) room e =
     let p = none_parts (no_room_refusal places before s) (first_no_room_refusal places (before ++ s ∷ []) ss) e in
-    ap (are_places_overfull places) (sym (append_assoc before (s ∷ []) ss)) ∙ room_end places (before ++ s ∷ []) ss (then_none _ _ p.0) p.1
+    ap (has_region_overflow places) (sym (append_assoc before (s ∷ []) ss)) ∙ room_end places (before ++ s ∷ []) ss (then_none _ _ p.0) p.1
 
 never_below : (n : ℕ) → ltb n 0 ≡ false
 never_below n = grind (arith, nat_tests)
@@ -138,8 +138,8 @@ none_over (p ∷ ps) =
     let rest = none_over ps in
     (ap (λ b. b || list_any (λ q. ltb q.most (used_place_size q.section [])) ps) (never_below p.most) ∙ rest.0, omega (arith, rest.1))
 
-pub room_start : (places : List PlaceData) → are_places_overfull places [] ≡ false
-unfolding are_places_overfull total_used_size
+pub room_start : (places : List PlaceData) → has_region_overflow places [] ≡ false
+unfolding has_region_overflow total_used_size
 room_start places =
     let n = none_over places in
     ap (λ b. b || ltb (2 ^ 24) (sum_by (λ p. used_place_size p.section []) places)) n.0 ∙ ap (ltb (2 ^ 24)) n.1
@@ -157,22 +157,22 @@ bases_step places before sections i s base old next e b =
     ∙ ap (section_bases_after places before) (sym next)
 
 pub taken_step : (places : List PlaceData) (before sections : List SectionData) (i : ℕ) (s : SectionData) (sizes : List ℕ) → take (i + 1) sections ≡ take i sections ++ s ∷ []
-    → AreTaken places ((before ++ take i sections) ++ s ∷ []) sizes → AreTaken places (before ++ take (i + 1) sections) sizes
-taken_step places before sections i s sizes next t = subst (λ (l : List SectionData). AreTaken places l sizes) (append_assoc before (take i sections) (s ∷ []) ∙ ap (λ (l : List SectionData). before ++ l) (sym next)) t
+    → AreUsedSizes places ((before ++ take i sections) ++ s ∷ []) sizes → AreUsedSizes places (before ++ take (i + 1) sections) sizes
+taken_step places before sections i s sizes next t = subst (λ (l : List SectionData). AreUsedSizes places l sizes) (append_assoc before (take i sections) (s ∷ []) ∙ ap (λ (l : List SectionData). before ++ l) (sym next)) t
 
-room_of : (places : List PlaceData) (before : List SectionData) (s : SectionData) (over : Bool) → over ≡ are_places_overfull places (before ++ s ∷ []) → over ≡ false → no_room_refusal places before s ≡ None
+room_of : (places : List PlaceData) (before : List SectionData) (s : SectionData) (over : Bool) → over ≡ has_region_overflow places (before ++ s ∷ []) → over ≡ false → no_room_refusal places before s ≡ None
 room_of places before s over e f = ap (λ b. then_some b (no_room s.name)) (sym e ∙ f)
 
-no_room_here : (places : List PlaceData) (before : List SectionData) (s : SectionData) (over : Bool) → over ≡ are_places_overfull places (before ++ s ∷ []) → over ≡ true → no_room_refusal places before s ≡ Some (no_room s.name)
+no_room_here : (places : List PlaceData) (before : List SectionData) (s : SectionData) (over : Bool) → over ≡ has_region_overflow places (before ++ s ∷ []) → over ≡ true → no_room_refusal places before s ≡ Some (no_room s.name)
 no_room_here places before s over e f = ap (λ b. then_some b (no_room s.name)) (sym e ∙ f)
 
 pub room_step : (places : List PlaceData) (before sections : List SectionData) (i : ℕ) (s : SectionData) (over : Bool) → take (i + 1) sections ≡ take i sections ++ s ∷ []
-    → first_no_room_refusal places before (take i sections) ≡ None → over ≡ are_places_overfull places ((before ++ take i sections) ++ s ∷ []) → over ≡ false → first_no_room_refusal places before (take (i + 1) sections) ≡ None
+    → first_no_room_refusal places before (take i sections) ≡ None → over ≡ has_region_overflow places ((before ++ take i sections) ++ s ∷ []) → over ≡ false → first_no_room_refusal places before (take (i + 1) sections) ≡ None
 room_step places before sections i s over next e o f =
     ap (first_no_room_refusal places before) next ∙ no_room_push places before (take i sections) s e ∙ room_of places (before ++ take i sections) s over o f
 
 pub room_fault : (places : List PlaceData) (before sections : List SectionData) (i : ℕ) (s : SectionData) (over : Bool) → take (i + 1) sections ≡ take i sections ++ s ∷ []
-    → first_no_room_refusal places before (take i sections) ≡ None → over ≡ are_places_overfull places ((before ++ take i sections) ++ s ∷ []) → over ≡ true → first_no_room_refusal places before sections ≡ Some (no_room s.name)
+    → first_no_room_refusal places before (take i sections) ≡ None → over ≡ has_region_overflow places ((before ++ take i sections) ++ s ∷ []) → over ≡ true → first_no_room_refusal places before sections ≡ Some (no_room s.name)
 room_fault places before sections i s over next e o f =
     ap (first_no_room_refusal places before) (sym (take-append-drop (i + 1) sections))
     ∙ no_room_front places before (take (i + 1) sections) (drop (i + 1) sections) (no_room s.name)
@@ -204,8 +204,8 @@ placed_next places objects i o old bases h is e b =
     ∙ ap (placed_after places []) (sym (take_next objects i o h is))
 
 pub taken_next : (places : List PlaceData) (objects : List ObjectData) (i : ℕ) (o : ObjectData) (sizes : List ℕ) → i < length objects → o ≡ get_or objects i o
-    → AreTaken places (sections_to_link (take i objects) ++ o.sections) sizes → AreTaken places (sections_to_link (take (i + 1) objects)) sizes
-taken_next places objects i o sizes h is t = subst (λ (l : List SectionData). AreTaken places l sizes) (sym (sections_next objects i o h is)) t
+    → AreUsedSizes places (sections_to_link (take i objects) ++ o.sections) sizes → AreUsedSizes places (sections_to_link (take (i + 1) objects)) sizes
+taken_next places objects i o sizes h is t = subst (λ (l : List SectionData). AreUsedSizes places l sizes) (sym (sections_next objects i o h is)) t
 
 pub room_next : (places : List PlaceData) (objects : List ObjectData) (i : ℕ) (o : ObjectData) → i < length objects → o ≡ get_or objects i o
     → first_no_room_refusal places [] (sections_to_link (take i objects)) ≡ None → first_no_room_refusal places (sections_to_link (take i objects)) o.sections ≡ None

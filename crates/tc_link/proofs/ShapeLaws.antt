@@ -8,22 +8,22 @@ use Rattle.tc_object.specs.Objects.{SectionData}
 use Rattle.tc_link.specs.PlaceSizes.{next_multiple_of_4, used_size_with_section, used_place_size}
 use Rattle.tc_link.specs.Shapes.{SectionShape, section_shape}
 use Rattle.tc_link.specs.Relocated.{section_bytes_with_field, section_with_filled_field}
-use Rattle.tc_link.specs.Segments.{with_segment_padding, with_section, joined_sections}
+use Rattle.tc_link.specs.Segments.{with_segment_padding, with_section_of_name, joined_sections}
 
 -- ---- lengths of joined sections
 pub padded_length : (bytes : List ℕ) → length (with_segment_padding bytes) ≡ next_multiple_of_4 (length bytes)
 padded_length bytes = omega (arith, length-append bytes (replicate (next_multiple_of_4 (length bytes) - length bytes) 0), length-replicate {A = ℕ} (next_multiple_of_4 (length bytes) - length bytes) 0)
 
-section_length : (name bytes : List ℕ) (s : SectionData) → length (with_section name bytes s) ≡ used_size_with_section name (length bytes) s
+section_length : (name bytes : List ℕ) (s : SectionData) → length (with_section_of_name name bytes s) ≡ used_size_with_section name (length bytes) s
 section_length name bytes s = by_name (bytes_eq name s.name)
   where
     by_name : (b : Bool) → length (cond b (with_segment_padding bytes ++ s.bytes) bytes) ≡ cond b (next_multiple_of_4 (length bytes) + length s.bytes) (length bytes)
     by_name true = length-append (with_segment_padding bytes) s.bytes ∙ ap (λ n. n + length s.bytes) (padded_length bytes)
     by_name false = refl
 
-joined_from : (name : List ℕ) (ss : List SectionData) (bytes : List ℕ) → length (fold (with_section name) bytes ss) ≡ fold (used_size_with_section name) (length bytes) ss
+joined_from : (name : List ℕ) (ss : List SectionData) (bytes : List ℕ) → length (fold (with_section_of_name name) bytes ss) ≡ fold (used_size_with_section name) (length bytes) ss
 joined_from name [] bytes = refl
-joined_from name (s ∷ ss) bytes = joined_from name ss (with_section name bytes s) ∙ ap (λ n. fold (used_size_with_section name) n ss) (section_length name bytes s)
+joined_from name (s ∷ ss) bytes = joined_from name ss (with_section_of_name name bytes s) ∙ ap (λ n. fold (used_size_with_section name) n ss) (section_length name bytes s)
 
 pub length-joined : (name : List ℕ) (ss : List SectionData) → length (joined_sections name ss) ≡ used_place_size name ss
 unfolding joined_sections used_place_size

@@ -4,7 +4,7 @@ use Rattle.std.specs.Bool.{then_some}
 use Rattle.std.specs.Option.{option_or}
 use Rattle.tc_object.specs.Objects.{SymbolData, ObjectData}
 use Rattle.tc_link.specs.GlobalSymbols.{is_global, count_globals_named}
-use Rattle.tc_link.specs.Refusals.{Refusal, twice, repeated_symbol_refusal, first_repeated_symbol_refusal, first_refusal_from}
+use Rattle.tc_link.specs.Refusals.{Refusal, twice, duplicate_symbol_refusal, first_duplicate_symbol_refusal, first_refusal_from}
 
 -- no answer at any item
 none_at : {A B : Type 0} (f : ℕ → A → Option B) (n : ℕ) (xs : List A) → ((k : ℕ) (x : A) → f k x ≡ None) → first_refusal_from f n xs ≡ None
@@ -16,9 +16,9 @@ not_both : (a b : Bool) (r : Refusal) → b ≡ false → then_some (a && b) r �
 not_both true b r e = ap (λ (x : Bool). then_some {T = Refusal} x r) e
 not_both false b r e = refl
 
-pub none_twice : (objects : List ObjectData) → ((q : List ℕ) → ltb 1 (count_globals_named objects q) ≡ false) → first_repeated_symbol_refusal objects ≡ None
-unfolding first_repeated_symbol_refusal
+pub none_twice : (objects : List ObjectData) → ((q : List ℕ) → ltb 1 (count_globals_named objects q) ≡ false) → first_duplicate_symbol_refusal objects ≡ None
+unfolding first_duplicate_symbol_refusal
 none_twice objects single =
-    none_at (λ _ (o : ObjectData). first_refusal_from (repeated_symbol_refusal objects) 0 o.symbols) 0 objects
-    (λ k o. none_at (repeated_symbol_refusal objects) 0 o.symbols
+    none_at (λ _ (o : ObjectData). first_refusal_from (duplicate_symbol_refusal objects) 0 o.symbols) 0 objects
+    (λ k o. none_at (duplicate_symbol_refusal objects) 0 o.symbols
     (λ j (s : SymbolData). not_both (is_global s) (ltb 1 (count_globals_named objects s.name)) (twice s.name) (single s.name)))

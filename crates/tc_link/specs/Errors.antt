@@ -5,7 +5,7 @@ use Rattle.tc_link.specs.declared.errors.LinkErr.TheVariants.{Twice, Missing, No
 use Rattle.tc_link.specs.Refusals.{Refusal, twice, missing, no_place, no_room, reloc, no_entry, first_no_room_refusal, first_reloc_refusal_in}
 use Rattle.tc_object.specs.Objects.{SectionData}
 use Rattle.tc_link.specs.Layouts.{PlaceData}
-use Rattle.tc_link.specs.PlaceSizes.{AreTaken}
+use Rattle.tc_link.specs.PlaceSizes.{AreUsedSizes}
 use Rattle.tc_link.specs.Placing.{PlacedData}
 use Rattle.tc_link.specs.GlobalSymbols.{GlobalData}
 use Rattle.tc_link.specs.Relocated.{symbol_addresses}
@@ -36,4 +36,4 @@ IsRelocErrorOf addresses number p e = (all : List GlobalData) → addresses ≡ 
 -- the error is that of the first of these sections without room after earlier ones, which use this
 -- many bytes of the places
 abbrev pub IsNoRoomAfterUsedBytes : List PlaceData → List ℕ → List SectionData → LinkErr → Type 0
-IsNoRoomAfterUsedBytes places sizes sections e = (before : List SectionData) → AreTaken places before sizes → IsRefusal (first_no_room_refusal places before sections) e
+IsNoRoomAfterUsedBytes places sizes sections e = (before : List SectionData) → AreUsedSizes places before sizes → IsRefusal (first_no_room_refusal places before sections) e

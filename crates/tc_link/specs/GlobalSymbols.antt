@@ -68,8 +68,8 @@ unfoldable pub count_globals_named : List ObjectData → List ℕ → ℕ
 count_globals_named objects name = count_by (has_global_name name) (symbols_to_link objects)
 
 -- for each name, the map knows whether several objects define it as a global symbol
-abbrev pub KnowsRepeatedGlobals : {S : Type 0} → HashMap (Bor (List ℕ)) Definition S → List ObjectData → Type 0
-KnowsRepeatedGlobals names objects = (q : List ℕ) → HasCountedDefinitions names q (count_globals_named objects q)
+abbrev pub HasCountedAllDefinitions : {S : Type 0} → HashMap (Bor (List ℕ)) Definition S → List ObjectData → Type 0
+HasCountedAllDefinitions names objects = (q : List ℕ) → HasCountedDefinitions names q (count_globals_named objects q)
 
 -- ---- addresses
 
@@ -78,9 +78,9 @@ abbrev pub global_symbol_address : {S : Type 0} → HashMap (Bor (List ℕ)) Def
 global_symbol_address names placed q = option_map (definition_address placed) (global_at_name names q)
 
 -- for each name, the map gives the address of the first of these global symbols with that name
-abbrev pub HoldsGlobals : {S : Type 0} → HashMap (Bor (List ℕ)) Definition S → List PlacedData → List GlobalData → Type 0
-HoldsGlobals names placed all = (q : List ℕ) → global_symbol_address names placed q ≡ first_global_address all q
+abbrev pub ResolvesGlobals : {S : Type 0} → HashMap (Bor (List ℕ)) Definition S → List PlacedData → List GlobalData → Type 0
+ResolvesGlobals names placed all = (q : List ℕ) → global_symbol_address names placed q ≡ first_global_address all q
 
 -- wherever the objects are placed, the map gives the addresses of all their global symbols
-abbrev pub HoldsAllGlobals : {S : Type 0} → HashMap (Bor (List ℕ)) Definition S → List ObjectData → Type 0
-HoldsAllGlobals names objects = (placed : List PlacedData) → map (λ p. p.object) placed ≡ objects → HoldsGlobals names placed (globals_of placed)
+abbrev pub ResolvesAllGlobals : {S : Type 0} → HashMap (Bor (List ℕ)) Definition S → List ObjectData → Type 0
+ResolvesAllGlobals names objects = (placed : List PlacedData) → map (λ p. p.object) placed ≡ objects → ResolvesGlobals names placed (globals_of placed)

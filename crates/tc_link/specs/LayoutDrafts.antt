@@ -28,6 +28,6 @@ draft_with_line d line = record {
 
 -- the layout with the first of these entries, after n lines; without an entry, a fault at line n +
 -- 1
-abbrev pub with_entry : ℕ → List (List ℕ) → List PlaceData → Result LayoutData LayoutErr
-with_entry n [] places = Err (BadLine (n + 1))
-with_entry n (name ∷ names) places = Ok (record { entry = name; places = places })
+abbrev pub finished_layout : ℕ → List (List ℕ) → List PlaceData → Result LayoutData LayoutErr
+finished_layout n [] places = Err (BadLine (n + 1))
+finished_layout n (name ∷ names) places = Ok (record { entry = name; places = places })

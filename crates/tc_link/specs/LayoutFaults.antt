@@ -9,7 +9,7 @@ use Rattle.tcd_text.specs.Lines.{text_lines}
 use Rattle.tc_link.specs.LayoutLines.{LayoutLineData, blank, entry, place, layout_line_contents, entries_in_lines, places_in_lines}
 use Rattle.tc_link.specs.declared.layout_errors.LayoutErr.{LayoutErr}
 use Rattle.tc_link.specs.declared.layout_errors.LayoutErr.TheVariants.{BadLine, Twice, TooMany, Overlap, NoMemory}
-use Rattle.tc_link.specs.LayoutDrafts.{with_entry}
+use Rattle.tc_link.specs.LayoutDrafts.{finished_layout}
 
 -- the fault of line n with these contents, after lines with these entries and places
 abbrev pub layout_line_fault : ℕ → List (List ℕ) → List PlaceData → Option LayoutLineData → Option LayoutErr
@@ -33,7 +33,7 @@ first_layout_fault before (line ∷ lines) = option_or (layout_fault_after befor
 -- the fault of the first of a layout's lines that has one, or else the layout that the lines spell.
 -- If no line is an entry, that is a fault at the line after the last
 abbrev pub layout_of_lines : List (List ℕ) → Result LayoutData LayoutErr
-layout_of_lines lines = unless_refused (first_layout_fault [] lines) (with_entry (length lines) (entries_in_lines lines) (places_in_lines lines))
+layout_of_lines lines = unless_refused (first_layout_fault [] lines) (finished_layout (length lines) (entries_in_lines lines) (places_in_lines lines))
 
 -- the first fault of a layout's text, or else the layout that the text spells. If no line is an
 -- entry, that is a fault at the line after the last

@@ -56,10 +56,10 @@ unfoldable pub places_in_lines : List (List ℕ) → List PlaceData
 places_in_lines lines = filter_map (λ l. option_and_then place_in_line (layout_line_contents l)) lines
 
 -- an entry's name is that of a symbol, and a place is valid; an empty line is always good
-abbrev pub IsGoodLayoutLine : LayoutLineData → Type 0
-IsGoodLayoutLine blank = Unit {0}
-IsGoodLayoutLine (entry name) = object_name_of name ≡ Some name
-IsGoodLayoutLine (place p) = IsPlace p
+abbrev pub IsValidLayoutLine : LayoutLineData → Type 0
+IsValidLayoutLine blank = Unit {0}
+IsValidLayoutLine (entry name) = object_name_of name ≡ Some name
+IsValidLayoutLine (place p) = IsPlace p
 
 -- the plain data of a line of a layout
 abbrev pub layout_line_data : Line → LayoutLineData

@@ -19,21 +19,21 @@ unfoldable pub used_place_size : List ℕ → List SectionData → ℕ
 used_place_size name sections = fold (used_size_with_section name) 0 sections
 
 -- the sizes are, for each place, the number of bytes that these sections use there
-abbrev pub AreTaken : List PlaceData → List SectionData → List ℕ → Type 0
-AreTaken places sections sizes = (k : ℕ) (d : PlaceData) → k < length places → slice_index sizes k ≡ used_place_size (slice_index_or places k d).section sections
+abbrev pub AreUsedSizes : List PlaceData → List SectionData → List ℕ → Type 0
+AreUsedSizes places sections sizes = (k : ℕ) (d : PlaceData) → k < length places → slice_index sizes k ≡ used_place_size (slice_index_or places k d).section sections
 
 -- if earlier sections use the old sizes of the places, they and these sections use the new ones
 abbrev pub AreUsedSizesAfter : List PlaceData → List SectionData → List ℕ → List ℕ → Type 0
-AreUsedSizesAfter places sections old new = (before : List SectionData) → AreTaken places before old → AreTaken places (before ++ sections) new
+AreUsedSizesAfter places sections old new = (before : List SectionData) → AreUsedSizes places before old → AreUsedSizes places (before ++ sections) new
 
 -- the numbers of used bytes of a layout's places are at most 2^32
-abbrev pub AreSmallPlaceSizes : List ℕ → Type 0
-AreSmallPlaceSizes sizes = (k : ℕ) → slice_index sizes k ≤ 2 ^ 32
+abbrev pub AreSizesWithin4GiB : List ℕ → Type 0
+AreSizesWithin4GiB sizes = (k : ℕ) → slice_index sizes k ≤ 2 ^ 32
 
 -- the number of bytes that the sections use in all places
 unfoldable pub total_used_size : List PlaceData → List SectionData → ℕ
 total_used_size places sections = sum_by (λ p. used_place_size p.section sections) places
 
 -- these sections are too large for a place, or for the 16,777,216 bytes of an image
-unfoldable pub are_places_overfull : List PlaceData → List SectionData → Bool
-are_places_overfull places sections = list_any (λ p. nat_lt p.most (used_place_size p.section sections)) places || nat_lt (2 ^ 24) (total_used_size places sections)
+unfoldable pub has_region_overflow : List PlaceData → List SectionData → Bool
+has_region_overflow places sections = list_any (λ p. nat_lt p.most (used_place_size p.section sections)) places || nat_lt (2 ^ 24) (total_used_size places sections)

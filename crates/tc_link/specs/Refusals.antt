@@ -9,7 +9,7 @@ use Rattle.tc_reloc.specs.declared.refusals.RelocErr.{RelocErr}
 use Rattle.tc_link.specs.Layouts.{PlaceData, has_place_for, LayoutData}
 use Rattle.tc_link.specs.Placing.{PlacedData, sections_to_link}
 use Rattle.tc_link.specs.GlobalSymbols.{GlobalData, is_global, count_globals_named}
-use Rattle.tc_link.specs.PlaceSizes.{AreTaken, are_places_overfull}
+use Rattle.tc_link.specs.PlaceSizes.{AreUsedSizes, has_region_overflow}
 use Rattle.tc_reloc.specs.Refusals.{reloc_value_refusal}
 use Rattle.tc_link.specs.Relocated.{reloc_field_address, symbol_addresses, reloc_value}
 
@@ -34,12 +34,12 @@ abbrev pub first_refusal_over : {A B : Type 0} → (ℕ → A → Option B) → 
 first_refusal_over f xs = first_refusal_from f 0 xs
 
 -- a refusal if the symbol is global and several objects define its name, else None
-abbrev pub repeated_symbol_refusal : List ObjectData → ℕ → SymbolData → Option Refusal
-repeated_symbol_refusal objects number s = then_some (is_global s && nat_lt 1 (count_globals_named objects s.name)) (twice s.name)
+abbrev pub duplicate_symbol_refusal : List ObjectData → ℕ → SymbolData → Option Refusal
+duplicate_symbol_refusal objects number s = then_some (is_global s && nat_lt 1 (count_globals_named objects s.name)) (twice s.name)
 
 -- the refusal of the first global symbol that two objects define, or None
-unfoldable pub first_repeated_symbol_refusal : List ObjectData → Option Refusal
-first_repeated_symbol_refusal objects = first_refusal_over (λ _ o. first_refusal_over (repeated_symbol_refusal objects) o.symbols) objects
+unfoldable pub first_duplicate_symbol_refusal : List ObjectData → Option Refusal
+first_duplicate_symbol_refusal objects = first_refusal_over (λ _ o. first_refusal_over (duplicate_symbol_refusal objects) o.symbols) objects
 
 -- for each number below the count, the flag of that number is the answer of the test
 abbrev pub AreFlagsOf : List Bool → ℕ → (ℕ → Bool) → Type 0
@@ -72,7 +72,7 @@ first_no_place_refusal places objects = first_refusal_over (λ _ o. first_refusa
 
 -- a refusal if there is no room for the section after these sections, else None
 abbrev pub no_room_refusal : List PlaceData → List SectionData → SectionData → Option Refusal
-no_room_refusal places before s = then_some (are_places_overfull places (before ++ s ∷ [])) (no_room s.name)
+no_room_refusal places before s = then_some (has_region_overflow places (before ++ s ∷ [])) (no_room s.name)
 
 -- the refusal of the first section without room, after these sections and earlier ones; or None
 unfoldable pub first_no_room_refusal : List PlaceData → List SectionData → List SectionData → Option Refusal
@@ -81,19 +81,19 @@ first_no_room_refusal places before (s ∷ ss) = option_or (no_room_refusal plac
 
 -- there is room for these sections after earlier ones, which use this many bytes of the places
 abbrev pub HaveRoomAfterUsedBytes : List PlaceData → List ℕ → List SectionData → Type 0
-HaveRoomAfterUsedBytes places sizes sections = (before : List SectionData) → AreTaken places before sizes → first_no_room_refusal places before sections ≡ None
+HaveRoomAfterUsedBytes places sizes sections = (before : List SectionData) → AreUsedSizes places before sizes → first_no_room_refusal places before sections ≡ None
 
 -- the error of a relocation whose field can't hold its value, or None
 abbrev pub reloc_error : List GlobalData → PlacedData → Reloc → Option RelocErr
 reloc_error globals p r = reloc_value_refusal r.kind (reloc_field_address p r) (reloc_value globals p r)
 
 -- the refusal of a relocation of the object with this number that can't be written, or None
-abbrev pub refusal_at : List GlobalData → ℕ → PlacedData → ℕ → Reloc → Option Refusal
-refusal_at globals object p number r = option_map (λ err. reloc object r.section r.offset err) (reloc_error globals p r)
+abbrev pub reloc_refusal : List GlobalData → ℕ → PlacedData → ℕ → Reloc → Option Refusal
+reloc_refusal globals object p number r = option_map (λ err. reloc object r.section r.offset err) (reloc_error globals p r)
 
 -- the refusal of the first relocation of the object with this number that can't be applied, or None
 abbrev pub first_reloc_refusal_in : List GlobalData → ℕ → PlacedData → Option Refusal
-first_reloc_refusal_in globals object p = first_refusal_over (refusal_at globals object p) p.object.relocs
+first_reloc_refusal_in globals object p = first_refusal_over (reloc_refusal globals object p) p.object.relocs
 
 -- if these are the addresses of its symbols, no relocation of the object with this number is
 -- refused
@@ -107,6 +107,6 @@ first_reloc_refusal globals placed = first_refusal_over (λ object p. first_relo
 -- the first refusal before relocations are written, in this order
 abbrev pub refusal_before_relocs : LayoutData → List ObjectData → Option Refusal
 refusal_before_relocs layout objects =
-    option_or (first_repeated_symbol_refusal objects)
+    option_or (first_duplicate_symbol_refusal objects)
     (option_or (first_missing_symbol_refusal objects)
     (option_or (first_no_place_refusal layout.places objects) (first_no_room_refusal layout.places [] (sections_to_link objects))))

@@ -41,20 +41,20 @@ section_with_filled_field r place value s = record {
 }
 
 -- a section with the field of a relocation written
-abbrev pub section_with_reloc : List GlobalData → PlacedData → Reloc → SectionData → SectionData
-section_with_reloc globals p r s = section_with_filled_field r (reloc_field_address p r) (reloc_value globals p r) s
+abbrev pub section_after_reloc : List GlobalData → PlacedData → Reloc → SectionData → SectionData
+section_after_reloc globals p r s = section_with_filled_field r (reloc_field_address p r) (reloc_value globals p r) s
 
 -- a list with f of the item of this number there; unchanged if there is no such item
 abbrev pub with_changed_item : {A : Type 0} → (A → A) → ℕ → List A → List A
 with_changed_item f n xs = option_map_or (λ x. slice_set xs n (f x)) (slice_get xs n) xs
 
 -- the sections of a placed object after one of its relocations is written
-abbrev pub sections_with_reloc : List GlobalData → PlacedData → List SectionData → Reloc → List SectionData
-sections_with_reloc globals p sections r = with_changed_item (section_with_reloc globals p r) r.section sections
+abbrev pub sections_after_reloc : List GlobalData → PlacedData → List SectionData → Reloc → List SectionData
+sections_after_reloc globals p sections r = with_changed_item (section_after_reloc globals p r) r.section sections
 
 -- the sections of a placed object after all its relocations are written, in order
 unfoldable pub relocated_sections : List GlobalData → PlacedData → List SectionData
-relocated_sections globals p = fold (sections_with_reloc globals p) p.object.sections p.object.relocs
+relocated_sections globals p = fold (sections_after_reloc globals p) p.object.sections p.object.relocs
 
 -- if these are the addresses of a placed object's symbols, these are its sections after all its
 -- relocations are applied

@@ -12,12 +12,12 @@ abbrev pub with_segment_padding : List ℕ → List ℕ
 with_segment_padding bytes = bytes ++ replicate (next_multiple_of_4 (length bytes) - length bytes) 0
 
 -- the bytes of a place after a further section, if it has the place's name
-abbrev pub with_section : List ℕ → List ℕ → SectionData → List ℕ
-with_section name bytes s = if bytes_eq name s.name then with_segment_padding bytes ++ s.bytes else bytes
+abbrev pub with_section_of_name : List ℕ → List ℕ → SectionData → List ℕ
+with_section_of_name name bytes s = if bytes_eq name s.name then with_segment_padding bytes ++ s.bytes else bytes
 
 -- the sections of one name, each at a multiple of 4, the gaps zero
 unfoldable pub joined_sections : List ℕ → List SectionData → List ℕ
-joined_sections name sections = fold (with_section name) [] sections
+joined_sections name sections = fold (with_section_of_name name) [] sections
 
 -- the segment of a place: the sections with its name
 abbrev pub segment_of : List SectionData → PlaceData → SegmentData

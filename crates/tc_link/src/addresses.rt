@@ -1,7 +1,7 @@
 // Computes the addresses of symbols.
 ghost use Rattle.std.specs.Prelude.{◌≡◌, List, slice_index, IfOk, IfErr, ◌<◌, None};
 ghost use Rattle.tc_link.specs.Placing.{address_in_section};
-ghost use Rattle.tc_link.specs.GlobalSymbols.{GlobalData, global_symbol_address, HoldsGlobals};
+ghost use Rattle.tc_link.specs.GlobalSymbols.{GlobalData, global_symbol_address, ResolvesGlobals};
 ghost use Rattle.tc_link.specs.Relocated.{symbol_addresses};
 ghost use Rattle.tc_link.specs.declared.errors.LinkErr.TheVariants.{NoMemory};
 
@@ -52,7 +52,7 @@ pub(crate) fn symbol_addresses(
     each: &Placed<'_, '_>,
 ) -> Result<Vec<u32>, LinkErr>
     ensures ok { IfOk result (λ addresses. (all : List GlobalData)
-        → HoldsGlobals names.now placed.now all
+        → ResolvesGlobals names.now placed.now all
         → addresses.items ≡ symbol_addresses all each.now) }
     ensures err { IfErr result (λ e. e ≡ NoMemory) }
 {

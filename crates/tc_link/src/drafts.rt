@@ -36,7 +36,7 @@ impl Draft {
     ghost use Rattle.tc_link.specs.Layouts.{IsPlace, IsPlaceAfter, has_place_for, is_overlapping_place, place_data};
     ghost use Rattle.tc_link.specs.LayoutLines.{layout_line_contents, place};
     ghost use Rattle.tc_link.specs.LayoutFaults.{layout_line_fault, IsLayoutFaultOf, IsLayoutFault};
-    ghost use Rattle.tc_link.specs.LayoutDrafts.{with_entry, draft_with_line};
+    ghost use Rattle.tc_link.specs.LayoutDrafts.{finished_layout, draft_with_line};
     ghost use Rattle.tc_link.specs.declared.layout_errors.LayoutErr.TheVariants.{Twice, TooMany, Overlap};
 
     /// An empty draft of a layout, before its first line.
@@ -92,8 +92,8 @@ impl Draft {
     /// was an entry.
     pub(crate) fn finish(self, count: u32) -> Result<Layout, LayoutErr>
         requires { count < 2 ^ 31 }
-        ensures ok { IfOk result (λ l. with_entry count self.entries self.places ≡ Ok l) }
-        ensures err { IfErr result (IsLayoutFaultOf (with_entry count self.entries self.places)) }
+        ensures ok { IfOk result (λ l. finished_layout count self.entries self.places ≡ Ok l) }
+        ensures err { IfErr result (IsLayoutFaultOf (finished_layout count self.entries self.places)) }
     {
         let Draft { entry, places } = self;
         match entry {

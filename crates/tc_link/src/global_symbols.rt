@@ -1,7 +1,7 @@
 // A map of the global symbols of objects by name, so that each look-up is a few steps.
 ghost use Rattle.std.specs.Prelude.{◌≡◌, ◌+◌, ◌++◌, ◌∷◌, nat_lt, ◌==◌, ℕ, List, [], true, false, count_by, slice_get, OnOk, IfOk, IfErr, if◌then◌else◌, Some, None};
 ghost use Rattle.tc_link.specs.Placing.{PlacedData};
-ghost use Rattle.tc_link.specs.GlobalSymbols.{GlobalData, globals_of_symbols, has_global_name, HasCountedDefinitions, HoldsGlobals, KnowsRepeatedGlobals, HoldsAllGlobals};
+ghost use Rattle.tc_link.specs.GlobalSymbols.{GlobalData, globals_of_symbols, has_global_name, HasCountedDefinitions, ResolvesGlobals, HasCountedAllDefinitions, ResolvesAllGlobals};
 ghost use Rattle.tc_link.specs.declared.errors.LinkErr.TheVariants.{NoMemory};
 
 use crate::LinkErr;
@@ -15,8 +15,8 @@ pub(crate) fn globals_by_name<'a>(
     alloc: Global,
     objects: &[ObjectRef<'a>],
 ) -> Result<HashMap<&'a str, Definition>, LinkErr>
-    ensures counts { IfOk result (λ names. KnowsRepeatedGlobals names objects.now) }
-    ensures globals { IfOk result (λ names. HoldsAllGlobals names objects.now) }
+    ensures counts { IfOk result (λ names. HasCountedAllDefinitions names objects.now) }
+    ensures globals { IfOk result (λ names. ResolvesAllGlobals names objects.now) }
     ensures err { IfErr result (λ e. e ≡ NoMemory) }
 {
     let mut names = HashMap::with_capacity(alloc, count_globals(objects))?;
@@ -66,8 +66,8 @@ fn add_global_symbols<'a>(
         → HasCountedDefinitions names.new q (n + count_by (has_global_name q) symbols.now)) }
     ensures globals { OnOk result ((placed : List PlacedData) (p : PlacedData)
         (before : List GlobalData) → slice_get placed object ≡ Some p
-        → HoldsGlobals names.old placed before
-        → HoldsGlobals names.new placed (before ++ globals_of_symbols p.bases symbols.now)) }
+        → ResolvesGlobals names.old placed before
+        → ResolvesGlobals names.new placed (before ++ globals_of_symbols p.bases symbols.now)) }
     ensures err { IfErr result (λ e. e ≡ NoMemory) }
 {
     for symbol in symbols {
@@ -88,8 +88,8 @@ fn add_symbol_if_global<'a>(
         (n + (if has_global_name q symbol.now then 1 else 0))) }
     ensures globals { OnOk result ((placed : List PlacedData) (p : PlacedData)
         (before : List GlobalData) → slice_get placed object ≡ Some p
-        → HoldsGlobals names.old placed before
-        → HoldsGlobals names.new placed (before ++ globals_of_symbols p.bases (symbol.now ∷ []))) }
+        → ResolvesGlobals names.old placed before
+        → ResolvesGlobals names.new placed (before ++ globals_of_symbols p.bases (symbol.now ∷ []))) }
     ensures err { IfErr result (λ e. e ≡ NoMemory) }
 {
     let is_global = symbol.kind == GLOBAL_SYMBOL;

@@ -4,7 +4,7 @@ ghost use Rattle.std.specs.Option.{option_map};
 ghost use Rattle.std.specs.Str.{bytes_eq};
 ghost use Rattle.tc_object.specs.Names.{object_name_of};
 ghost use Rattle.tcd_text.specs.HexNumbers.{hex_number_of};
-ghost use Rattle.tc_link.specs.LayoutLines.{entry, layout_line_contents, place_of_words, IsGoodLayoutLine, layout_line_data};
+ghost use Rattle.tc_link.specs.LayoutLines.{entry, layout_line_contents, place_of_words, IsValidLayoutLine, layout_line_data};
 
 use tc_object::object_name_of;
 use tcd_text::{Words, hex_number, words_in};
@@ -29,7 +29,7 @@ pub(crate) enum Line<'a> {
 #[tactic(auto, using(crate::proofs::LineLaws::more), unfolding(crate::specs::LayoutLines::layout_line_contents))]
 pub(crate) fn layout_line_contents(line: &[u8]) -> Option<Line<'_>>
     ensures line { option_map layout_line_data result ≡ layout_line_contents line.now }
-    ensures good { IfSome result (λ line. IsGoodLayoutLine (layout_line_data line)) }
+    ensures good { IfSome result (λ line. IsValidLayoutLine (layout_line_data line)) }
 {
     match words_in(line) {
         Words::One(word) => {
@@ -61,7 +61,7 @@ fn place_line<'a>(word: &[u8], section: &'a [u8], at: &[u8], most: &[u8]) -> Opt
         then place_of_words (object_name_of section.now) (hex_number_of at.now)
         (hex_number_of most.now)
         else None) }
-    ensures good { IfSome result (λ line. IsGoodLayoutLine (layout_line_data line)) }
+    ensures good { IfSome result (λ line. IsValidLayoutLine (layout_line_data line)) }
 {
     if word != "place".as_bytes() {
         return None;

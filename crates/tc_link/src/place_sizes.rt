@@ -1,7 +1,7 @@
 // Computes the sizes of places.
 ghost use Rattle.std.specs.Prelude.{◌≡◌, ◌≤◌, ◌<◌, ◌+◌, ◌∷◌, [], ◌*◌, ◌^◌, List, length, false};
 ghost use Rattle.tc_object.specs.Objects.{SectionData};
-ghost use Rattle.tc_link.specs.PlaceSizes.{next_multiple_of_4, AreTaken, AreUsedSizesAfter, AreSmallPlaceSizes, are_places_overfull};
+ghost use Rattle.tc_link.specs.PlaceSizes.{next_multiple_of_4, AreUsedSizes, AreUsedSizesAfter, AreSizesWithin4GiB, has_region_overflow};
 
 use crate::{LinkErr, Place};
 use std::alloc::Global;
@@ -23,7 +23,7 @@ pub(crate) fn next_multiple_of_4(size: u64) -> u64
 // `sizes` has the number of used bytes of each place.
 pub(crate) fn add_section_size(places: &[Place], sizes: &mut [u64], section: &SectionRef<'_>)
     requires count { length sizes.old ≡ length places.now }
-    requires small { AreSmallPlaceSizes sizes.old }
+    requires small { AreSizesWithin4GiB sizes.old }
     ensures taken { AreUsedSizesAfter places.now (section.now ∷ []) sizes.old sizes.new }
 {
     for (i, place) in places.iter().enumerate() {
@@ -34,13 +34,13 @@ pub(crate) fn add_section_size(places: &[Place], sizes: &mut [u64], section: &Se
 }
 
 // Whether a place has fewer bytes than its used ones, `sizes`, or all use more than 2^24 bytes.
-#[tactic(auto, unfolding(crate::specs::PlaceSizes::are_places_overfull, crate::specs::PlaceSizes::total_used_size))]
+#[tactic(auto, unfolding(crate::specs::PlaceSizes::has_region_overflow, crate::specs::PlaceSizes::total_used_size))]
 pub(crate) fn has_region_overflow(places: &[Place], sizes: &[u64]) -> bool
     requires count { length sizes.now ≡ length places.now }
     requires few { length places.now ≤ 64 }
-    ensures over { (before : List SectionData) → AreTaken places.now before sizes.now
-        → result ≡ are_places_overfull places.now before }
-    ensures small { result ≡ false → AreSmallPlaceSizes sizes.now }
+    ensures over { (before : List SectionData) → AreUsedSizes places.now before sizes.now
+        → result ≡ has_region_overflow places.now before }
+    ensures small { result ≡ false → AreSizesWithin4GiB sizes.now }
 {
     let mut total = 0u64;
     for (i, place) in places.iter().enumerate() {

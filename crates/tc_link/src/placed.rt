@@ -3,7 +3,7 @@ ghost use Rattle.std.specs.Prelude.{◌≡◌, ◌≤◌, [], IfOk, IfErr, lengt
 ghost use Rattle.tc_object.specs.Objects.{SectionData};
 ghost use Rattle.tc_link.specs.Placing.{AreValidObjects, placed_after, sections_to_link, section_base, AreBasesAfterUsedBytes};
 ghost use Rattle.tc_link.specs.Refusals.{first_no_room_refusal, HaveRoomAfterUsedBytes};
-ghost use Rattle.tc_link.specs.PlaceSizes.{AreTaken, AreUsedSizesAfter, AreSmallPlaceSizes, next_multiple_of_4, are_places_overfull};
+ghost use Rattle.tc_link.specs.PlaceSizes.{AreUsedSizes, AreUsedSizesAfter, AreSizesWithin4GiB, next_multiple_of_4, has_region_overflow};
 ghost use Rattle.tc_link.specs.Errors.{IsRefusal, IsNoRoomAfterUsedBytes};
 
 use crate::layouts::find_place;
@@ -57,8 +57,8 @@ pub(crate) fn place_objects<'a, 'b>(
 /// number of bytes of each place that earlier sections use.
 pub(crate) fn section_base(places: &[Place], sizes: &[u64], section: &SectionRef<'_>) -> u64
     requires count { length sizes.now ≡ length places.now }
-    requires small { AreSmallPlaceSizes sizes.now }
-    ensures { (before : List SectionData) → AreTaken places.now before sizes.now
+    requires small { AreSizesWithin4GiB sizes.now }
+    ensures { (before : List SectionData) → AreUsedSizes places.now before sizes.now
         → result ≡ section_base places.now before section.now }
 {
     match find_place(places, section.name) {
@@ -80,12 +80,12 @@ pub(crate) fn place_sections(
 ) -> Result<Vec<u64>, LinkErr>
     requires count { length sizes.old ≡ length places.now }
     requires few { length places.now ≤ 64 }
-    requires small { AreSmallPlaceSizes sizes.old }
+    requires small { AreSizesWithin4GiB sizes.old }
     ensures bases { IfOk result
         (λ bases. AreBasesAfterUsedBytes places.now sizes.old sections.now bases.items) }
     ensures taken { OnOk result (AreUsedSizesAfter places.now sections.now sizes.old sizes.new) }
     ensures room { OnOk result (HaveRoomAfterUsedBytes places.now sizes.old sections.now) }
-    ensures small { OnOk result (AreSmallPlaceSizes sizes.new) }
+    ensures small { OnOk result (AreSizesWithin4GiB sizes.new) }
     ensures err { IfErr result (IsNoRoomAfterUsedBytes places.now sizes.old sections.now) }
 {
     let mut bases = Vec::new(alloc);

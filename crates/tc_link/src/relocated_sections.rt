@@ -2,8 +2,8 @@
 ghost use Rattle.std.specs.Prelude.{◌≡◌, ◌≤◌, ◌<◌, ◌+◌, List, length, map, Some, None, OnOk, IfOk, IfErr, MatchResult};
 ghost use Rattle.tc_object.specs.Objects.{section_size_at};
 ghost use Rattle.tc_reloc.specs.Refusals.{reloc_value_refusal};
-ghost use Rattle.tc_link.specs.GlobalSymbols.{GlobalData, globals_of, HoldsGlobals};
-ghost use Rattle.tc_link.specs.Relocated.{symbol_addresses, section_bytes_with_field, section_with_filled_field, sections_with_reloc, relocated_sections, AreRelocatedSections, all_relocated_sections, reloc_value, reloc_field_at};
+ghost use Rattle.tc_link.specs.GlobalSymbols.{GlobalData, globals_of, ResolvesGlobals};
+ghost use Rattle.tc_link.specs.Relocated.{symbol_addresses, section_bytes_with_field, section_with_filled_field, sections_after_reloc, relocated_sections, AreRelocatedSections, all_relocated_sections, reloc_value, reloc_field_at};
 ghost use Rattle.tc_link.specs.Refusals.{reloc_error, first_reloc_refusal_in, AreRelocsApplicable, first_reloc_refusal};
 ghost use Rattle.tc_link.specs.Shapes.{section_shape};
 ghost use Rattle.tc_link.specs.Errors.{IsRefusal, IsRelocErrorOf};
@@ -28,7 +28,7 @@ pub(crate) fn all_relocated_sections<'a>(
     placed: &[Placed<'_, 'a>],
 ) -> Result<Vec<WrittenSection<'a>>, LinkErr>
     requires few { length placed.now ≤ 65535 }
-    requires globals { HoldsGlobals names.now placed.now (globals_of placed.now) }
+    requires globals { ResolvesGlobals names.now placed.now (globals_of placed.now) }
     ensures sections { IfOk result (λ ss. ss.items ≡ all_relocated_sections placed.now) }
     ensures none { OnOk result (first_reloc_refusal (globals_of placed.now) placed.now ≡ None) }
     ensures err { IfErr result
@@ -60,10 +60,10 @@ fn relocate_object<'a>(
     each: &Placed<'_, 'a>,
 ) -> Result<Vec<WrittenSection<'a>>, LinkErr>
     ensures sections { IfOk result (λ ss. (all : List GlobalData)
-        → HoldsGlobals names.now placed.now all → ss.items ≡ relocated_sections all each.now) }
-    ensures none { OnOk result ((all : List GlobalData) → HoldsGlobals names.now placed.now all
+        → ResolvesGlobals names.now placed.now all → ss.items ≡ relocated_sections all each.now) }
+    ensures none { OnOk result ((all : List GlobalData) → ResolvesGlobals names.now placed.now all
         → first_reloc_refusal_in all number each.now ≡ None) }
-    ensures err { IfErr result (λ e. (all : List GlobalData) → HoldsGlobals names.now placed.now all
+    ensures err { IfErr result (λ e. (all : List GlobalData) → ResolvesGlobals names.now placed.now all
         → IsRefusal (first_reloc_refusal_in all number each.now) e) }
 {
     let object = each.object;
@@ -116,7 +116,7 @@ fn apply_reloc(
         (λ err. reloc_error all placed.now reloc.now ≡ Some err) }
     ensures written { OnOk result ((all : List GlobalData)
         → addresses.now ≡ symbol_addresses all placed.now
-        → sections.new ≡ sections_with_reloc all placed.now sections.old reloc.now) }
+        → sections.new ≡ sections_after_reloc all placed.now sections.old reloc.now) }
     ensures shapes { OnOk result (map section_shape sections.new ≡ map section_shape sections.old) }
 {
     let place = address_in_section(&placed.bases, reloc.section, reloc.offset);

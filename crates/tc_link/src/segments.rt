@@ -1,7 +1,7 @@
 // Joins sections to the segments of an image.
 ghost use Rattle.std.specs.Prelude.{◌≡◌, ◌≤◌, ◌<◌, ◌-◌, map, OnOk, IfOk, IfErr, replicate};
 ghost use Rattle.elf_image.specs.Images.{segment_data};
-ghost use Rattle.tc_link.specs.Segments.{joined_sections, segments_of, with_section};
+ghost use Rattle.tc_link.specs.Segments.{joined_sections, segments_of, with_section_of_name};
 ghost use Rattle.tc_link.specs.declared.errors.LinkErr.TheVariants.{NoMemory};
 
 use crate::written_sections::WrittenSection;
@@ -54,7 +54,7 @@ fn join_sections(
 /// Appends a section to the bytes of a segment, at the next multiple of 4, if the section has
 /// `name`. Otherwise nothing changes.
 fn append_section_of_name(bytes: &mut Vec<u8>, name: &str, section: &WrittenSection<'_>) -> Result<(), LinkErr>
-    ensures ok { OnOk result (bytes.new.items ≡ with_section name.now bytes.old.items section.now) }
+    ensures ok { OnOk result (bytes.new.items ≡ with_section_of_name name.now bytes.old.items section.now) }
     ensures err { IfErr result (λ e. e ≡ NoMemory) }
 {
     if name != section.name {

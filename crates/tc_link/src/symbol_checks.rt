@@ -3,8 +3,8 @@ ghost use Rattle.std.specs.Prelude.{◌≡◌, ◌==◌, ◌&&◌, nat_lt, List,
 ghost use Rattle.std.specs.Option.{option_map};
 ghost use Rattle.tc_object.specs.declared.relocs.Reloc.{Reloc};
 ghost use Rattle.tc_object.specs.Objects.{ObjectData, undefined_symbol};
-ghost use Rattle.tc_link.specs.GlobalSymbols.{is_global, count_globals_named, KnowsRepeatedGlobals};
-ghost use Rattle.tc_link.specs.Refusals.{twice, missing, repeated_symbol_refusal, first_repeated_symbol_refusal, missing_symbol_refusal, first_missing_symbol_refusal, first_refusal_over, is_used_by_relocs, AreFlagsOf};
+ghost use Rattle.tc_link.specs.GlobalSymbols.{is_global, count_globals_named, HasCountedAllDefinitions};
+ghost use Rattle.tc_link.specs.Refusals.{twice, missing, duplicate_symbol_refusal, first_duplicate_symbol_refusal, missing_symbol_refusal, first_missing_symbol_refusal, first_refusal_over, is_used_by_relocs, AreFlagsOf};
 ghost use Rattle.tc_link.specs.Errors.{IsRefusal};
 ghost use Rattle.tc_link.specs.declared.errors.LinkErr.TheVariants.{NoMemory};
 
@@ -21,9 +21,9 @@ pub(crate) fn check_duplicate_symbols(
     names: &HashMap<&str, Definition>,
     objects: &[ObjectRef<'_>],
 ) -> Result<(), LinkErr>
-    requires { KnowsRepeatedGlobals names.now objects.now }
-    ensures ok { OnOk result (first_repeated_symbol_refusal objects.now ≡ None) }
-    ensures err { IfErr result (IsRefusal (first_repeated_symbol_refusal objects.now)) }
+    requires { HasCountedAllDefinitions names.now objects.now }
+    ensures ok { OnOk result (first_duplicate_symbol_refusal objects.now ≡ None) }
+    ensures err { IfErr result (IsRefusal (first_duplicate_symbol_refusal objects.now)) }
 {
     if names.values().all(|definition| !definition.is_twice) {
         return Ok(());
@@ -52,7 +52,7 @@ pub(crate) fn check_missing_symbols(
     names: &HashMap<&str, Definition>,
     objects: &[ObjectRef<'_>],
 ) -> Result<(), LinkErr>
-    requires { KnowsRepeatedGlobals names.now objects.now }
+    requires { HasCountedAllDefinitions names.now objects.now }
     ensures ok { OnOk result (first_missing_symbol_refusal objects.now ≡ None) }
     ensures err { IfErr result (IsRefusal (first_missing_symbol_refusal objects.now)) }
 {
@@ -70,8 +70,8 @@ fn first_duplicate_symbol<'a>(
     names: &HashMap<&str, Definition>,
     symbols: &[SymbolRef<'a>],
 ) -> Option<&'a str>
-    ensures { (objects : List ObjectData) → KnowsRepeatedGlobals names.now objects
-        → first_refusal_over (repeated_symbol_refusal objects) symbols.now
+    ensures { (objects : List ObjectData) → HasCountedAllDefinitions names.now objects
+        → first_refusal_over (duplicate_symbol_refusal objects) symbols.now
         ≡ option_map (λ name. twice name.now) result }
 {
     for symbol in symbols {
@@ -84,7 +84,7 @@ fn first_duplicate_symbol<'a>(
 
 // Whether a symbol is global and several objects define its name.
 fn is_duplicate_symbol(names: &HashMap<&str, Definition>, symbol: &SymbolRef<'_>) -> bool
-    ensures { (objects : List ObjectData) → KnowsRepeatedGlobals names.now objects → result
+    ensures { (objects : List ObjectData) → HasCountedAllDefinitions names.now objects → result
         ≡ (is_global symbol.now && nat_lt 1 (count_globals_named objects symbol.now.name)) }
 {
     symbol.kind == GLOBAL_SYMBOL && has_multiple_definitions(names, symbol.name)
@@ -111,7 +111,7 @@ fn first_missing_symbol<'a>(
     symbols: &[SymbolRef<'a>],
 ) -> Option<&'a str>
     requires { length used.now ≡ length symbols.now }
-    ensures { (objects : List ObjectData) → KnowsRepeatedGlobals names.now objects
+    ensures { (objects : List ObjectData) → HasCountedAllDefinitions names.now objects
         → (relocs : List Reloc)
         → AreFlagsOf used.now (length symbols.now) (is_used_by_relocs relocs)
         → first_refusal_over (missing_symbol_refusal objects relocs) symbols.now
@@ -128,7 +128,7 @@ fn first_missing_symbol<'a>(
 // Whether a symbol is undefined in its object, global in none, and used. `used` says whether a
 // relocation uses the symbol.
 fn is_missing_symbol(names: &HashMap<&str, Definition>, used: bool, symbol: &SymbolRef<'_>) -> bool
-    ensures { (objects : List ObjectData) → KnowsRepeatedGlobals names.now objects → result
+    ensures { (objects : List ObjectData) → HasCountedAllDefinitions names.now objects → result
         ≡ (symbol.now.kind == undefined_symbol && used
         && count_globals_named objects symbol.now.name == 0) }
 {

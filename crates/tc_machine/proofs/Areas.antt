@@ -3,7 +3,7 @@ use Rattle.std.proofs.Common.{◌≡◌, ◌≢◌, ℕ, zero, suc, ◌+◌, ◌
 use Rattle.std.proofs.lemmas.Bool.{le-ltb, lt-ltb, ltb-true}
 use Rattle.std.specs.Prelude.{nat_lt}
 use Rattle.csa_chain.specs.MemoryBytes.{Memory, with_words}
-use Rattle.csa_chain.specs.Chain.{link_in, link_address, is_area, area_word, word_with_link}
+use Rattle.csa_chain.specs.Chain.{link_in, link_address, is_area_mapped, area_word, word_with_link}
 use Rattle.csa_chain.proofs.ChainLaws.{Links, Avoids, Avoids-before, Distinct, Distinct-after, reverse_onto, reverse-append_onto, free_after_save, free_after_restore, chain_within-Links, are_mapped_from}
 use Rattle.csa_chain.proofs.ContextLaws.{link_in-with_link, with_link-lt, link_in-lt}
 use Rattle.elf_image.specs.Images.{ImageData}
@@ -26,7 +26,7 @@ pub record Areas (plan : PlanData) (mem : Memory) (fcx lcx : ℕ) (used free : L
 pub record HasFree (plan : PlanData) (mem : Memory) (fcx lcx : ℕ) (used : List ℕ) : Type 0 where
   pub rest : List ℕ
   pub some : link_in fcx ≢ 0
-  pub area : is_area mem (link_in fcx) ≡ true
+  pub area : is_area_mapped mem (link_in fcx) ≡ true
   pub links : Links mem (area_word mem (link_in fcx) 0) rest
   pub whole : reverse_onto used (link_in fcx ∷ rest) ≡ plan_areas plan
   pub place : link_in fcx ≡ first_link plan + length used
@@ -131,7 +131,7 @@ plus_zero : (n : ℕ) → n + 0 ≡ n
 plus_zero n = omega arith
 
 module _ (image : ImageData) (plan : PlanData) (ok : IsPlan plan) (m : Machine) (start : Starts image plan m) where
-  area_mapped : (i : ℕ) → i < plan.areas → is_area m.mem (first_link plan + i) ≡ true
+  area_mapped : (i : ℕ) → i < plan.areas → is_area_mapped m.mem (first_link plan + i) ≡ true
   area_mapped i lt =
       are_mapped_from m.mem _ 64 (λ j h. (start.memory _).1 (let at = link_address-area ok i lt in inr (inr (omega arith, omega arith))))
 

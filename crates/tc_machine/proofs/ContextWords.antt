@@ -1,7 +1,7 @@
 -- The words of a save area, read one after another.
 use Rattle.std.proofs.Common.{◌≡◌, ℕ, zero, suc, ◌+◌, ◌*◌, cond, List, [], ◌∷◌, map, Some, None, refl, ap, ◌∙◌, arith}
 use Rattle.csa_chain.specs.MemoryBytes.{Memory, word_at, memory_words_at}
-use Rattle.csa_chain.specs.Chain.{link_address, is_area}
+use Rattle.csa_chain.specs.Chain.{link_address, is_area_mapped}
 use Rattle.tc_mem.specs.Areas.{mapped_area_words}
 use Rattle.tc_machine.specs.SavesAndRestores.{saved_area_words}
 
@@ -23,6 +23,6 @@ first_word : (x : ℕ) → x ≡ x + 4 * 0
 first_word x = omega arith
 
 -- they are the area's words
-pub area_of_words : (m : Memory) (link : ℕ) → mapped_area_words m (link_address link) ≡ cond (is_area m link) (Some (saved_area_words m link)) None
+pub area_of_words : (m : Memory) (link : ℕ) → mapped_area_words m (link_address link) ≡ cond (is_area_mapped m link) (Some (saved_area_words m link)) None
 area_of_words m link =
-    ap (λ ws. cond (is_area m link) (Some ws) None) (ap (λ y. memory_words_at m y 16) (first_word (link_address link)) ∙ words_from m (link_address link) 0 16)
+    ap (λ ws. cond (is_area_mapped m link) (Some ws) None) (ap (λ y. memory_words_at m y 16) (first_word (link_address link)) ∙ words_from m (link_address link) 0 16)

@@ -15,7 +15,7 @@ use Rattle.elf_image.specs.declared.segments.Segment.{Segment}
 use Rattle.elf_image.specs.Images.{ImageData, SegmentData, segment_data, is_segment, byte_in_segments, image_byte}
 use Rattle.tcd_base.specs.declared.range.Range.{Range}
 use Rattle.tc_mem.specs.Written.{IsMemoryWritten}
-use Rattle.tc_machine.specs.Starting.{with_image_in_range, IsCopiedToMemory}
+use Rattle.tc_machine.specs.Starting.{with_image_in_range, AreSegmentsCopied}
 use Rattle.tc_machine.proofs.Filled.{image_mapped, image_none, image_outside, image_put}
 
 -- ---- the byte of a segment
@@ -48,7 +48,7 @@ nothing o x none some = cc
 
 -- the bytes of the segment that are in the range are written
 pub segment_copied : (s : SegmentData) (r : Range) (start end f l : ℕ) (bytes : List ℕ) (m new : Memory) → IsMemoryWritten m start (take (l - f) (drop f bytes)) new → bytes ≡ s.bytes → start ≡ max s.at r.at → end ≡ min (s.at + length s.bytes) (r.at + r.len) → start < end → f ≡ start - s.at → l ≡ end - s.at →
-    IsCopiedToMemory (s ∷ []) r m new
+    AreSegmentsCopied (s ∷ []) r m new
 segment_copied s r start end f l bytes m new w same start_is end_is some f_is l_is =
     let most : l ≤ length bytes = rw same (omega arith) in
     let size : length (take (l - f) (drop f bytes)) ≡ l - f = length-between bytes f l most in
@@ -77,10 +77,10 @@ segment_copied s r start end f l bytes m new w same start_is end_is some f_is l_
     }
 
 -- ---- one segment after the later ones
-no_segments : (r : Range) (m : Memory) → IsCopiedToMemory [] r m m
+no_segments : (r : Range) (m : Memory) → AreSegmentsCopied [] r m m
 no_segments r m = record { mapped = λ q. refl; held = λ q b low high is e. cc; outside = λ q out. refl; none = λ q e. refl }
 
-one_more : (s : SegmentData) (ss : List SegmentData) (r : Range) (m now new : Memory) → IsCopiedToMemory ss r m now → IsCopiedToMemory (s ∷ []) r now new → IsCopiedToMemory (s ∷ ss) r m new
+one_more : (s : SegmentData) (ss : List SegmentData) (r : Range) (m now new : Memory) → AreSegmentsCopied ss r m now → AreSegmentsCopied (s ∷ []) r now new → AreSegmentsCopied (s ∷ ss) r m new
 one_more s ss r m now new before more = record {
   mapped = λ q. more.mapped q ∙ before.mapped q;
   held = λ q b low high is e.
@@ -96,14 +96,14 @@ one_more s ss r m now new before more = record {
       ];
 }
 
-pub segments_begin : (segments : List Segment) (i : ℕ) (r : Range) (m : Memory) → i ≡ length segments → IsCopiedToMemory (map segment_data (drop i segments)) r m m
+pub segments_begin : (segments : List Segment) (i : ℕ) (r : Range) (m : Memory) → i ≡ length segments → AreSegmentsCopied (map segment_data (drop i segments)) r m m
 segments_begin segments i r m all = let none : drop i segments ≡ [] = drop_all i segments (omega arith) in rw none (no_segments r m)
 
-pub segments_more : (segments : List Segment) (i j : ℕ) (s : Segment) (r : Range) (m now new : Memory) → i ≡ j + 1 → j < length segments → s ≡ get_or segments j s → IsCopiedToMemory (map segment_data (drop i segments)) r m now → IsCopiedToMemory (segment_data s ∷ []) r now new →
-    IsCopiedToMemory (map segment_data (drop j segments)) r m new
+pub segments_more : (segments : List Segment) (i j : ℕ) (s : Segment) (r : Range) (m now new : Memory) → i ≡ j + 1 → j < length segments → s ≡ get_or segments j s → AreSegmentsCopied (map segment_data (drop i segments)) r m now → AreSegmentsCopied (segment_data s ∷ []) r now new →
+    AreSegmentsCopied (map segment_data (drop j segments)) r m new
 segments_more segments i j s r m now new next lt is before more =
     let parts : drop j segments ≡ s ∷ drop i segments = drop_more segments j s lt ∙ ap (λ (x : Segment). x ∷ drop (j + 1) segments) (sym is) ∙ ap (λ (k : ℕ). s ∷ drop k segments) (sym next) in
-    subst (λ (xs : List Segment). IsCopiedToMemory (map segment_data xs) r m new) (sym parts) (one_more (segment_data s) (map segment_data (drop i segments)) r m now new before more)
+    subst (λ (xs : List Segment). AreSegmentsCopied (map segment_data xs) r m new) (sym parts) (one_more (segment_data s) (map segment_data (drop i segments)) r m now new before more)
 
 -- a segment among segments passes no address
 both_true : (a b : Bool) → (a && b) ≡ true → b ≡ true
@@ -126,13 +126,13 @@ gone : (o : Option ℕ) → is_some o ≡ false → o ≡ None
 gone None e = refl
 gone (Some x) e = cc
 
-in_range : (image : ImageData) (r : Range) (m new : Memory) → IsCopiedToMemory image.segments r m new → (q : ℕ) → r.at ≤ q → q < r.at + r.len → (o : Option ℕ) → image_byte image q ≡ o → (t : Bool) → is_mapped m q ≡ t → finite.get new q ≡ finite.get (with_image_in_range image m r.at r.len) q
+in_range : (image : ImageData) (r : Range) (m new : Memory) → AreSegmentsCopied image.segments r m new → (q : ℕ) → r.at ≤ q → q < r.at + r.len → (o : Option ℕ) → image_byte image q ≡ o → (t : Bool) → is_mapped m q ≡ t → finite.get new q ≡ finite.get (with_image_in_range image m r.at r.len) q
 in_range image r m new c q low high None e t is = c.none q e ∙ sym (image_none image m r.at r.len q e)
 in_range image r m new c q low high (Some b) e true is = c.held q b low high is e ∙ sym (image_put image m r.at r.len q b low high is e)
 in_range image r m new c q low high (Some b) e false is =
     gone (finite.get new q) (c.mapped q ∙ is) ∙ sym (gone (finite.get (with_image_in_range image m r.at r.len) q) (image_mapped image m r.at r.len q ∙ is))
 
-pub copied_image : (image : ImageData) (r : Range) (m new : Memory) → IsCopiedToMemory image.segments r m new → new ≡ with_image_in_range image m r.at r.len
+pub copied_image : (image : ImageData) (r : Range) (m new : Memory) → AreSegmentsCopied image.segments r m new → new ≡ with_image_in_range image m r.at r.len
 copied_image image r m new c =
     same_map nat_cmp_total nat_cmp-IsAntisymmetric new (with_image_in_range image m r.at r.len) (λ q.
     elim (cases_lt q r.at) [

@@ -4,7 +4,7 @@ use Rattle.std.proofs.lemmas.Bool.{eq-eqb, ne_eqb}
 use Rattle.std.proofs.lemmas.Option.{cond_some}
 use Rattle.std.specs.Option.{option_map}
 use Rattle.csa_chain.specs.MemoryBytes.{Memory}
-use Rattle.csa_chain.specs.Chain.{link_in, is_area, area_word, chain_within, chain}
+use Rattle.csa_chain.specs.Chain.{link_in, is_area_mapped, area_word, chain_within, chain}
 
 -- the length of a chain of at most `most` links, plus n
 abbrev pub counted : ℕ → ℕ → Memory → ℕ → Option ℕ
@@ -38,13 +38,13 @@ counted_long zero n m word e ne = rw (ne_eqb (link_in word) 0 ne) refl
 counted_long (suc most) n m word e ne = absurd (omega arith)
 
 -- an area that isn't mapped
-pub counted_unmapped : (most n : ℕ) (m : Memory) (word : ℕ) → link_in word ≢ 0 → is_area m (link_in word) ≡ false → counted most n m word ≡ None
+pub counted_unmapped : (most n : ℕ) (m : Memory) (word : ℕ) → link_in word ≢ 0 → is_area_mapped m (link_in word) ≡ false → counted most n m word ≡ None
 unfolding chain_within
 counted_unmapped zero n m word ne unmapped = rw (ne_eqb (link_in word) 0 ne) refl
 counted_unmapped (suc most) n m word ne unmapped = rw (ne_eqb (link_in word) 0 ne, unmapped) refl
 
 -- a link, and the rest of the chain
-pub counted_more : (most rest n : ℕ) (m : Memory) (word : ℕ) → most ≡ rest + 1 → link_in word ≢ 0 → is_area m (link_in word) ≡ true →
+pub counted_more : (most rest n : ℕ) (m : Memory) (word : ℕ) → most ≡ rest + 1 → link_in word ≢ 0 → is_area_mapped m (link_in word) ≡ true →
     counted most n m word ≡ counted rest (n + 1) m (area_word m (link_in word) 0)
 unfolding chain_within
 counted_more zero rest n m word e ne mapped = absurd (omega arith)
@@ -58,12 +58,12 @@ none_false : (b : Bool) (x : ℕ) → cond b (Some x) None ≡ None → b ≡ fa
 none_false true x e = cc
 none_false false x e = refl
 
-pub counted_stops : (most n : ℕ) (m : Memory) (word : ℕ) (next : Option ℕ) → next ≡ cond (is_area m (link_in word)) (Some (area_word m (link_in word) 0)) None →
+pub counted_stops : (most n : ℕ) (m : Memory) (word : ℕ) (next : Option ℕ) → next ≡ cond (is_area_mapped m (link_in word)) (Some (area_word m (link_in word) 0)) None →
     next ≡ None → link_in word ≢ 0 → counted most n m word ≡ None
-counted_stops most n m word next is none ne = counted_unmapped most n m word ne (none_false (is_area m (link_in word)) (area_word m (link_in word) 0) (sym is ∙ none))
+counted_stops most n m word next is none ne = counted_unmapped most n m word ne (none_false (is_area_mapped m (link_in word)) (area_word m (link_in word) 0) (sym is ∙ none))
 
-pub counted_goes_on : (n w : ℕ) (m : Memory) (word : ℕ) (next : Option ℕ) → next ≡ cond (is_area m (link_in word)) (Some (area_word m (link_in word) 0)) None →
+pub counted_goes_on : (n w : ℕ) (m : Memory) (word : ℕ) (next : Option ℕ) → next ≡ cond (is_area_mapped m (link_in word)) (Some (area_word m (link_in word) 0)) None →
     next ≡ Some w → n ≤ 4096 → n ≢ 4096 → link_in word ≢ 0 → counted (4096 - n) n m word ≡ counted (4096 - (n + 1)) (n + 1) m w
 counted_goes_on n w m word next is some few other ne =
-    let parts = cond_some (is_area m (link_in word)) (area_word m (link_in word) 0) w (sym is ∙ some) in
+    let parts = cond_some (is_area_mapped m (link_in word)) (area_word m (link_in word) 0) w (sym is ∙ some) in
     counted_more (4096 - n) (4096 - (n + 1)) n m word (omega arith) ne parts.0 ∙ ap (counted (4096 - (n + 1)) (n + 1) m) parts.1

@@ -1,7 +1,7 @@
 -- A machine that dies of another cause than Fcd changes only its end.
 use Rattle.std.proofs.Common.{◌≡◌, ◌≢◌, ℕ, ◌-◌, Bool, true, false, set, Result, Ok, Err, refl, sym, ap, ◌∙◌, ◌==◌, nat_lt}
 use Rattle.std.proofs.lemmas.Bool.{cond_both}
-use Rattle.csa_chain.specs.Chain.{link_in, is_area}
+use Rattle.csa_chain.specs.Chain.{link_in, is_area_mapped}
 use Rattle.tc_isa.specs.declared.shapes.Arg.{Arg}
 use Rattle.tc_isa.specs.declared.shapes.Arg.TheVariants.{Reg, Word}
 use Rattle.tc_isa.specs.declared.shapes.Shape.{Shape}
@@ -13,7 +13,7 @@ use Rattle.tc_machine.specs.declared.events.End.{End}
 use Rattle.tc_machine.specs.declared.events.End.TheVariants.{Running, Dead}
 use Rattle.tc_machine.specs.declared.state.Machine.{Machine}
 use Rattle.tc_machine.specs.Machine.{with_reg, dead_machine, if_end_running, if_running, psw_with_status, with_core_register}
-use Rattle.tc_machine.specs.Instructions.{access_address, with_base_incremented, is_trapping_access, with_register_decremented, does}
+use Rattle.tc_machine.specs.Instructions.{access_address, with_base_incremented, is_trapping_access, with_register_decremented, after_instruction}
 use Rattle.tc_machine.specs.Handlers.{after_trap}
 use Rattle.tc_machine.specs.SavesAndRestores.{with_context_saved, save, is_last_context_of_kind, with_context_restored, restore}
 use Rattle.tc_machine.specs.Fetching.{fetched_instruction}
@@ -52,7 +52,7 @@ module _ (m : Machine) (runs : m.end ≡ Running) where
   unfolding save
   only_save upper =
       cond_both (link_in m.fcx == 0) _ _ (OnlyEnd m) (λ _. only_died m Fcu) (λ _.
-      cond_both (is_area m.mem (link_in m.fcx)) _ _ (OnlyEnd m)
+      cond_both (is_area_mapped m.mem (link_in m.fcx)) _ _ (OnlyEnd m)
       (λ _. cond_both (link_in m.fcx == link_in m.lcx) _ _ (OnlyEnd m) (λ _. of_fcd m (with_context_saved m upper)) (λ _. only_running m (with_context_saved m upper) runs))
       (λ _. only_died m NoArea))
 
@@ -61,7 +61,7 @@ module _ (m : Machine) (runs : m.end ≡ Running) where
   only_restore upper =
       cond_both (link_in m.pcxi == 0) _ _ (OnlyEnd m) (λ _. only_died m Csu) (λ _.
       cond_both (is_last_context_of_kind m upper) _ _ (OnlyEnd m)
-      (λ _. cond_both (is_area m.mem (link_in m.pcxi)) _ _ (OnlyEnd m) (λ _. only_running m (with_context_restored m upper) (end_restored m upper ∙ runs)) (λ _. only_died m NoArea))
+      (λ _. cond_both (is_area_mapped m.mem (link_in m.pcxi)) _ _ (OnlyEnd m) (λ _. only_running m (with_context_restored m upper) (end_restored m upper ∙ runs)) (λ _. only_died m NoArea))
       (λ _. only_died m Ctyp))
 
 -- ---- small changes
@@ -94,8 +94,8 @@ module _ (m : Machine) (runs : m.end ≡ Running) where
   only_trap : (class tin back : ℕ) → OnlyEnd m (after_trap m class tin back)
   only_trap class tin back = only_then m (save m true) _ (λ n. refl) (only_save m runs true)
 
-  only_does : (e : Event) (s : Shape) (n : ℕ) → OnlyEnd m (does m e s n)
-  unfolding does
+  only_does : (e : Event) (s : Shape) (n : ℕ) → OnlyEnd m (after_instruction m e s n)
+  unfolding after_instruction
   only_does e (Compute op dst x y) n = only_running m _ (end_reg m dst _ ∙ runs)
   only_does e (Scaled dst base index k) n = only_running m _ (end_reg m dst _ ∙ runs)
   only_does e (Load dst base offset size signed after) n =

@@ -18,7 +18,7 @@ use Rattle.tc_machine.specs.PlanAreas.{first_link, plan_areas}
 use Rattle.tc_machine.specs.Instructions.{access_address}
 use Rattle.tc_machine.specs.Stepping.{load_at_pc, run, stored}
 use Rattle.tc_machine.specs.Safe.{Fits, AllFit, IsSafeAt}
-use Rattle.tc_machine.specs.MachineLaws.{EventEquationsSuffice, first_events, RunEquationsSuffice, StartEquationsSuffice, IsAreaWalk, LiesInRange, MeetsSafetyEquations, SafeImpliesEquations, StoreInstructionStores}
+use Rattle.tc_machine.specs.MachineLaws.{EquationsImplyEventFits, first_events, EquationsImplyRunFits, EquationsImplyStartState, IsAreaWalk, LiesInRange, MeetsSafetyEquations, SafeImpliesEquations, StoreInstructionStores}
 use Rattle.tc_machine.proofs.PlanLaws.{link_lt, length-links_up, length-reverse_onto, get_or-links_up}
 use Rattle.tc_machine.proofs.Steps.{stored-is}
 
@@ -30,7 +30,7 @@ not_taken false ccpn irq free on = cc
 answers_at : (ds : List Device) (x input : ℕ) → ((k : ℕ) (d : Device) → slice_get ds k ≡ Some d → d.range.at ≤ x → x + 4 ≤ d.range.at + d.range.len → (d.lo ≤ input) × (input ≤ d.hi)) → MayAnswerAt x input ds
 answers_at ds x input h k d lt within = h k (get_or ds k d) (slice_get-get_or ds k d lt) within.0 within.1
 
-pub every_event : EventEquationsSuffice
+pub every_event : EquationsImplyEventFits
 every_event plan m irq input status aln stated small byte answers = record {
   irq = stated;
   input = small;
@@ -42,7 +42,7 @@ every_event plan m irq input status aln stated small byte answers = record {
     by_load low None e = tt
     by_load low (Some l) e = λ four. answers_at plan.devices l.0 input (λ k d. answers low l.0 k d (e ∙ ap (λ (n : ℕ). let o : Option (ℕ × ℕ) = Some (l.0, n) in o) four))
 
-pub every_run : RunEquationsSuffice
+pub every_run : EquationsImplyRunFits
 every_run plan states events zero walk fits = (tt, refl)
 every_run plan states events (suc n) walk fits =
     let es = first_events n (λ k. events (suc k)) in
@@ -52,7 +52,7 @@ every_run plan states events (suc n) walk fits =
     )
 
 -- ---- start states
-pub every_start : StartEquationsSuffice
+pub every_start : EquationsImplyStartState
 every_start image plan d a psw mem whole ok d_count d_words a_count a_words psw_word small mapped rom next last sp globals is io =
     let areas = ok.areas in
     let first : first_link plan < 2 ^ 20 = let some = areas.some in let lt = link_lt ok 0 (omega arith) in omega arith in

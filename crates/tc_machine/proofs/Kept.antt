@@ -17,10 +17,10 @@ use Rattle.tc_machine.specs.declared.events.End.{End}
 use Rattle.tc_machine.specs.declared.events.End.TheVariants.{Running, Dead}
 use Rattle.tc_machine.specs.declared.state.Machine.{Machine}
 use Rattle.tc_machine.specs.Machine.{with_reg, if_running, if_end_running, psw_with_status}
-use Rattle.tc_machine.specs.Instructions.{does, with_base_incremented, with_register_decremented, access_address}
+use Rattle.tc_machine.specs.Instructions.{after_instruction, with_base_incremented, with_register_decremented, access_address}
 use Rattle.tc_machine.specs.Fetching.{fetched_instruction, mapped_bytes, fetched_shape}
 use Rattle.tc_machine.specs.Stepping.{is_interrupt_taken, after_fetch_result, machine_after_event, step, used_area_count}
-use Rattle.tc_machine.specs.InstructionKinds.{is_area_keeping_shape}
+use Rattle.tc_machine.specs.InstructionKinds.{is_area_preserving_shape}
 
 -- two states with equal memory and PCXI
 pub record Same (m n : Machine) : Type 0 where
@@ -61,8 +61,8 @@ no_trap true b h = cc
 no_trap false b h = refl
 
 -- what such an instruction does
-pub same_does : (e : Event) (s : Shape) → is_area_keeping_shape e s ≡ true → (m : Machine) (n : ℕ) → Same m (does m e s n)
-unfolding does
+pub same_does : (e : Event) (s : Shape) → is_area_preserving_shape e s ≡ true → (m : Machine) (n : ℕ) → Same m (after_instruction m e s n)
+unfolding after_instruction
 same_does e (Compute op dst x y) k m n = same_pc m _ _ (same_reg m dst _)
 same_does e (Scaled dst base index i) k m n = same_pc m _ _ (same_reg m dst _)
 same_does e (Load dst base offset size signed after) k m n =
@@ -76,11 +76,11 @@ same_does e Nothing k m n = record { mem = refl; pcxi = refl }
 same_does e _ k m n = cc
 
 -- ---- an event that does it
-same_executed : (m : Machine) (e : Event) (shape : Shape) (n : ℕ) (even : Bool) → is_area_keeping_shape e shape ≡ true → Same m (after_fetch_result m e (cond even (Ok (shape, n)) (Err NoCode)))
+same_executed : (m : Machine) (e : Event) (shape : Shape) (n : ℕ) (even : Bool) → is_area_preserving_shape e shape ≡ true → Same m (after_fetch_result m e (cond even (Ok (shape, n)) (Err NoCode)))
 same_executed m e shape n true k = same_does e shape k m n
 same_executed m e shape n false k = record { mem = refl; pcxi = refl }
 
-same_done : (m : Machine) (e : Event) (shape : Shape) (n : ℕ) → is_interrupt_taken m e ≡ false → Ok (shape, n) ≡ fetched_shape (decoded_of (mapped_bytes 4 m.mem m.pc)) → is_area_keeping_shape e shape ≡ true → Same m (machine_after_event m e)
+same_done : (m : Machine) (e : Event) (shape : Shape) (n : ℕ) → is_interrupt_taken m e ≡ false → Ok (shape, n) ≡ fetched_shape (decoded_of (mapped_bytes 4 m.mem m.pc)) → is_area_preserving_shape e shape ≡ true → Same m (machine_after_event m e)
 unfolding fetched_instruction
 same_done m e shape n free at k =
     rw (free, ← at) (same_executed m e shape n (m.pc % 2 == 0) k)
@@ -93,7 +93,7 @@ same_then : (m : Machine) (end : End) (next : Machine → Machine) → Same m (n
 same_then m Running next s = s
 same_then m (Dead cause) next s = itself m
 
-pub kept_areas : (m : Machine) (e : Event) (shape : Shape) (n : ℕ) → is_interrupt_taken m e ≡ false → Ok (shape, n) ≡ fetched_shape (decoded_of (mapped_bytes 4 m.mem m.pc)) → is_area_keeping_shape e shape ≡ true → used_area_count (step m e) ≡ used_area_count m
+pub kept_areas : (m : Machine) (e : Event) (shape : Shape) (n : ℕ) → is_interrupt_taken m e ≡ false → Ok (shape, n) ≡ fetched_shape (decoded_of (mapped_bytes 4 m.mem m.pc)) → is_area_preserving_shape e shape ≡ true → used_area_count (step m e) ≡ used_area_count m
 unfolding step
 kept_areas m e shape n free at k =
     same_used m _ (same_then m m.end (λ m. if_running (machine_after_event m e) (λ n. record n { psw = psw_with_status n.psw e.status })) (through m (machine_after_event m e) _ (same_done m e shape n free at k) (status_set (machine_after_event m e) e (machine_after_event m e).end)))
@@ -109,6 +109,6 @@ and_false false = refl
 pub none_when_low : (m : Machine) (e : Event) → e.irq ≤ m.ccpn → is_interrupt_taken m e ≡ false
 none_when_low m e low = ap (λ (t : Bool). m.ie && t) (lt-leb (suc m.ccpn) e.irq (omega arith)) ∙ and_false m.ie
 
-pub kept_where : (m : Machine) (e : Event) (shape : Shape) (n : ℕ) (t : Bool) → is_interrupt_taken m e ≡ false → Ok (shape, n) ≡ fetched_shape (decoded_of (mapped_bytes 4 m.mem m.pc)) → t ≡ is_area_keeping_shape e shape → OnTrue t (used_area_count (step m e) ≡ used_area_count m)
+pub kept_where : (m : Machine) (e : Event) (shape : Shape) (n : ℕ) (t : Bool) → is_interrupt_taken m e ≡ false → Ok (shape, n) ≡ fetched_shape (decoded_of (mapped_bytes 4 m.mem m.pc)) → t ≡ is_area_preserving_shape e shape → OnTrue t (used_area_count (step m e) ≡ used_area_count m)
 kept_where m e shape n true free at is = kept_areas m e shape n free at (sym is)
 kept_where m e shape n false free at is = tt

@@ -39,16 +39,16 @@ pub extended_lt : (x p : ℕ) (b : Bool) → x < p → p ≤ 2 ^ 32 → cond b x
 extended_lt x p true lt le = omega arith
 extended_lt x p false lt le = omega arith
 
-arg_word : (x : Arg) → bounded.IsArg x → IsArg x
+arg_word : (x : Arg) → bounded.IsArgInBounds x → IsArg x
 arg_word (Reg r) h = tt
 arg_word (Word w) h = h
 
-target_word : (to : Target) → bounded.IsTarget to → IsTarget to
+target_word : (to : Target) → bounded.IsTargetInBounds to → IsTarget to
 target_word (target.Rel by) h = tt
 target_word (target.Abs x) h = h
 target_word (target.Reg r) h = tt
 
-shape_words : (s : Shape) → bounded.IsShape s → IsShape s
+shape_words : (s : Shape) → bounded.IsShapeInBounds s → IsShape s
 shape_words (Compute op dst x y) h = (arg_word x h.1, arg_word y h.2)
 shape_words (Load dst base offset size signed after) h = h.3
 shape_words (Jump to) h = target_word to h

@@ -4,7 +4,7 @@ use Rattle.std.proofs.lemmas.Bool.{cases_eq, cases_lt}
 use Rattle.std.specs.Prelude.{is_some}
 use Rattle.std.specs.FinMap as finite
 use Rattle.csa_chain.specs.MemoryBytes.{Memory, is_mapped, word_at, with_words, HasOnlyBytes}
-use Rattle.csa_chain.specs.Chain.{link_address, is_area, area_word}
+use Rattle.csa_chain.specs.Chain.{link_address, is_area_mapped, area_word}
 use Rattle.csa_chain.proofs.ChainLaws.{area_word-written, SameArea-written, area_word_same, are_mapped_from}
 use Rattle.elf_image.specs.Images.{ImageData, image_byte}
 use Rattle.tcd_plan.specs.PlanData.{PlanData, IsPlan, areas_range, are_all_ranges_disjoint}
@@ -96,7 +96,7 @@ module _ (image : ImageData) (plan : PlanData) (ok : IsPlan plan) (zeros : Memor
   get_out : (x : ℕ) → (IsInAreas plan x → ⊥) → finite.get (with_area_links plan.csa_at (first_link plan) plan.areas (with_image_in_ranges image zeros plan.rom) plan.areas) x ≡ finite.get (with_image_in_ranges image zeros plan.rom) x
   get_out x out = links_outside plan.csa_at (first_link plan) plan.areas (with_image_in_ranges image zeros plan.rom) plan.areas x (out_of_areas x out)
 
-  area_there : (k i : ℕ) → i < plan.areas → is_area (with_area_links plan.csa_at (first_link plan) plan.areas (with_image_in_ranges image zeros plan.rom) k) (first_link plan + i) ≡ true
+  area_there : (k i : ℕ) → i < plan.areas → is_area_mapped (with_area_links plan.csa_at (first_link plan) plan.areas (with_image_in_ranges image zeros plan.rom) k) (first_link plan + i) ≡ true
   area_there k i lt =
       are_mapped_from _ _ 64 (λ j h. mapped k _ ∙ ap is_some (zero_in _ (areas_in _ (let at = link_address-area ok i lt in (omega arith, omega arith)))))
 

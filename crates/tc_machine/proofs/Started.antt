@@ -12,7 +12,7 @@ use Rattle.tc_machine.specs.declared.events.End.TheVariants.{Running}
 use Rattle.tc_machine.specs.declared.state.Machine.{Machine}
 use Rattle.tc_machine.specs.Machine.{is_interrupt_stack_used, AreRegisters, IsMachine}
 use Rattle.tc_machine.specs.PlanAreas.{first_link}
-use Rattle.tc_machine.specs.Starting.{Starts, a_at_start, psw_at_start, start_memory_ranges, StartsInZeros}
+use Rattle.tc_machine.specs.Starting.{Starts, a_at_start, psw_at_start, start_memory_ranges, IsZeroFilledStart}
 use Rattle.tc_machine.proofs.PlanLaws.{link_lt}
 use Rattle.tc_machine.proofs.StartMemory.{IsStartMemory}
 
@@ -134,14 +134,14 @@ module _ (image : ImageData) (plan : PlanData) (mem : Memory) (ok : IsPlan plan)
     core = refl;
   }
 
-  in_zeros : StartsInZeros image plan (state_of plan image.entry (psw_at_start plan.start_is) (first_link plan) mem)
+  in_zeros : IsZeroFilledStart image plan (state_of plan image.entry (psw_at_start plan.start_is) (first_link plan) mem)
   in_zeros = record { starts = starts; d = refl; a = refl; psw = refl; ram = memory.ram; rom = memory.rom; words = memory.words }
 
 -- a state with these words
 pub starts_in_zeros : (image : ImageData) (plan : PlanData) (mem : Memory) (entry psw first : ℕ) → IsPlan plan → IsStartMemory image plan mem → entry < 2 ^ 32 →
-    entry ≡ image.entry → psw ≡ psw_at_start plan.start_is → first ≡ first_link plan → StartsInZeros image plan (state_of plan entry psw first mem)
+    entry ≡ image.entry → psw ≡ psw_at_start plan.start_is → first ≡ first_link plan → IsZeroFilledStart image plan (state_of plan entry psw first mem)
 starts_in_zeros image plan mem entry psw first ok memory small e p f =
-    subst (λ x. StartsInZeros image plan (state_of plan x psw first mem)) (sym e)
-    (subst (λ x. StartsInZeros image plan (state_of plan image.entry x first mem)) (sym p)
-    (subst (λ x. StartsInZeros image plan (state_of plan image.entry (psw_at_start plan.start_is) x mem)) (sym f)
+    subst (λ x. IsZeroFilledStart image plan (state_of plan x psw first mem)) (sym e)
+    (subst (λ x. IsZeroFilledStart image plan (state_of plan image.entry x first mem)) (sym p)
+    (subst (λ x. IsZeroFilledStart image plan (state_of plan image.entry (psw_at_start plan.start_is) x mem)) (sym f)
     (in_zeros image plan mem ok memory (let lt : image.entry < 2 ^ 32 = omega arith in lt))))

@@ -4,7 +4,7 @@ use Rattle.std.proofs.lemmas.Bool.{cond_both, and_parts, ltb-true}
 use Rattle.std.proofs.lemmas.List.Sums.{AllPass-from_list_all}
 use Rattle.tcd_plan.specs.PlanData.{PlanData, IsPlan}
 use Rattle.std.proofs.lemmas.Nat.{or_lt}
-use Rattle.csa_chain.specs.Chain.{link_in, link_address, is_area, area_word}
+use Rattle.csa_chain.specs.Chain.{link_in, link_address, is_area_mapped, area_word}
 use Rattle.csa_chain.specs.ContextWordLaws.{IsListOfWords}
 use Rattle.csa_chain.specs.ContextWords.{pcpn_of, pie_of}
 use Rattle.csa_chain.proofs.ContextLaws.{pcxi_word-lt, with_link-lt, link_in-lt, pcpn_of-lt}
@@ -27,8 +27,8 @@ use Rattle.tc_machine.specs.declared.events.End.TheVariants.{Running, Dead}
 use Rattle.tc_machine.specs.declared.events.Event.{Event}
 use Rattle.tc_machine.specs.declared.state.Machine.{Machine}
 use Rattle.tc_machine.specs.Machine.{reg, with_reg, a10, a11, is_interrupt_stack_used, dead_machine, if_end_running, if_running, psw_with_status, AreRegisters, IsMachine, core_register, with_core_register}
-use Rattle.tc_machine.specs.Instructions.{wrapping_sum, operand_value, with_pc_advanced, access_address, with_base_incremented, is_trapping_access, misaligned_access_trap, target_of, with_register_decremented, does}
-use Rattle.tc_machine.specs.Handlers.{handler_psw, handler_stack, at_handler_entry, after_trap, after_interrupt}
+use Rattle.tc_machine.specs.Instructions.{wrapping_sum, operand_value, with_pc_advanced, access_address, with_base_incremented, is_trapping_access, misaligned_access_trap, target_address, with_register_decremented, after_instruction}
+use Rattle.tc_machine.specs.Handlers.{handler_psw, handler_stack_pointer, at_handler_entry, after_trap, after_interrupt}
 use Rattle.tc_machine.specs.Stepping.{is_interrupt_taken, after_fetch_result, machine_after_event, step, run}
 use Rattle.tc_machine.specs.SavesAndRestores.{context_of, with_context_saved, save, is_last_context_of_kind, last_context, with_area_released, with_context_restored, restore}
 use Rattle.csa_chain.specs.MemoryBytes.{loaded_number, with_bytes, load_result}
@@ -58,7 +58,7 @@ arg_lt m k (Word w) h = h
 half_lt : (x : ℕ) → x < 2 ^ 32 → x / 2 * 2 < 2 ^ 32
 half_lt x h = omega arith
 
-target_lt : (m : Machine) → IsMachine m → (to : Target) → IsTarget to → target_of m to < 2 ^ 32
+target_lt : (m : Machine) → IsMachine m → (to : Target) → IsTarget to → target_address m to < 2 ^ 32
 target_lt m k (target.Rel by) h = moved-lt m.pc by
 target_lt m k (target.Abs x) h = h
 target_lt m k (target.Reg r) h = half_lt (reg m r) (reg_lt m k r)
@@ -124,9 +124,9 @@ stays_saved m k upper =
 pub stays_save : (m : Machine) → IsMachine m → (upper : Bool) → IsMachine (save m upper)
 unfolding save
 stays_save m k upper =
-    cond_both (link_in m.fcx == 0) (dead_machine Fcu m) (cond (is_area m.mem (link_in m.fcx)) (cond (link_in m.fcx == link_in m.lcx) (dead_machine Fcd (with_context_saved m upper)) (with_context_saved m upper)) (dead_machine NoArea m)) IsMachine
+    cond_both (link_in m.fcx == 0) (dead_machine Fcu m) (cond (is_area_mapped m.mem (link_in m.fcx)) (cond (link_in m.fcx == link_in m.lcx) (dead_machine Fcd (with_context_saved m upper)) (with_context_saved m upper)) (dead_machine NoArea m)) IsMachine
     (λ _. stays_died m k Fcu)
-    (λ _. cond_both (is_area m.mem (link_in m.fcx)) (cond (link_in m.fcx == link_in m.lcx) (dead_machine Fcd (with_context_saved m upper)) (with_context_saved m upper)) (dead_machine NoArea m) IsMachine
+    (λ _. cond_both (is_area_mapped m.mem (link_in m.fcx)) (cond (link_in m.fcx == link_in m.lcx) (dead_machine Fcd (with_context_saved m upper)) (with_context_saved m upper)) (dead_machine NoArea m) IsMachine
     (λ _. cond_both (link_in m.fcx == link_in m.lcx) (dead_machine Fcd (with_context_saved m upper)) (with_context_saved m upper) IsMachine
     (λ _. stays_died (with_context_saved m upper) (stays_saved m k upper) Fcd) (λ _. stays_saved m k upper))
     (λ _. stays_died m k NoArea))
@@ -197,23 +197,23 @@ stays_restored m k false =
 pub stays_restore : (m : Machine) → IsMachine m → (upper : Bool) → IsMachine (restore m upper)
 unfolding restore
 stays_restore m k upper =
-    cond_both (link_in m.pcxi == 0) (dead_machine Csu m) (cond (is_last_context_of_kind m upper) (cond (is_area m.mem (link_in m.pcxi)) (with_context_restored m upper) (dead_machine NoArea m)) (dead_machine Ctyp m)) IsMachine
+    cond_both (link_in m.pcxi == 0) (dead_machine Csu m) (cond (is_last_context_of_kind m upper) (cond (is_area_mapped m.mem (link_in m.pcxi)) (with_context_restored m upper) (dead_machine NoArea m)) (dead_machine Ctyp m)) IsMachine
     (λ _. stays_died m k Csu)
-    (λ _. cond_both (is_last_context_of_kind m upper) (cond (is_area m.mem (link_in m.pcxi)) (with_context_restored m upper) (dead_machine NoArea m)) (dead_machine Ctyp m) IsMachine
-    (λ _. cond_both (is_area m.mem (link_in m.pcxi)) (with_context_restored m upper) (dead_machine NoArea m) IsMachine (λ _. stays_restored m k upper) (λ _. stays_died m k NoArea))
+    (λ _. cond_both (is_last_context_of_kind m upper) (cond (is_area_mapped m.mem (link_in m.pcxi)) (with_context_restored m upper) (dead_machine NoArea m)) (dead_machine Ctyp m) IsMachine
+    (λ _. cond_both (is_area_mapped m.mem (link_in m.pcxi)) (with_context_restored m upper) (dead_machine NoArea m) IsMachine (λ _. stays_restored m k upper) (λ _. stays_died m k NoArea))
     (λ _. stays_died m k Ctyp))
 
 -- ---- handlers
 handler_psw-lt : (psw : ℕ) → psw < 2 ^ 32 → handler_psw psw < 2 ^ 32
 handler_psw-lt psw h = omega arith
 
-stack_lt : (m : Machine) → IsMachine m → handler_stack m < 2 ^ 32
+stack_lt : (m : Machine) → IsMachine m → handler_stack_pointer m < 2 ^ 32
 stack_lt m k = cond_both (is_interrupt_stack_used m.psw) (a10 m) m.isp IsWord (λ _. register_lt m.a k.a 10) (λ _. k.isp)
 
 stays_handler : (m : Machine) → IsMachine m → (s : Machine) → IsMachine s → (back entry ccpn : ℕ) → back < 2 ^ 32 → entry < 2 ^ 32 → ccpn < 2 ^ 8 → IsMachine (record (at_handler_entry m s back entry) { ccpn = ccpn })
 stays_handler m k s h back entry ccpn back_small entry_small ccpn_small = record {
   d = h.d;
-  a = AreRegisters-set _ 10 (handler_stack m) (stack_lt m k) (AreRegisters-set s.a 11 back back_small h.a);
+  a = AreRegisters-set _ 10 (handler_stack_pointer m) (stack_lt m k) (AreRegisters-set s.a 11 back back_small h.a);
   pc = entry_small;
   psw = handler_psw-lt m.psw k.psw;
   pcxi = h.pcxi;
@@ -273,8 +273,8 @@ stays_called : (m : Machine) → IsMachine m → (back to : ℕ) → back < 2 ^ 
 stays_called m k back to small at = record { d = k.d; a = AreRegisters-set m.a 11 back small k.a; pc = at; psw = k.psw; pcxi = k.pcxi; fcx = k.fcx; lcx = k.lcx; ccpn = k.ccpn; biv = k.biv; btv = k.btv; isp = k.isp; bytes = k.bytes }
 
 -- ---- instructions
-pub stays_does : (m : Machine) → IsMachine m → (e : Event) → e.input < 2 ^ 32 → (shape : Shape) (n : ℕ) → IsShape shape → IsMachine (does m e shape n)
-unfolding does
+pub stays_does : (m : Machine) → IsMachine m → (e : Event) → e.input < 2 ^ 32 → (shape : Shape) (n : ℕ) → IsShape shape → IsMachine (after_instruction m e shape n)
+unfolding after_instruction
 stays_does m k e small (Compute op dst x y) n h = stays_advanced _ (stays_reg m k dst (alu_of op (operand_value m x) (operand_value m y)) (alu_lt op (operand_value m x) (operand_value m y) (arg_lt m k x h.0) (arg_lt m k y h.1))) n
 stays_does m k e small (Scaled dst base index c) n h = stays_advanced _ (stays_reg m k dst (wrapping_sum (reg m base) (reg m index * 2 ^ c)) (moved-lt (reg m base) (reg m index * 2 ^ c))) n
 stays_does m k e small (Load dst base offset size signed after) n h =
@@ -288,8 +288,8 @@ stays_does m k e small (Store src base offset size after) n h =
 stays_does m k e small (Branch cond' x y by lowers) n h =
     stays_at (with_register_decremented m x lowers) (stays_lowered m k x lowers) (cond (taken_of cond' (reg m x) (operand_value m y)) (wrapping_sum m.pc by) (wrapping_sum m.pc n))
     (cond_both (taken_of cond' (reg m x) (operand_value m y)) (wrapping_sum m.pc by) (wrapping_sum m.pc n) IsWord (λ _. moved-lt m.pc by) (λ _. moved-lt m.pc n))
-stays_does m k e small (Jump to) n h = stays_at m k (target_of m to) (target_lt m k to h)
-stays_does m k e small (Call to) n h = stays_then (save m true) (stays_save m k true) _ (λ s ks. stays_called s ks (wrapping_sum m.pc n) (target_of m to) (moved-lt m.pc n) (target_lt m k to h))
+stays_does m k e small (Jump to) n h = stays_at m k (target_address m to) (target_lt m k to h)
+stays_does m k e small (Call to) n h = stays_then (save m true) (stays_save m k true) _ (λ s ks. stays_called s ks (wrapping_sum m.pc n) (target_address m to) (moved-lt m.pc n) (target_lt m k to h))
 stays_does m k e small Ret n h = stays_then (restore m true) (stays_restore m k true) _ (λ r kr. stays_at r kr (a11 m / 2 * 2) (half_lt (a11 m) (register_lt m.a k.a 11)))
 stays_does m k e small Rfe n h =
     stays_then (restore m true) (stays_restore m k true) _

@@ -6,10 +6,10 @@ use Rattle.std.proofs.lemmas.Bool.{and_parts, leb-true}
 use Rattle.std.proofs.lemmas.Option.{cond_some}
 use Rattle.std.specs.FinMap as map
 use Rattle.csa_chain.specs.MemoryBytes.{Memory, is_mapped, byte_at, are_mapped, word_at, with_word, loaded_number, with_bytes, HasOnlyBytes}
-use Rattle.csa_chain.specs.Chain.{link_address, is_area, area_word}
+use Rattle.csa_chain.specs.Chain.{link_address, is_area_mapped, area_word}
 use Rattle.csa_chain.proofs.ChainLaws.{are_mapped_each}
 use Rattle.tcd_base.specs.Bytes.{bytes_of_word}
-use Rattle.tc_mem.specs.Blocks.{are_mapped_in_block, mapped_block_word, memory_half_at, mapped_block_half, with_block_word, with_block_half, with_half}
+use Rattle.tc_mem.specs.Blocks.{are_mapped_in_block, mapped_word_in_block, memory_half_at, mapped_half_in_block, with_word_in_block, with_half_in_block, with_half}
 use Rattle.tc_mem.specs.Areas.{area_first_word}
 use Rattle.tc_machine.specs.Fetching.{mapped_bytes}
 
@@ -47,7 +47,7 @@ next_3 : (x : ℕ) → x + 4 ≤ 2 ^ 32 → (x + 2 + 1) % 2 ^ 32 ≡ x + 3
 next_3 x h = omega arith
 
 -- ---- loads
-pub loaded_word : (m : Memory) (input x w : ℕ) → x < 2 ^ 32 → Some w ≡ mapped_block_word m x → w ≡ loaded_number m input x 4
+pub loaded_word : (m : Memory) (input x w : ℕ) → x < 2 ^ 32 → Some w ≡ mapped_word_in_block m x → w ≡ loaded_number m input x 4
 unfolding loaded_number word_at
 loaded_word m input x w small is =
     let parts = cond_some (are_mapped_in_block m x 4) (word_at m x) w (sym is) in
@@ -62,7 +62,7 @@ loaded_word m input x w small is =
     let value : w ≡ byte_at m x + 2 ^ 8 * byte_at m (x + 1) + 2 ^ 16 * byte_at m (x + 2) + 2 ^ 24 * byte_at m (x + 3) = sym parts.1 in
     rw (e1, e2, e3, b0, b1, b2, b3) (omega (arith, value))
 
-pub loaded_half : (m : Memory) (input x h : ℕ) → x < 2 ^ 32 → Some h ≡ mapped_block_half m x → h ≡ loaded_number m input x 2
+pub loaded_half : (m : Memory) (input x h : ℕ) → x < 2 ^ 32 → Some h ≡ mapped_half_in_block m x → h ≡ loaded_number m input x 2
 unfolding loaded_number
 loaded_half m input x h small is =
     let parts = cond_some (are_mapped_in_block m x 2) (memory_half_at m x) h (sym is) in
@@ -74,7 +74,7 @@ loaded_half m input x h small is =
     rw (e1, b0, b1) (omega (arith, value))
 
 -- ---- the bytes of an instruction
-pub mapped_word : (m : Memory) (x w : ℕ) → HasOnlyBytes m → x < 2 ^ 32 → Some w ≡ mapped_block_word m x → bytes_of_word w ≡ mapped_bytes 4 m x
+pub mapped_word : (m : Memory) (x w : ℕ) → HasOnlyBytes m → x < 2 ^ 32 → Some w ≡ mapped_word_in_block m x → bytes_of_word w ≡ mapped_bytes 4 m x
 unfolding mapped_bytes word_at
 mapped_word m x w bytes small is =
     let parts = cond_some (are_mapped_in_block m x 4) (word_at m x) w (sym is) in
@@ -119,26 +119,26 @@ stored_half m x w h =
     let v1 : w % 2 ^ 16 / 2 ^ 8 % 2 ^ 8 ≡ w / 2 ^ 8 % 2 ^ 8 = omega arith in
     rw (e1, v0, v1) refl
 
-pub whole_word : (m n : Memory) (x w : ℕ) (t : Bool) → x < 2 ^ 32 → t ≡ are_mapped_in_block m x 4 → n ≡ with_block_word m x w → MatchBool t (n ≡ with_bytes m x w 4) (n ≡ m)
+pub whole_word : (m n : Memory) (x w : ℕ) (t : Bool) → x < 2 ^ 32 → t ≡ are_mapped_in_block m x 4 → n ≡ with_word_in_block m x w → MatchBool t (n ≡ with_bytes m x w 4) (n ≡ m)
 whole_word m n x w true small here is =
     let block = is_block m x 4 small (sym here) in
     is ∙ ap (λ (t : Bool). cond t (with_word m x w) m) (sym here) ∙ sym (stored_word m x w block.ends)
 whole_word m n x w false small gone is = is ∙ ap (λ (t : Bool). cond t (with_word m x w) m) (sym gone)
 
-pub whole_half : (m n : Memory) (x w : ℕ) (t : Bool) → x < 2 ^ 32 → t ≡ are_mapped_in_block m x 2 → n ≡ with_block_half m x (w % 2 ^ 16) → MatchBool t (n ≡ with_bytes m x w 2) (n ≡ m)
+pub whole_half : (m n : Memory) (x w : ℕ) (t : Bool) → x < 2 ^ 32 → t ≡ are_mapped_in_block m x 2 → n ≡ with_half_in_block m x (w % 2 ^ 16) → MatchBool t (n ≡ with_bytes m x w 2) (n ≡ m)
 whole_half m n x w true small here is =
     let block = is_block m x 2 small (sym here) in
     is ∙ ap (λ (t : Bool). cond t (with_half m x (w % 2 ^ 16)) m) (sym here) ∙ sym (stored_half m x w block.ends)
 whole_half m n x w false small gone is = is ∙ ap (λ (t : Bool). cond t (with_half m x (w % 2 ^ 16)) m) (sym gone)
 
-pub put_whole : (m n : Memory) (x w : ℕ) (t : Bool) → t ≡ are_mapped_in_block m x 4 → n ≡ with_block_word m x w → t ≡ true → n ≡ with_word m x w
+pub put_whole : (m n : Memory) (x w : ℕ) (t : Bool) → t ≡ are_mapped_in_block m x 4 → n ≡ with_word_in_block m x w → t ≡ true → n ≡ with_word m x w
 put_whole m n x w t is written here = written ∙ ap (λ (t : Bool). cond t (with_word m x w) m) (sym is ∙ here)
 
-pub put_none : (m n : Memory) (x w : ℕ) (t : Bool) → t ≡ are_mapped_in_block m x 4 → n ≡ with_block_word m x w → t ≡ false → n ≡ m
+pub put_none : (m n : Memory) (x w : ℕ) (t : Bool) → t ≡ are_mapped_in_block m x 4 → n ≡ with_word_in_block m x w → t ≡ false → n ≡ m
 put_none m n x w t is written gone = written ∙ ap (λ (t : Bool). cond t (with_word m x w) m) (sym is ∙ gone)
 
 -- ---- word 0 of an area
-pub first_of_area : (m : Memory) (link : ℕ) → area_first_word m (link_address link) ≡ cond (is_area m link) (Some (area_word m link 0)) None
+pub first_of_area : (m : Memory) (link : ℕ) → area_first_word m (link_address link) ≡ cond (is_area_mapped m link) (Some (area_word m link 0)) None
 first_of_area m link =
     let start : link_address link ≡ link_address link + 4 * 0 = omega arith in
-    ap (λ (y : ℕ). cond {A = Option ℕ} (is_area m link) (Some (word_at m y)) None) start
+    ap (λ (y : ℕ). cond {A = Option ℕ} (is_area_mapped m link) (Some (word_at m y)) None) start

@@ -6,8 +6,8 @@ use Rattle.tc_machine.specs.SavesAndRestores.{save}
 
 -- A10 in a handler of a trap or an interrupt: the interrupt stack's pointer, or A10 as it is if
 -- that stack is in use already
-abbrev pub handler_stack : Machine → ℕ
-handler_stack m = if is_interrupt_stack_used m.psw then a10 m else m.isp
+abbrev pub handler_stack_pointer : Machine → ℕ
+handler_stack_pointer m = if is_interrupt_stack_used m.psw then a10 m else m.isp
 
 -- PSW in a handler of a trap or an interrupt: IO (bits 11:10) is 2, PRS (bits 13:12) 0, IS (bit 9)
 -- 1 and GW (bit 8) 0; the other bits stay
@@ -18,7 +18,7 @@ handler_psw psw = psw / 2 ^ 14 * 2 ^ 14 + 2 * 2 ^ 10 + 2 ^ 9 + psw % 2 ^ 8
 -- PSW are the handler's, IE is off, and pc is the entry
 abbrev pub at_handler_entry : Machine → Machine → ℕ → ℕ → Machine
 at_handler_entry m s back entry = record s {
-  a = slice_set (slice_set s.a 11 back) 10 (handler_stack m);
+  a = slice_set (slice_set s.a 11 back) 10 (handler_stack_pointer m);
   psw = handler_psw m.psw;
   ie = false;
   pc = entry;

@@ -35,24 +35,24 @@ IfSystemInstruction _ P = Unit {0}
 
 -- the kind of instructions that never change the machine's memory or PCXI: no store, save or
 -- restore, no write of a core register, and none that can trap
-abbrev pub is_area_keeping_shape : Event → Shape → Bool
-is_area_keeping_shape e (Load dst base offset size signed after) = not e.aln
-is_area_keeping_shape e (Compute op dst x y) = true
-is_area_keeping_shape e (Scaled dst base index k) = true
-is_area_keeping_shape e (Branch cond x y by lowers) = true
-is_area_keeping_shape e (Jump to) = true
-is_area_keeping_shape e (Mfcr dst number) = true
-is_area_keeping_shape e Enable = true
-is_area_keeping_shape e Disable = true
-is_area_keeping_shape e Nothing = true
-is_area_keeping_shape e _ = false
+abbrev pub is_area_preserving_shape : Event → Shape → Bool
+is_area_preserving_shape e (Load dst base offset size signed after) = not e.aln
+is_area_preserving_shape e (Compute op dst x y) = true
+is_area_preserving_shape e (Scaled dst base index k) = true
+is_area_preserving_shape e (Branch cond x y by lowers) = true
+is_area_preserving_shape e (Jump to) = true
+is_area_preserving_shape e (Mfcr dst number) = true
+is_area_preserving_shape e Enable = true
+is_area_preserving_shape e Disable = true
+is_area_preserving_shape e Nothing = true
+is_area_preserving_shape e _ = false
 
 -- what was found is an instruction that never changes the memory or PCXI
-abbrev pub is_area_keeping_fetch : Event → Result (Shape × ℕ) Cause → Bool
-is_area_keeping_fetch e (Ok found) = is_area_keeping_shape e found.0
-is_area_keeping_fetch e (Err cause) = false
+abbrev pub is_area_preserving_fetch : Event → Result (Shape × ℕ) Cause → Bool
+is_area_preserving_fetch e (Ok found) = is_area_preserving_shape e found.0
+is_area_preserving_fetch e (Err cause) = false
 
 -- no interrupt is taken in this event of the machine, and the instruction found at pc is of the
 -- kind that never changes the memory or PCXI
-abbrev pub is_area_keeping_event : Machine → Event → Result (Shape × ℕ) Cause → Bool
-is_area_keeping_event m e found = not (is_interrupt_taken m e) && is_area_keeping_fetch e found
+abbrev pub is_area_preserving_event : Machine → Event → Result (Shape × ℕ) Cause → Bool
+is_area_preserving_event m e found = not (is_interrupt_taken m e) && is_area_preserving_fetch e found

@@ -52,44 +52,44 @@ misaligned_access_trap m = after_trap m 2 4 m.pc
 
 -- ---- instructions
 -- the address that a jump or a call goes to; bit 0 of a register's value is dropped
-abbrev pub target_of : Machine → Target → ℕ
-target_of m (target.Rel by) = wrapping_sum m.pc by
-target_of m (target.Abs x) = x
-target_of m (target.Reg r) = reg m r / 2 * 2
+abbrev pub target_address : Machine → Target → ℕ
+target_address m (target.Rel by) = wrapping_sum m.pc by
+target_address m (target.Abs x) = x
+target_address m (target.Reg r) = reg m r / 2 * 2
 
 -- the machine with a branch's register x decremented by 1 if lowers, as for loop
 abbrev pub with_register_decremented : Machine → ℕ → Bool → Machine
 with_register_decremented m x lowers = if lowers then with_reg m x (wrapping_sum (reg m x) (2 ^ 32 - 1)) else m
 
 -- the machine m after an instruction of this shape and of n bytes, executed in the event e
-unfoldable pub does : Machine → Event → Shape → ℕ → Machine
-does m e (Compute op dst x y) n = with_pc_advanced n (with_reg m dst (alu_of op (operand_value m x) (operand_value m y)))
-does m e (Scaled dst base index k) n = with_pc_advanced n (with_reg m dst (wrapping_sum (reg m base) (reg m index * 2 ^ k)))
-does m e (Load dst base offset size signed after) n =
+unfoldable pub after_instruction : Machine → Event → Shape → ℕ → Machine
+after_instruction m e (Compute op dst x y) n = with_pc_advanced n (with_reg m dst (alu_of op (operand_value m x) (operand_value m y)))
+after_instruction m e (Scaled dst base index k) n = with_pc_advanced n (with_reg m dst (wrapping_sum (reg m base) (reg m index * 2 ^ k)))
+after_instruction m e (Load dst base offset size signed after) n =
     let x = access_address m base offset after in
     if is_trapping_access e x size then misaligned_access_trap m
     else with_pc_advanced n (with_reg (with_base_incremented m base offset after) dst (load_result signed size (loaded_number m.mem e.input x size)))
-does m e (Store src base offset size after) n =
+after_instruction m e (Store src base offset size after) n =
     let x = access_address m base offset after in
     if is_trapping_access e x size then misaligned_access_trap m
     else with_pc_advanced n (record (with_base_incremented m base offset after) { mem = with_bytes m.mem x (reg m src) size })
-does m e (Branch cond x y by lowers) n =
+after_instruction m e (Branch cond x y by lowers) n =
     let goes = taken_of cond (reg m x) (operand_value m y) in
     record (with_register_decremented m x lowers) { pc = if goes then wrapping_sum m.pc by else wrapping_sum m.pc n }
-does m e (Jump to) n = record m { pc = target_of m to }
-does m e (Call to) n = if_running (save m true) (λ s. record s { a = slice_set s.a 11 (wrapping_sum m.pc n); pc = target_of m to })
-does m e Ret n = if_running (restore m true) (λ r. record r { pc = a11 m / 2 * 2 })
-does m e Rfe n =
+after_instruction m e (Jump to) n = record m { pc = target_address m to }
+after_instruction m e (Call to) n = if_running (save m true) (λ s. record s { a = slice_set s.a 11 (wrapping_sum m.pc n); pc = target_address m to })
+after_instruction m e Ret n = if_running (restore m true) (λ r. record r { pc = a11 m / 2 * 2 })
+after_instruction m e Rfe n =
     if_running (restore m true) (λ r. record r { pc = a11 m / 2 * 2; ie = pie_of m.core m.pcxi; ccpn = pcpn_of m.core m.pcxi })
-does m e Svlcx n = if_running (save m false) (with_pc_advanced n)
-does m e Rslcx n = if_running (restore m false) (with_pc_advanced n)
-does m e (Bisr c) n = if_running (save m false) (λ s. record (with_pc_advanced n s) { ccpn = c; ie = true })
-does m e Enable n = record (with_pc_advanced n m) { ie = true }
-does m e Disable n = record (with_pc_advanced n m) { ie = false }
-does m e (Syscall tin) n = after_trap m 6 tin (wrapping_sum m.pc n)
-does m e (Mfcr dst number) n = with_pc_advanced n (with_reg m dst (core_register m e number))
-does m e (Mtcr src number) n = with_pc_advanced n (with_core_register m number (reg m src))
-does m e Nothing n = with_pc_advanced n m
+after_instruction m e Svlcx n = if_running (save m false) (with_pc_advanced n)
+after_instruction m e Rslcx n = if_running (restore m false) (with_pc_advanced n)
+after_instruction m e (Bisr c) n = if_running (save m false) (λ s. record (with_pc_advanced n s) { ccpn = c; ie = true })
+after_instruction m e Enable n = record (with_pc_advanced n m) { ie = true }
+after_instruction m e Disable n = record (with_pc_advanced n m) { ie = false }
+after_instruction m e (Syscall tin) n = after_trap m 6 tin (wrapping_sum m.pc n)
+after_instruction m e (Mfcr dst number) n = with_pc_advanced n (with_reg m dst (core_register m e number))
+after_instruction m e (Mtcr src number) n = with_pc_advanced n (with_core_register m number (reg m src))
+after_instruction m e Nothing n = with_pc_advanced n m
 
 -- this instruction is a load or a store whose access is misaligned, and the event says that such
 -- accesses trap

@@ -1,7 +1,7 @@
 -- The laws of machines, for all programs, and the guard laws, which say in plain equations what the
 -- definitions under the headline say: a definition that requires more would break one of them.
 use Rattle.std.specs.Prelude.{◌≡◌, ◌≢◌, ℕ, ◌%◌, ◌^◌, ◌<◌, Bool, true, false, List, length, Ok, ◌↔◌, zero, suc, ◌+◌, ◌-◌, ◌*◌, ◌/◌, ◌≤◌, ◌⊎◌, ◌==◌, ◌∷◌, ◌++◌, reverse, map, slice_get, slice_index, All, Contains, Some, []}
-use Rattle.csa_chain.specs.Chain.{link_in, is_area, link_address, area_word}
+use Rattle.csa_chain.specs.Chain.{link_in, is_area_mapped, link_address, area_word}
 use Rattle.elf_image.specs.Images.{ImageData, IsImage, image_byte}
 use Rattle.tcd_plan.specs.PlanData.{PlanData, IsPlan}
 use Rattle.tc_isa.specs.Insts.{InstData}
@@ -12,7 +12,7 @@ use Rattle.tc_machine.specs.declared.events.Cause.TheVariants.{Fcd}
 use Rattle.tc_machine.specs.declared.events.Event.{Event}
 use Rattle.tc_machine.specs.declared.events.End.TheVariants.{Running, Dead}
 use Rattle.tc_machine.specs.declared.state.Machine.{Machine}
-use Rattle.tc_machine.specs.Instructions.{does, access_address}
+use Rattle.tc_machine.specs.Instructions.{after_instruction, access_address}
 use Rattle.tc_machine.specs.Machine.{psw_with_status, IsMachine}
 use Rattle.tc_machine.specs.SavesAndRestores.{with_context_saved, save, is_last_context_of_kind, with_context_restored, restore}
 use Rattle.tc_machine.specs.Fetching.{fetched_instruction}
@@ -44,19 +44,19 @@ SpelledCodeIsFetched =
 -- a save succeeds if the first free area is mapped and isn't the limit of the list
 abbrev pub MachineSaveSucceeds : Type 0
 MachineSaveSucceeds =
-    (m : Machine) (upper : Bool) → link_in m.fcx ≢ 0 → is_area m.mem (link_in m.fcx) ≡ true → link_in m.fcx ≢ link_in m.lcx → save m upper ≡ with_context_saved m upper
+    (m : Machine) (upper : Bool) → link_in m.fcx ≢ 0 → is_area_mapped m.mem (link_in m.fcx) ≡ true → link_in m.fcx ≢ link_in m.lcx → save m upper ≡ with_context_saved m upper
 
 -- a restore succeeds if PCXI names a mapped area with a context of its kind
 abbrev pub MachineRestoreSucceeds : Type 0
 MachineRestoreSucceeds =
-    (m : Machine) (upper : Bool) → link_in m.pcxi ≢ 0 → is_last_context_of_kind m upper ≡ true → is_area m.mem (link_in m.pcxi) ≡ true → restore m upper ≡ with_context_restored m upper
+    (m : Machine) (upper : Bool) → link_in m.pcxi ≢ 0 → is_last_context_of_kind m upper ≡ true → is_area_mapped m.mem (link_in m.pcxi) ≡ true → restore m upper ≡ with_context_restored m upper
 
 -- a step without an interrupt executes the instruction at pc and writes the event's status to PSW,
 -- if the machine runs before and after
 abbrev pub MachineStepExecutes : Type 0
 MachineStepExecutes =
-    (m : Machine) (e : Event) (shape : Shape) (n : ℕ) → m.end ≡ Running → is_interrupt_taken m e ≡ false → fetched_instruction m ≡ Ok (shape, n) → (does m e shape n).end ≡ Running →
-    step m e ≡ record (does m e shape n) { psw = psw_with_status (does m e shape n).psw e.status }
+    (m : Machine) (e : Event) (shape : Shape) (n : ℕ) → m.end ≡ Running → is_interrupt_taken m e ≡ false → fetched_instruction m ≡ Ok (shape, n) → (after_instruction m e shape n).end ≡ Running →
+    step m e ≡ record (after_instruction m e shape n) { psw = psw_with_status (after_instruction m e shape n).psw e.status }
 
 -- A machine that died in an event, and not of Fcd, is the machine before it with that end: nothing
 -- else changed.
@@ -75,8 +75,8 @@ RunKeepsMachine = (image : ImageData) (plan : PlanData) (m : Machine) (es : List
 -- An event fits if its interrupt is none or one of the plan's, and its input is within bounds. If
 -- no interrupt is taken, these are of the peripheral that has the loaded word. The status is any
 -- byte.
-abbrev pub EventEquationsSuffice : Type 0
-EventEquationsSuffice =
+abbrev pub EquationsImplyEventFits : Type 0
+EquationsImplyEventFits =
     (plan : PlanData) (m : Machine) (irq input status : ℕ) (aln : Bool) → (irq ≡ 0) ⊎ Contains plan.irqs irq → input < 2 ^ 32 → status < 2 ^ 8
     → ((m.ie ≡ true → irq ≤ m.ccpn) → (x k : ℕ) (d : Device) → load_at_pc m ≡ Some (x, 4) → slice_get plan.devices k ≡ Some d
     → d.range.at ≤ x → x + 4 ≤ d.range.at + d.range.len → (d.lo ≤ input) × (input ≤ d.hi))
@@ -89,15 +89,15 @@ first_events (suc n) events = events 0 ∷ first_events n (λ k. events (suc k))
 
 -- If each of the first n events fits the state before, they all fit as AllFit says, and their run
 -- ends in state n.
-abbrev pub RunEquationsSuffice : Type 0
-RunEquationsSuffice =
+abbrev pub EquationsImplyRunFits : Type 0
+EquationsImplyRunFits =
     (plan : PlanData) (states : ℕ → Machine) (events : ℕ → Event) (n : ℕ) → IsRun states events → ((k : ℕ) → k < n → Fits plan (states k) (events k))
     → AllFit plan (states 0) (first_events n events) × (run (states 0) (first_events n events) ≡ states n)
 
 -- guard law of start states: a machine starts the image under the plan if its fields are as these
 -- plain equations say; all other registers, bits of PSW and bytes can be anything
-abbrev pub StartEquationsSuffice : Type 0
-StartEquationsSuffice =
+abbrev pub EquationsImplyStartState : Type 0
+EquationsImplyStartState =
     (image : ImageData) (plan : PlanData) (d a : List ℕ) (psw : ℕ) (mem : Memory) → IsImage image → IsPlan plan
     → length d ≡ 16 → All (λ w. w < 2 ^ 32) d → length a ≡ 16 → All (λ w. w < 2 ^ 32) a → psw < 2 ^ 32
     → ((x b : ℕ) → bytes.get mem x ≡ Some b → b < 2 ^ 8)

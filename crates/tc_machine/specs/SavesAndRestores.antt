@@ -1,7 +1,7 @@
 -- Saving and restoring contexts (manual, volume 1, context management).
 use Rattle.std.specs.Prelude.{ℕ, Bool, not, ◌==◌, if◌then◌else◌, List, [], ◌∷◌, map}
 use Rattle.csa_chain.specs.MemoryBytes.{Memory, with_words}
-use Rattle.csa_chain.specs.Chain.{link_in, link_address, is_area, area_word, word_with_link}
+use Rattle.csa_chain.specs.Chain.{link_in, link_address, is_area_mapped, area_word, word_with_link}
 use Rattle.csa_chain.specs.ContextWords.{pcxi_word_of, ul_of, upper_context_words, lower_context_words, d_after_upper_restore, a_after_upper_restore, d_after_lower_restore, a_after_lower_restore}
 use Rattle.tc_machine.specs.declared.events.Cause.TheVariants.{Fcd, Fcu, Csu, Ctyp, NoArea}
 use Rattle.tc_machine.specs.declared.state.Machine.{Machine}
@@ -27,7 +27,7 @@ with_context_saved m upper =
 unfoldable pub save : Machine → Bool → Machine
 save m upper =
     if link_in m.fcx == 0 then dead_machine Fcu m
-    else if is_area m.mem (link_in m.fcx) then
+    else if is_area_mapped m.mem (link_in m.fcx) then
     (if link_in m.fcx == link_in m.lcx then dead_machine Fcd (with_context_saved m upper) else with_context_saved m upper)
     else dead_machine NoArea m
 
@@ -78,5 +78,5 @@ unfoldable pub restore : Machine → Bool → Machine
 restore m upper =
     if link_in m.pcxi == 0 then dead_machine Csu m
     else if is_last_context_of_kind m upper then
-    (if is_area m.mem (link_in m.pcxi) then with_context_restored m upper else dead_machine NoArea m)
+    (if is_area_mapped m.mem (link_in m.pcxi) then with_context_restored m upper else dead_machine NoArea m)
     else dead_machine Ctyp m

@@ -31,7 +31,7 @@ with_image_in_ranges image m (r ∷ rs) = with_image_in_ranges image (with_image
 
 -- The memory after the copy of segments' bytes into a range. Each mapped byte of the range that a
 -- segment holds is the segment's. All else is as it was, and no byte is mapped or unmapped.
-pub record IsCopiedToMemory (segments : List SegmentData) (r : Range) (m new : Memory) : Type 0 where
+pub record AreSegmentsCopied (segments : List SegmentData) (r : Range) (m new : Memory) : Type 0 where
   pub mapped : (q : ℕ) → is_mapped new q ≡ is_mapped m q
   pub held : (q b : ℕ) → r.at ≤ q → q < r.at + r.len → is_mapped m q ≡ true → byte_in_segments segments q ≡ Some b → map.get new q ≡ Some b
   pub outside : (q : ℕ) → (q < r.at) ⊎ (r.at + r.len ≤ q) → map.get new q ≡ map.get m q
@@ -108,7 +108,7 @@ pub record Starts (image : ImageData) (plan : PlanData) (m : Machine) : Type 0 w
 -- 0. These are the registers that the plan doesn't give, the other bits of PSW, and the bytes of
 -- ram. So are the rom bytes that no segment holds, and the words of the save areas that are no
 -- link.
-pub record StartsInZeros (image : ImageData) (plan : PlanData) (m : Machine) : Type 0 where
+pub record IsZeroFilledStart (image : ImageData) (plan : PlanData) (m : Machine) : Type 0 where
   pub starts : Starts image plan m
   pub d : m.d ≡ 0 ∷ 0 ∷ 0 ∷ 0 ∷ 0 ∷ 0 ∷ 0 ∷ 0 ∷ 0 ∷ 0 ∷ 0 ∷ 0 ∷ 0 ∷ 0 ∷ 0 ∷ 0 ∷ []
   pub a : m.a ≡ a_at_start plan

@@ -11,7 +11,7 @@ use Rattle.tc_machine.specs.declared.events.End.{End}
 use Rattle.tc_machine.specs.declared.events.End.TheVariants.{Running, Dead}
 use Rattle.tc_machine.specs.declared.state.Machine.{Machine}
 use Rattle.tc_machine.specs.Machine.{dead_machine, if_running, psw_with_status}
-use Rattle.tc_machine.specs.Instructions.{does, access_address, is_trapping_access}
+use Rattle.tc_machine.specs.Instructions.{after_instruction, access_address, is_trapping_access}
 use Rattle.tc_machine.specs.Handlers.{after_interrupt}
 use Rattle.tc_machine.specs.Fetching.{fetched_instruction, mapped_bytes, fetched_shape}
 
@@ -22,7 +22,7 @@ is_interrupt_taken m e = m.ie && nat_lt m.ccpn e.irq
 -- the machine after what was fetched at pc: the instruction is executed, or the machine dies by the
 -- cause
 abbrev pub after_fetch_result : Machine → Event → Result (Shape × ℕ) Cause → Machine
-after_fetch_result m e (Ok found) = does m e found.0 found.1
+after_fetch_result m e (Ok found) = after_instruction m e found.0 found.1
 after_fetch_result m e (Err cause) = dead_machine cause m
 
 -- an event of a machine that runs: an interrupt, else the instruction at pc

@@ -2,7 +2,7 @@
 ghost use Rattle.std.specs.Prelude.{◌≡◌, ◌%◌, ◌^◌, unwrap_or};
 ghost use Rattle.std.specs.Bool.{MatchBool};
 ghost use Rattle.std.specs.FinMap as map;
-ghost use Rattle.tc_isa.specs.InBounds.{IsShapeAccessSize};
+ghost use Rattle.tc_isa.specs.InBounds.{IsOneTwoOrFour};
 ghost use Rattle.csa_chain.specs.MemoryBytes.{loaded_number, with_bytes, load_result};
 ghost use Rattle.tc_machine.specs.Instructions.{is_trapping_access};
 
@@ -14,7 +14,7 @@ use tcd_base::sext;
 /// Returns what a load of `size` bytes gives: mapped bytes from memory, others from the event's
 /// `input`, extended by the sign or by zeros.
 pub(crate) fn extended_loaded_word(mem: &Mem, input: u32, addr: u32, size: u8, signed: bool) -> u32
-    requires { IsShapeAccessSize size }
+    requires { IsOneTwoOrFour size }
     ensures { result ≡ load_result signed size (loaded_number mem.now input addr size) }
 {
     if size == 4 {
@@ -46,7 +46,7 @@ pub(crate) fn store_low_bytes(mem: &mut Mem, addr: u32, word: u32, n: u8)
 /// Returns true if an access of `size` bytes traps: its address is no multiple of `size`, and the
 /// event says that such accesses trap.
 pub fn is_trapping_access(event: &Event, addr: u32, size: u8) -> bool
-    requires { IsShapeAccessSize size }
+    requires { IsOneTwoOrFour size }
     ensures { result ≡ is_trapping_access event.now addr size }
 {
     event.aln && addr % u32::from(size) != 0

@@ -1,7 +1,7 @@
 // Saves and restores contexts.
 ghost use Rattle.std.specs.Prelude.{◌≡◌, ◌<◌, ◌%◌, ◌^◌, Some, None, if◌then◌else◌, true, ◌+◌};
 ghost use Rattle.csa_chain.specs.MemoryBytes.{with_word};
-ghost use Rattle.csa_chain.specs.Chain.{link_in, is_area, area_word};
+ghost use Rattle.csa_chain.specs.Chain.{link_in, is_area_mapped, area_word};
 ghost use Rattle.csa_chain.specs.ContextWords.{pcxi_word_of};
 ghost use Rattle.tc_machine.specs.SavesAndRestores.{context_of, with_context_saved, save, saved_area_words, last_context, with_area_released, with_upper_restored, with_lower_restored, restore};
 
@@ -78,7 +78,7 @@ impl Machine {
     pub(crate) fn words_of_area(&self, named: u32) -> Option<[u32; 16]>
         requires { named < 2 ^ 20 }
         ensures { result ≡
-            (if is_area self.now.mem named then Some
+            (if is_area_mapped self.now.mem named then Some
             (saved_area_words self.now.mem named) else None) }
     {
         self.mem.area(address_of(named))
@@ -137,7 +137,7 @@ impl Machine {
     /// area's old word 0, becomes the first free one.
     fn save_to_area(&mut self, free: u32, next: u32, upper: bool)
         requires free { free ≡ link_in self.old.fcx }
-        requires mapped { is_area self.old.mem free ≡ true }
+        requires mapped { is_area_mapped self.old.mem free ≡ true }
         requires next { next ≡ area_word self.old.mem free 0 }
         ensures { self.new ≡ with_context_saved self.old upper }
     {

@@ -1,7 +1,7 @@
 // Fetches and decodes the instruction at pc.
 ghost use Rattle.std.specs.Prelude.{◌≡◌, ◌<◌, ◌≤◌, IfOk};
 ghost use Rattle.tcd_base.specs.Bytes.{bytes_of_word};
-ghost use Rattle.tc_isa.specs.InBounds.{IsShape};
+ghost use Rattle.tc_isa.specs.InBounds.{IsShapeInBounds};
 ghost use Rattle.tc_encode.specs.Decoding.{decoded_of};
 ghost use Rattle.tc_machine.specs.Fetching.{mapped_bytes, fetch_failure_cause, fetched_instruction, shape_at_pc};
 
@@ -78,7 +78,7 @@ impl Machine {
     /// machine dies if none is decoded. An odd pc counts too.
     pub fn shape_at_pc(&self) -> Result<(Shape, u32), Cause>
         ensures shape { result ≡ shape_at_pc self.now }
-        ensures bounded { IfOk result (λ found. IsShape found.0) }
+        ensures bounded { IfOk result (λ found. IsShapeInBounds found.0) }
     {
         match decode_at_address(&self.mem, self.pc) {
             Ok((inst, n)) => Ok((shape(&inst), n as u32)),
@@ -90,9 +90,9 @@ impl Machine {
     #[tactic(auto, unfolding(crate::specs::Fetching::fetched_instruction))]
     pub(crate) fn fetch(&self, found: Result<(Shape, u32), Cause>) -> Result<(Shape, u32), Cause>
         requires found { found ≡ shape_at_pc self.now }
-        requires bounded { IfOk found (λ it. IsShape it.0) }
+        requires bounded { IfOk found (λ it. IsShapeInBounds it.0) }
         ensures shape { result ≡ fetched_instruction self.now }
-        ensures bounded { IfOk result (λ it. IsShape it.0) }
+        ensures bounded { IfOk result (λ it. IsShapeInBounds it.0) }
     {
         if self.pc % 2 == 0 {
             found

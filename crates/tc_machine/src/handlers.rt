@@ -1,6 +1,6 @@
 // Enters handlers of interrupts and traps.
 ghost use Rattle.std.specs.Prelude.{◌≡◌, ◌*◌, slice_set, false};
-ghost use Rattle.tc_machine.specs.Handlers.{handler_psw, handler_stack, after_trap, after_interrupt};
+ghost use Rattle.tc_machine.specs.Handlers.{handler_psw, handler_stack_pointer, after_trap, after_interrupt};
 
 use crate::{End, Machine};
 
@@ -53,7 +53,7 @@ impl Machine {
     /// Returns the stack pointer that a handler begins with: the interrupt stack's, or A10 if that
     /// stack is in use already.
     fn handler_stack_pointer(&self) -> u32
-        ensures { result ≡ handler_stack self.now }
+        ensures { result ≡ handler_stack_pointer self.now }
     {
         if self.psw / 0x200 % 2 == 1 {
             self.a[10]

@@ -1,8 +1,8 @@
 // Executes instructions, but for those that save or restore a context.
 ghost use Rattle.std.specs.Prelude.{◌≡◌, ◌<◌};
-ghost use Rattle.tc_isa.specs.InBounds.{IsShape};
+ghost use Rattle.tc_isa.specs.InBounds.{IsShapeInBounds};
 ghost use Rattle.tc_machine.specs.declared.events.Event.{Event};
-ghost use Rattle.tc_machine.specs.Instructions.{does};
+ghost use Rattle.tc_machine.specs.Instructions.{after_instruction};
 ghost use Rattle.tc_machine.specs.InstructionKinds.{IfLoadOrStore, IfSystemInstruction};
 
 use crate::accesses::{extended_loaded_word, is_trapping_access, store_low_bytes};
@@ -36,10 +36,10 @@ struct Comparison {
 
 impl Machine {
     /// Executes an instruction of this shape and of `n` bytes (manual, volume 2, instruction set).
-    #[tactic(auto, unfolding(crate::specs::Instructions::does))]
+    #[tactic(auto, unfolding(crate::specs::Instructions::after_instruction))]
     pub(crate) fn execute(&mut self, event: &Event, shape: Shape, n: u32)
-        requires { IsShape shape }
-        ensures { self.new ≡ does self.old event.now shape n }
+        requires { IsShapeInBounds shape }
+        ensures { self.new ≡ after_instruction self.old event.now shape n }
     {
         match shape {
             Shape::Compute { op, dst, x, y } => self.execute_operation(op, dst, x, y, n),
@@ -70,10 +70,10 @@ impl Machine {
     }
 
     /// Executes a load or a store of `n` bytes of code.
-    #[tactic(auto, unfolding(crate::specs::Instructions::does))]
+    #[tactic(auto, unfolding(crate::specs::Instructions::after_instruction))]
     fn execute_load_or_store(&mut self, event: &Event, shape: Shape, n: u32)
-        requires { IsShape shape }
-        ensures { IfLoadOrStore shape (self.new ≡ does self.old event.now shape n) }
+        requires { IsShapeInBounds shape }
+        ensures { IfLoadOrStore shape (self.new ≡ after_instruction self.old event.now shape n) }
     {
         match shape {
             Shape::Load {
@@ -113,11 +113,11 @@ impl Machine {
 
     /// Executes an instruction of `n` bytes that enables or disables interrupts, or reads or writes
     /// a core register.
-    #[tactic(auto, unfolding(crate::specs::Instructions::does))]
+    #[tactic(auto, unfolding(crate::specs::Instructions::after_instruction))]
     fn execute_system_op(&mut self, event: &Event, shape: Shape, n: u32)
-        requires { IsShape shape }
+        requires { IsShapeInBounds shape }
         ensures { IfSystemInstruction shape
-            (self.new ≡ does self.old event.now shape n) }
+            (self.new ≡ after_instruction self.old event.now shape n) }
     {
         match shape {
             Shape::Enable => {
@@ -143,11 +143,11 @@ impl Machine {
 
     /// Executes an arithmetic or logical instruction of `n` bytes: writes the result of `op` on two
     /// operands to the register `dst`.
-    #[tactic(auto, unfolding(crate::specs::Instructions::does))]
+    #[tactic(auto, unfolding(crate::specs::Instructions::after_instruction))]
     fn execute_operation(&mut self, op: Op, dst: u8, x: Arg, y: Arg, n: u32)
-        requires { IsShape (Shape.Compute op dst x y) }
+        requires { IsShapeInBounds (Shape.Compute op dst x y) }
         ensures { (event : Event)
-            → self.new ≡ does self.old event (Shape.Compute op dst x y) n }
+            → self.new ≡ after_instruction self.old event (Shape.Compute op dst x y) n }
     {
         let word = alu(op, self.operand_value(x), self.operand_value(y));
         self.set_reg(dst, word);
@@ -156,11 +156,11 @@ impl Machine {
 
     /// Executes `addsc.a`, of `n` bytes: writes the sum of a base address and an index shifted to
     /// the left by `k` bits.
-    #[tactic(auto, unfolding(crate::specs::Instructions::does))]
+    #[tactic(auto, unfolding(crate::specs::Instructions::after_instruction))]
     fn execute_scaled_add(&mut self, dst: u8, base: u8, index: u8, k: u8, n: u32)
-        requires { IsShape (Shape.Scaled dst base index k) }
+        requires { IsShapeInBounds (Shape.Scaled dst base index k) }
         ensures { (event : Event)
-            → self.new ≡ does self.old event (Shape.Scaled dst base index k) n }
+            → self.new ≡ after_instruction self.old event (Shape.Scaled dst base index k) n }
     {
         let word = wrapping_sum(self.reg(base), self.reg(index) << k);
         self.set_reg(dst, word);
@@ -169,10 +169,10 @@ impl Machine {
 
     /// Executes a load instruction of `n` bytes: writes the register, and the base with
     /// post-increment, or takes the trap of a misaligned access.
-    #[tactic(auto, unfolding(crate::specs::Instructions::does))]
+    #[tactic(auto, unfolding(crate::specs::Instructions::after_instruction))]
     fn execute_load(&mut self, event: &Event, dst: u8, at: Access, signed: bool, n: u32)
-        requires { IsShape (Shape.Load dst at.base at.offset at.size signed at.after) }
-        ensures { self.new ≡ does self.old event.now
+        requires { IsShapeInBounds (Shape.Load dst at.base at.offset at.size signed at.after) }
+        ensures { self.new ≡ after_instruction self.old event.now
             (Shape.Load dst at.base at.offset at.size signed at.after) n }
     {
         let addr = self.access_address(at.base, at.offset, at.after);
@@ -188,10 +188,10 @@ impl Machine {
 
     /// Executes a store instruction of `n` bytes: writes memory, and the base with post-increment,
     /// or takes the trap of a misaligned access.
-    #[tactic(auto, unfolding(crate::specs::Instructions::does))]
+    #[tactic(auto, unfolding(crate::specs::Instructions::after_instruction))]
     fn execute_store(&mut self, event: &Event, src: u8, at: Access, n: u32)
-        requires { IsShape (Shape.Store src at.base at.offset at.size at.after) }
-        ensures { self.new ≡ does self.old event.now
+        requires { IsShapeInBounds (Shape.Store src at.base at.offset at.size at.after) }
+        ensures { self.new ≡ after_instruction self.old event.now
             (Shape.Store src at.base at.offset at.size at.after) n }
     {
         let addr = self.access_address(at.base, at.offset, at.after);
@@ -207,10 +207,10 @@ impl Machine {
 
     /// Executes a branch of `n` bytes: if the comparison holds, pc advances by `by`, else by `n`. A
     /// `loop` (`lowers`) decrements its register.
-    #[tactic(auto, unfolding(crate::specs::Instructions::does))]
+    #[tactic(auto, unfolding(crate::specs::Instructions::after_instruction))]
     fn execute_branch(&mut self, test: Comparison, by: u32, lowers: bool, n: u32)
-        requires { IsShape (Shape.Branch test.cond test.x test.y by lowers) }
-        ensures { (event : Event) → self.new ≡ does self.old event
+        requires { IsShapeInBounds (Shape.Branch test.cond test.x test.y by lowers) }
+        ensures { (event : Event) → self.new ≡ after_instruction self.old event
             (Shape.Branch test.cond test.x test.y by lowers) n }
     {
         let goes = taken(test.cond, self.reg(test.x), self.operand_value(test.y));

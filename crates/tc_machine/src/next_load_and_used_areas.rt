@@ -1,11 +1,11 @@
 // Questions about a machine: its next load, and the number of areas in use.
 ghost use Rattle.std.specs.Prelude.{◌≡◌, Ok, Some, None, IfOk, if◌then◌else◌};
 ghost use Rattle.std.specs.Bool.{OnTrue};
-ghost use Rattle.csa_chain.specs.Chain.{link_in, is_area, area_word};
-ghost use Rattle.tc_isa.specs.InBounds.{IsShape};
+ghost use Rattle.csa_chain.specs.Chain.{link_in, is_area_mapped, area_word};
+ghost use Rattle.tc_isa.specs.InBounds.{IsShapeInBounds};
 ghost use Rattle.tc_machine.specs.Fetching.{shape_at_pc};
 ghost use Rattle.tc_machine.specs.Stepping.{load_of_fetched, next_load_of, used_area_count, step};
-ghost use Rattle.tc_machine.specs.InstructionKinds.{is_area_keeping_shape, is_area_keeping_event};
+ghost use Rattle.tc_machine.specs.InstructionKinds.{is_area_preserving_shape, is_area_preserving_event};
 
 use crate::contexts::link_in;
 use crate::{Cause, End, Event, Machine};
@@ -15,7 +15,7 @@ use tc_isa::Shape;
 /// Returns true if an instruction of this shape never changes the memory or PCXI under this event,
 /// so that the number of the machine's used areas stays as it is.
 fn is_area_preserving_shape(event: &Event, shape: Shape) -> bool
-    ensures { result ≡ is_area_keeping_shape event.now shape }
+    ensures { result ≡ is_area_preserving_shape event.now shape }
 {
     match shape {
         Shape::Load { .. } => !event.aln,
@@ -31,7 +31,7 @@ impl Machine {
     /// at pc already: `found` is what they do.
     pub fn next_load_predecoded(&self, found: &Result<(Shape, u32), Cause>) -> Option<(u32, u8)>
         requires found { found.now ≡ shape_at_pc self.now }
-        requires bounded { IfOk found.now (λ it. IsShape it.0) }
+        requires bounded { IfOk found.now (λ it. IsShapeInBounds it.0) }
         ensures { result ≡ next_load_of self.now }
     {
         match self.end {
@@ -55,7 +55,7 @@ impl Machine {
     /// changes the memory or PCXI. Then the areas in use stay.
     pub fn preserves_areas(&self, event: &Event, found: &Result<(Shape, u32), Cause>) -> bool
         requires { found.now ≡ shape_at_pc self.now }
-        ensures is { result ≡ is_area_keeping_event self.now event.now found.now }
+        ensures is { result ≡ is_area_preserving_event self.now event.now found.now }
         ensures kept { OnTrue result
             (used_area_count (step self.now event.now) ≡ used_area_count self.now) }
     {
@@ -89,7 +89,7 @@ impl Machine {
     /// Returns the address and the size in bytes of the next load if an instruction of this shape
     /// is at pc, or `None` if it is no load.
     fn load_by_shape(&self, shape: Shape) -> Option<(u32, u8)>
-        requires { IsShape shape }
+        requires { IsShapeInBounds shape }
         ensures { result ≡ load_of_fetched self.now (Ok (shape, 0)) }
     {
         match shape {
@@ -109,7 +109,7 @@ impl Machine {
     #[tactic(auto, using(crate::proofs::WholeAccesses::first_of_area))]
     fn next_link_word(&self, word: u32, near: &mut usize) -> Option<u32>
         ensures { result ≡
-            (if is_area self.now.mem (link_in word)
+            (if is_area_mapped self.now.mem (link_in word)
             then Some (area_word self.now.mem (link_in word) 0) else None) }
     {
         self.mem

@@ -1,8 +1,8 @@
 // Addresses and operands of instructions.
 ghost use Rattle.std.specs.Prelude.{◌≡◌, ◌<◌};
-ghost use Rattle.tc_isa.specs.InBounds.{IsArg, IsTarget};
+ghost use Rattle.tc_isa.specs.InBounds.{IsArgInBounds, IsTargetInBounds};
 ghost use Rattle.tc_machine.specs.Machine.{reg};
-ghost use Rattle.tc_machine.specs.Instructions.{wrapping_sum, operand_value, access_address, with_base_incremented, target_of, with_register_decremented};
+ghost use Rattle.tc_machine.specs.Instructions.{wrapping_sum, operand_value, access_address, with_base_incremented, target_address, with_register_decremented};
 
 use crate::Machine;
 use tc_isa::{Arg, Target};
@@ -11,7 +11,7 @@ impl Machine {
     /// Returns the address of a load or a store: the base plus the offset, or the base alone with
     /// post-increment (`after`).
     pub fn access_address(&self, base: Arg, offset: u32, after: bool) -> u32
-        requires { IsArg base }
+        requires { IsArgInBounds base }
         ensures { result ≡ access_address self.now base offset after }
     {
         if after {
@@ -24,7 +24,7 @@ impl Machine {
     /// Adds the offset of an access to the register of its base operand, if `after` says that the
     /// access has post-increment.
     pub(crate) fn post_increment_base(&mut self, base: Arg, offset: u32, after: bool)
-        requires { IsArg base }
+        requires { IsArgInBounds base }
         ensures { self.new ≡ with_base_incremented self.old base offset after }
     {
         match base {
@@ -40,8 +40,8 @@ impl Machine {
 
     /// Returns the address that a jump or a call goes to; bit 0 of a register's word is dropped.
     pub(crate) fn target_address(&self, to: Target) -> u32
-        requires { IsTarget to }
-        ensures { result ≡ target_of self.now to }
+        requires { IsTargetInBounds to }
+        ensures { result ≡ target_address self.now to }
     {
         match to {
             Target::Rel(by) => wrapping_sum(self.pc, by),

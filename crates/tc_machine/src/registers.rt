@@ -1,6 +1,6 @@
 // Reads and writes registers and operands.
 ghost use Rattle.std.specs.Prelude.{◌≡◌, ◌<◌};
-ghost use Rattle.tc_isa.specs.InBounds.{IsArg};
+ghost use Rattle.tc_isa.specs.InBounds.{IsArgInBounds};
 ghost use Rattle.tc_machine.specs.Machine.{reg, with_reg, dead_machine};
 ghost use Rattle.tc_machine.specs.Instructions.{wrapping_sum, operand_value, with_pc_advanced};
 
@@ -35,7 +35,7 @@ impl Machine {
 
     /// Returns what an operand stands for: the word read from its register, or its own word.
     pub(crate) fn operand_value(&self, x: Arg) -> u32
-        requires { IsArg x }
+        requires { IsArgInBounds x }
         ensures { result ≡ operand_value self.now x }
     {
         match x {

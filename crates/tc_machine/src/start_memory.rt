@@ -3,7 +3,7 @@ ghost use Rattle.std.specs.Prelude.{◌≡◌, ◌<◌, ◌≤◌, ◌+◌, ◌*
 ghost use Rattle.std.specs.List.{list_all};
 ghost use Rattle.elf_image.specs.Images.{segment_data, is_segment};
 ghost use Rattle.csa_chain.specs.MemoryBytes.{HasOnlyBytes};
-ghost use Rattle.tc_machine.specs.Starting.{with_image_in_range, with_image_in_ranges, next_start_link, with_area_links, start_memory_ranges, IsFilledStartMemory, IsCopiedToMemory};
+ghost use Rattle.tc_machine.specs.Starting.{with_image_in_range, with_image_in_ranges, next_start_link, with_area_links, start_memory_ranges, IsFilledStartMemory, AreSegmentsCopied};
 ghost use Rattle.csa_chain.specs.Chain.{link_at};
 ghost use Rattle.tcd_base.specs.Ranges.{RangesDoNotWrap};
 
@@ -98,7 +98,7 @@ fn copy_image_to_range(mem: &mut Mem, image: &Image, range: &Range)
 fn copy_segments(mem: &mut Mem, segments: &[Segment], range: &Range)
     requires segments { IsTrue (list_all is_segment (map segment_data segments.now)) }
     requires range { range.now.at + range.now.len ≤ 2 ^ 32 }
-    ensures copied { IsCopiedToMemory (map segment_data segments.now) range.now mem.old mem.new }
+    ensures copied { AreSegmentsCopied (map segment_data segments.now) range.now mem.old mem.new }
     ensures bytes { HasOnlyBytes mem.old → HasOnlyBytes mem.new }
 {
     let mut rest = segments.len();
@@ -113,7 +113,7 @@ fn copy_segments(mem: &mut Mem, segments: &[Segment], range: &Range)
 fn copy_segment(mem: &mut Mem, segment: &Segment, range: &Range)
     requires segment { segment.now.at + length segment.now.bytes.items ≤ 2 ^ 32 }
     requires range { range.now.at + range.now.len ≤ 2 ^ 32 }
-    ensures copied { IsCopiedToMemory (segment_data segment.now ∷ []) range.now mem.old mem.new }
+    ensures copied { AreSegmentsCopied (segment_data segment.now ∷ []) range.now mem.old mem.new }
     ensures bytes { HasOnlyBytes mem.old → HasOnlyBytes mem.new }
 {
     let from = segment.at.max(range.at);

@@ -1,6 +1,6 @@
 // The start of a machine.
 ghost use Rattle.std.specs.Prelude.{◌≡◌, IfOk};
-ghost use Rattle.tc_machine.specs.Starting.{psw_at_start, StartsInZeros};
+ghost use Rattle.tc_machine.specs.Starting.{psw_at_start, IsZeroFilledStart};
 
 use crate::start_memory::{link_of_area_at, start_memory};
 use crate::{End, Machine};
@@ -20,7 +20,7 @@ impl Machine {
     /// Returns a machine in the start state of the image under the plan. Registers that the plan
     /// doesn't give and bytes that no segment holds are 0.
     pub fn start(alloc: Global, image: &Image, plan: &Plan) -> Result<Machine, NoMemory>
-        ensures { IfOk result (λ m. StartsInZeros image.now plan.now m) }
+        ensures { IfOk result (λ m. IsZeroFilledStart image.now plan.now m) }
     {
         let csa_at = plan.csa_at;
         let areas = plan.areas;

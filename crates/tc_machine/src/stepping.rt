@@ -1,6 +1,6 @@
 // Steps and runs.
 ghost use Rattle.std.specs.Prelude.{◌≡◌, IfOk};
-ghost use Rattle.tc_isa.specs.InBounds.{IsShape};
+ghost use Rattle.tc_isa.specs.InBounds.{IsShapeInBounds};
 ghost use Rattle.tc_machine.specs.Fetching.{shape_at_pc};
 ghost use Rattle.tc_machine.specs.Stepping.{machine_after_event, step, run};
 
@@ -12,7 +12,7 @@ impl Machine {
     #[tactic(auto, unfolding(crate::specs::Stepping::step))]
     pub fn step_predecoded(&mut self, event: &Event, found: Result<(Shape, u32), Cause>)
         requires found { found ≡ shape_at_pc self.old }
-        requires bounded { IfOk found (λ it. IsShape it.0) }
+        requires bounded { IfOk found (λ it. IsShapeInBounds it.0) }
         ensures { self.new ≡ step self.old event.now }
     {
         match self.end {
@@ -49,7 +49,7 @@ impl Machine {
     /// and its priority is above the current one; otherwise the instruction at pc is executed.
     fn perform_event(&mut self, event: &Event, found: Result<(Shape, u32), Cause>)
         requires found { found ≡ shape_at_pc self.old }
-        requires bounded { IfOk found (λ it. IsShape it.0) }
+        requires bounded { IfOk found (λ it. IsShapeInBounds it.0) }
         ensures { self.new ≡ machine_after_event self.old event.now }
     {
         if self.ie && self.ccpn < event.irq {

@@ -10,7 +10,7 @@ use Rattle.std.proofs.lemmas.List.{set-get_or}
 use Rattle.csa_chain.specs.MemoryBytes.{Memory, is_mapped, byte_at, are_mapped, word_at, with_word, with_words}
 use Rattle.csa_chain.proofs.ChainLaws.{are_mapped_each, are_mapped_from}
 use Rattle.tcd_base.specs.Bytes.{word_in_bytes as word_in, half_in_bytes as half_in}
-use Rattle.tc_mem.specs.Blocks.{are_mapped_in_block, mapped_block_word, memory_half_at, mapped_block_half, with_block_word, with_block_half, with_half}
+use Rattle.tc_mem.specs.Blocks.{are_mapped_in_block, mapped_word_in_block, memory_half_at, mapped_half_in_block, with_word_in_block, with_half_in_block, with_half}
 use Rattle.tc_mem.specs.Areas.{area_first_word}
 use Rattle.tc_mem.specs.Pages.{is_page_bit_set, are_page_bits_set, memory_of, page_bytes_with_words, AreOrderedPages, page_number_of}
 use Rattle.tc_mem.specs.declared.page.Page.{Page}
@@ -115,7 +115,7 @@ block_none ps a n pages none some = ap (λ (t : Bool). nat_le (a % 64 + n) 64 &&
 
 -- ---- words
 module _ (ps : List Page) (i a : ℕ) (at : IsAt ps i (a / 4096)) (fits : a % 64 + 4 ≤ 64) where
-  pub word_found : (r : Option ℕ) → is_some r ≡ are_page_bits_set 4 (get_or ps i no_page).mapped (a % 4096) → IfSome r (λ w. w ≡ word_in (get_or ps i no_page).bytes (a % 4096)) → r ≡ mapped_block_word (memory_of ps) a
+  pub word_found : (r : Option ℕ) → is_some r ≡ are_page_bits_set 4 (get_or ps i no_page).mapped (a % 4096) → IfSome r (λ w. w ≡ word_in (get_or ps i no_page).bytes (a % 4096)) → r ≡ mapped_word_in_block (memory_of ps) a
   word_found None is each = ap (λ (t : Bool). cond {A = Option ℕ} t (Some (word_at (memory_of ps) a)) None) (is ∙ block_is ps i a 4 at fits)
   word_found (Some w) is each =
       let there : w ≡ word_at (memory_of ps) a =
@@ -129,7 +129,7 @@ module _ (ps : List Page) (i a : ℕ) (at : IsAt ps i (a / 4096)) (fits : a % 64
   one_word m x w = refl
 
   pub word_written : (w : ℕ) (t : Bool) → t ≡ are_page_bits_set 4 (get_or ps i no_page).mapped (a % 4096) →
-      memory_of (set ps i (put_in (get_or ps i no_page) t (page_bytes_with_words (get_or ps i no_page).bytes (a % 4096) (w ∷ [])))) ≡ with_block_word (memory_of ps) a w
+      memory_of (set ps i (put_in (get_or ps i no_page) t (page_bytes_with_words (get_or ps i no_page).bytes (a % 4096) (w ∷ [])))) ≡ with_word_in_block (memory_of ps) a w
   word_written w t is =
       block_written ps i a 4 at fits (page_bytes_with_words (get_or ps i no_page).bytes (a % 4096) (w ∷ [])) (with_word (memory_of ps) a w) (λ full.
       memory_of-words ps i (a / 4096) (a % 4096) (w ∷ []) at (page_fits a 4 fits) (set_each 4 (get_or ps i no_page).mapped (a % 4096) (low_fits a 4 fits) full)
@@ -149,7 +149,7 @@ module _ (ps : List Page) (i a : ℕ) (at : IsAt ps i (a / 4096)) (fits : a % 64
       ap (byte_at (memory_of ps)) (sym (place_on a 1)) ∙ byte_at_is ps i (a / 4096) (a % 4096 + 1) at (omega arith) (two_set full 1 (omega arith)) in
       omega arith
 
-  pub half_found : (r : Option ℕ) → is_some r ≡ are_page_bits_set 2 (get_or ps i no_page).mapped (a % 4096) → IfSome r (λ h. h ≡ half_in (get_or ps i no_page).bytes (a % 4096)) → r ≡ mapped_block_half (memory_of ps) a
+  pub half_found : (r : Option ℕ) → is_some r ≡ are_page_bits_set 2 (get_or ps i no_page).mapped (a % 4096) → IfSome r (λ h. h ≡ half_in (get_or ps i no_page).bytes (a % 4096)) → r ≡ mapped_half_in_block (memory_of ps) a
   half_found None is each = ap (λ (t : Bool). cond {A = Option ℕ} t (Some (memory_half_at (memory_of ps) a)) None) (is ∙ block_is ps i a 2 at fits)
   half_found (Some h) is each =
       ap (λ (x : ℕ). Some x) (each ∙ sym (half_is (sym is))) ∙ ap (λ (t : Bool). cond {A = Option ℕ} t (Some (memory_half_at (memory_of ps) a)) None) (is ∙ block_is ps i a 2 at fits)
@@ -166,7 +166,7 @@ module _ (ps : List Page) (i a : ℕ) (at : IsAt ps i (a / 4096)) (fits : a % 64
       rw (t1, t0, same, place_on a 1, place a) refl
 
   pub half_written : (h : ℕ) (t : Bool) → t ≡ are_page_bits_set 2 (get_or ps i no_page).mapped (a % 4096) →
-      memory_of (set ps i (put_in (get_or ps i no_page) t (set (set (get_or ps i no_page).bytes (a % 4096) (h % 2 ^ 8)) (a % 4096 + 1) (h / 2 ^ 8 % 2 ^ 8)))) ≡ with_block_half (memory_of ps) a h
+      memory_of (set ps i (put_in (get_or ps i no_page) t (set (set (get_or ps i no_page).bytes (a % 4096) (h % 2 ^ 8)) (a % 4096 + 1) (h / 2 ^ 8 % 2 ^ 8)))) ≡ with_half_in_block (memory_of ps) a h
   half_written h t is =
       block_written ps i a 2 at fits (set (set (get_or ps i no_page).bytes (a % 4096) (h % 2 ^ 8)) (a % 4096 + 1) (h / 2 ^ 8 % 2 ^ 8)) (with_half (memory_of ps) a h) (two_written h) t is
 
@@ -188,14 +188,14 @@ first_found ps i a (Some w) area is each =
     ap (λ (x : ℕ). Some x) there ∙ ap (λ (t : Bool). cond {A = Option ℕ} t (Some (word_at (memory_of ps) a)) None) (is ∙ area_is ps i a area)
 
 -- ---- no page: nothing is read, and nothing changes
-pub word_none : (ps : List Page) (a : ℕ) → AreOrderedPages ps → All (λ p. page_number_of p ≢ a / 4096) ps → None ≡ mapped_block_word (memory_of ps) a
+pub word_none : (ps : List Page) (a : ℕ) → AreOrderedPages ps → All (λ p. page_number_of p ≢ a / 4096) ps → None ≡ mapped_word_in_block (memory_of ps) a
 word_none ps a pages none = ap (λ (t : Bool). cond {A = Option ℕ} t (Some (word_at (memory_of ps) a)) None) (sym (block_none ps a 4 pages none (omega arith)))
 
-pub half_none : (ps : List Page) (a : ℕ) → AreOrderedPages ps → All (λ p. page_number_of p ≢ a / 4096) ps → None ≡ mapped_block_half (memory_of ps) a
+pub half_none : (ps : List Page) (a : ℕ) → AreOrderedPages ps → All (λ p. page_number_of p ≢ a / 4096) ps → None ≡ mapped_half_in_block (memory_of ps) a
 half_none ps a pages none = ap (λ (t : Bool). cond {A = Option ℕ} t (Some (memory_half_at (memory_of ps) a)) None) (sym (block_none ps a 2 pages none (omega arith)))
 
-pub word_unwritten : (ps : List Page) (a w : ℕ) → AreOrderedPages ps → All (λ p. page_number_of p ≢ a / 4096) ps → memory_of ps ≡ with_block_word (memory_of ps) a w
+pub word_unwritten : (ps : List Page) (a w : ℕ) → AreOrderedPages ps → All (λ p. page_number_of p ≢ a / 4096) ps → memory_of ps ≡ with_word_in_block (memory_of ps) a w
 word_unwritten ps a w pages none = ap (λ (t : Bool). cond t (with_word (memory_of ps) a w) (memory_of ps)) (sym (block_none ps a 4 pages none (omega arith)))
 
-pub half_unwritten : (ps : List Page) (a h : ℕ) → AreOrderedPages ps → All (λ p. page_number_of p ≢ a / 4096) ps → memory_of ps ≡ with_block_half (memory_of ps) a h
+pub half_unwritten : (ps : List Page) (a h : ℕ) → AreOrderedPages ps → All (λ p. page_number_of p ≢ a / 4096) ps → memory_of ps ≡ with_half_in_block (memory_of ps) a h
 half_unwritten ps a h pages none = ap (λ (t : Bool). cond t (with_half (memory_of ps) a h) (memory_of ps)) (sym (block_none ps a 2 pages none (omega arith)))

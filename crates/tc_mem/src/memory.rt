@@ -4,7 +4,7 @@ ghost use Rattle.std.specs.Bool.{OnFalse};
 ghost use Rattle.std.specs.FinMap as finite;
 ghost use Rattle.csa_chain.specs.MemoryBytes.{is_mapped, are_mapped, with_byte, HasOnlyBytes};
 ghost use Rattle.tc_mem.specs.Areas.{mapped_area_words, memory_with_area, area_first_word};
-ghost use Rattle.tc_mem.specs.Blocks.{are_mapped_in_block, mapped_block_word, mapped_block_half, with_block_word, with_block_half};
+ghost use Rattle.tc_mem.specs.Blocks.{are_mapped_in_block, mapped_word_in_block, mapped_half_in_block, with_word_in_block, with_half_in_block};
 ghost use Rattle.tc_mem.specs.Pages.{memory_of, AreMemoryPages};
 ghost use Rattle.tc_mem.specs.PlanMemory.{IsMemoryOfZeros};
 ghost use Rattle.tc_mem.specs.Written.{IsMemoryWritten};
@@ -108,7 +108,7 @@ impl Mem {
     /// Returns the word of the four bytes from an address on, its lowest byte first. If one of them
     /// isn't mapped, or they cross a multiple of 64, the answer is `None`.
     pub fn word(&self, addr: u32) -> Option<u32>
-        ensures word { result ≡ mapped_block_word self.now addr }
+        ensures word { result ≡ mapped_word_in_block self.now addr }
         ensures bytes { HasOnlyBytes self.now }
     {
         read_memory_word(&self.pages, addr, self.near)
@@ -117,7 +117,7 @@ impl Mem {
     /// Returns the halfword of the two bytes from an address on, its lower byte first. If one of
     /// them isn't mapped, or they cross a multiple of 64, the answer is `None`.
     pub fn half(&self, addr: u32) -> Option<u16>
-        ensures half { result ≡ mapped_block_half self.now addr }
+        ensures half { result ≡ mapped_half_in_block self.now addr }
         ensures bytes { HasOnlyBytes self.now }
     {
         read_memory_half(&self.pages, addr, self.near)
@@ -127,7 +127,7 @@ impl Mem {
     /// isn't mapped, or they cross a multiple of 64, the answer is false, and nothing changes.
     pub fn set_word(&mut self, addr: u32, word: u32) -> bool
         ensures mapped { result ≡ are_mapped_in_block self.old addr 4 }
-        ensures written { self.new ≡ with_block_word self.old addr word }
+        ensures written { self.new ≡ with_word_in_block self.old addr word }
         ensures bytes { HasOnlyBytes self.new }
     {
         write_memory_word(&mut self.pages, addr, word, self.near)
@@ -137,7 +137,7 @@ impl Mem {
     /// isn't mapped, or they cross a multiple of 64, the answer is false, and nothing changes.
     pub fn set_half(&mut self, addr: u32, half: u16) -> bool
         ensures mapped { result ≡ are_mapped_in_block self.old addr 2 }
-        ensures written { self.new ≡ with_block_half self.old addr half }
+        ensures written { self.new ≡ with_half_in_block self.old addr half }
         ensures bytes { HasOnlyBytes self.new }
     {
         write_memory_half(&mut self.pages, addr, half, self.near)

@@ -4,7 +4,7 @@ ghost use Rattle.std.specs.Bool.{OnFalse};
 ghost use Rattle.std.specs.FinMap as finite;
 ghost use Rattle.csa_chain.specs.MemoryBytes.{are_mapped, with_byte, HasOnlyBytes, is_mapped};
 ghost use Rattle.tc_mem.specs.Areas.{mapped_area_words, memory_with_area, area_first_word};
-ghost use Rattle.tc_mem.specs.Blocks.{are_mapped_in_block, mapped_block_word, mapped_block_half, with_block_word, with_block_half};
+ghost use Rattle.tc_mem.specs.Blocks.{are_mapped_in_block, mapped_word_in_block, mapped_half_in_block, with_word_in_block, with_half_in_block};
 ghost use Rattle.tc_mem.specs.Pages.{memory_of, AreMemoryPages};
 ghost use Rattle.tc_mem.specs.PlanMemory.{IsMemoryOfZeros};
 ghost use Rattle.tc_mem.specs.Written.{IsMemoryWritten};
@@ -49,7 +49,7 @@ pub(crate) fn write_bytes_in_page(pages: &mut [Page], addr: u32, bytes: &[u8])
 /// multiple of 64. `near` guesses the page's index in `pages`.
 pub(crate) fn read_memory_word(pages: &[Page], addr: u32, near: usize) -> Option<u32>
     requires { AreMemoryPages pages.now }
-    ensures word { result ≡ mapped_block_word (memory_of pages.now) addr }
+    ensures word { result ≡ mapped_word_in_block (memory_of pages.now) addr }
     ensures bytes { HasOnlyBytes (memory_of pages.now) }
 {
     if addr % 64 > 60 {
@@ -65,7 +65,7 @@ pub(crate) fn read_memory_word(pages: &[Page], addr: u32, near: usize) -> Option
 /// multiple of 64. `near` guesses the page's index in `pages`.
 pub(crate) fn read_memory_half(pages: &[Page], addr: u32, near: usize) -> Option<u16>
     requires { AreMemoryPages pages.now }
-    ensures half { result ≡ mapped_block_half (memory_of pages.now) addr }
+    ensures half { result ≡ mapped_half_in_block (memory_of pages.now) addr }
     ensures bytes { HasOnlyBytes (memory_of pages.now) }
 {
     if addr % 64 > 62 {
@@ -115,7 +115,7 @@ pub(crate) fn write_memory_bytes(pages: &mut [Page], addr: u32, bytes: &[u8])
 pub(crate) fn write_memory_word(pages: &mut [Page], addr: u32, word: u32, near: usize) -> bool
     requires { AreMemoryPages pages.old }
     ensures mapped { result ≡ are_mapped_in_block (memory_of pages.old) addr 4 }
-    ensures written { memory_of pages.new ≡ with_block_word (memory_of pages.old) addr word }
+    ensures written { memory_of pages.new ≡ with_word_in_block (memory_of pages.old) addr word }
     ensures pages { AreMemoryPages pages.new }
     ensures bytes { HasOnlyBytes (memory_of pages.new) }
 {
@@ -133,7 +133,7 @@ pub(crate) fn write_memory_word(pages: &mut [Page], addr: u32, word: u32, near: 
 pub(crate) fn write_memory_half(pages: &mut [Page], addr: u32, half: u16, near: usize) -> bool
     requires { AreMemoryPages pages.old }
     ensures mapped { result ≡ are_mapped_in_block (memory_of pages.old) addr 2 }
-    ensures written { memory_of pages.new ≡ with_block_half (memory_of pages.old) addr half }
+    ensures written { memory_of pages.new ≡ with_half_in_block (memory_of pages.old) addr half }
     ensures pages { AreMemoryPages pages.new }
     ensures bytes { HasOnlyBytes (memory_of pages.new) }
 {

@@ -7,13 +7,13 @@ use Rattle.tc_stmt.specs.Lines.{lines_in, items_in}
 use Rattle.tc_asm.specs.Symbols.{SymbolData}
 use Rattle.tc_asm.specs.Drafts.{UseData, DraftSectionData, empty_draft}
 use Rattle.tc_asm.specs.DraftedSources.{symbols_of_lines, draft_in}
-use Rattle.tc_asm.specs.Rules.{items_rule}
+use Rattle.tc_asm.specs.Rules.{rule_broken_by_items}
 use Rattle.tc_asm.specs.Objects.{section_of, object_of_draft}
 use Rattle.tc_asm.specs.Statements.{StatementData, section_bytes, statement_offset, statements_in}
 use Rattle.tc_asm.proofs.LaidLaws.{stands}
 use Rattle.tc_link.specs.Placing.{PlacedData}
 use Rattle.tc_link.specs.GlobalSymbols.{GlobalData}
-use Rattle.tc_link.specs.Relocated.{sections_with_reloc, relocated_sections}
+use Rattle.tc_link.specs.Relocated.{sections_after_reloc, relocated_sections}
 use Rattle.tc_asm.proofs.Uses.{GoodItems}
 use Rattle.tc_program.proofs.Fields.{finished_at, relocs_written, filled_from, filled_bytes, filled_at, filled_offset, fields_written}
 use Rattle.tc_program.proofs.Fields as fields
@@ -34,7 +34,7 @@ drop_get (suc m) (x ∷ xs) k zero b e h = absurd (omega arith)
 drop_get (suc m) (x ∷ xs) k (suc n) b e h = drop_get m xs k n b (omega arith) h
 
 -- ---- a source
-module _ (source : List ℕ) (good : GoodItems (symbols_of_lines (lines_in source)) empty_draft (items_in (lines_in source))) (rules : 15 ≤ items_rule (symbols_of_lines (lines_in source)) empty_draft (items_in (lines_in source))) where
+module _ (source : List ℕ) (good : GoodItems (symbols_of_lines (lines_in source)) empty_draft (items_in (lines_in source))) (rules : 15 ≤ rule_broken_by_items (symbols_of_lines (lines_in source)) empty_draft (items_in (lines_in source))) where
   module _ (g : List GlobalData) (p : PlacedData) (is : p.object ≡ object_of_draft (draft_in source)) where
     -- the bytes of a section with its relocations written
     pub final : (s : ℕ) (q : DraftSectionData) → slice_get (draft_in source).parts s ≡ Some q →
@@ -44,7 +44,7 @@ module _ (source : List ℕ) (good : GoodItems (symbols_of_lines (lines_in sourc
         let part = part_is source good rules s q e in
         let same : 0 + s ≡ s = omega arith in
         let step : ℕ → SectionData → UseData → SectionData = fields.stepped g p (draft_in source).symbols in
-        ap (λ (o : ObjectData). slice_get (fold (sections_with_reloc g p) o.sections o.relocs) s) is
+        ap (λ (o : ObjectData). slice_get (fold (sections_after_reloc g p) o.sections o.relocs) s) is
         ∙ ap (λ (ss : List SectionData). slice_get ss s) (relocs_written g p (draft_in source).symbols (draft_in source).parts)
         ∙ finished_at g p (draft_in source).symbols 0 s (draft_in source).parts q e
         ∙ ap (λ n. Some (fold (step n) (section_of q) q.uses)) same

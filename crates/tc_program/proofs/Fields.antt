@@ -11,7 +11,7 @@ use Rattle.tc_asm.specs.Drafts.{UseData, DraftSectionData}
 use Rattle.tc_asm.specs.Objects.{section_of, reloc_of, relocs_of_sections}
 use Rattle.tc_asm.specs.Statements.{StatementData, section_bytes, statement_offset, has_unresolved_symbol}
 use Rattle.tc_reloc.specs.Fields.{reloc_field_number, with_reloc_field}
-use Rattle.tc_link.specs.Relocated.{reloc_field_at, reloc_field_address, reloc_value, section_with_reloc, sections_with_reloc}
+use Rattle.tc_link.specs.Relocated.{reloc_field_at, reloc_field_address, reloc_value, section_after_reloc, sections_after_reloc}
 use Rattle.tc_link.specs.Placing.{PlacedData}
 use Rattle.tc_link.specs.GlobalSymbols.{GlobalData}
 use Rattle.tc_stmt.proofs.ListItems.{seam_get, seam_set, take_behind, drop_behind}
@@ -21,19 +21,19 @@ use Rattle.tc_asm.proofs.Uses.{use_at, uses_from, HaveFields}
 module _ (g : List GlobalData) (p : PlacedData) (symbols : List SymbolData) where
   -- the section of this number with the field of one use written
   abbrev pub stepped : ℕ → SectionData → UseData → SectionData
-  stepped n sec u = section_with_reloc g p (reloc_of symbols n u) sec
+  stepped n sec u = section_after_reloc g p (reloc_of symbols n u) sec
 
-  reloc_here : (before after : List SectionData) (sec : SectionData) (n : ℕ) (u : UseData) → n ≡ length before → sections_with_reloc g p (before ++ sec ∷ after) (reloc_of symbols n u) ≡ before ++ stepped n sec u ∷ after
+  reloc_here : (before after : List SectionData) (sec : SectionData) (n : ℕ) (u : UseData) → n ≡ length before → sections_after_reloc g p (before ++ sec ∷ after) (reloc_of symbols n u) ≡ before ++ stepped n sec u ∷ after
   reloc_here before after sec n u e =
-      ap (λ k. option_map_or (λ x. slice_set (before ++ sec ∷ after) k (section_with_reloc g p (reloc_of symbols n u) x)) (slice_get (before ++ sec ∷ after) k) (before ++ sec ∷ after)) e
-      ∙ ap (λ (o : Option SectionData). option_map_or (λ x. slice_set (before ++ sec ∷ after) (length before) (section_with_reloc g p (reloc_of symbols n u) x)) o (before ++ sec ∷ after)) (seam_get before after sec)
+      ap (λ k. option_map_or (λ x. slice_set (before ++ sec ∷ after) k (section_after_reloc g p (reloc_of symbols n u) x)) (slice_get (before ++ sec ∷ after) k) (before ++ sec ∷ after)) e
+      ∙ ap (λ (o : Option SectionData). option_map_or (λ x. slice_set (before ++ sec ∷ after) (length before) (section_after_reloc g p (reloc_of symbols n u) x)) o (before ++ sec ∷ after)) (seam_get before after sec)
       ∙ seam_set before after sec (stepped n sec u)
 
   relocs_here : (before after : List SectionData) (sec : SectionData) (n : ℕ) (us : List UseData) (rest : List Reloc) → n ≡ length before →
-      fold (sections_with_reloc g p) (before ++ sec ∷ after) (map (reloc_of symbols n) us ++ rest) ≡ fold (sections_with_reloc g p) (before ++ fold (stepped n) sec us ∷ after) rest
+      fold (sections_after_reloc g p) (before ++ sec ∷ after) (map (reloc_of symbols n) us ++ rest) ≡ fold (sections_after_reloc g p) (before ++ fold (stepped n) sec us ∷ after) rest
   relocs_here before after sec n [] rest e = refl
   relocs_here before after sec n (u ∷ us) rest e =
-      ap (λ (ss : List SectionData). fold (sections_with_reloc g p) ss (map (reloc_of symbols n) us ++ rest)) (reloc_here before after sec n u e)
+      ap (λ (ss : List SectionData). fold (sections_after_reloc g p) ss (map (reloc_of symbols n) us ++ rest)) (reloc_here before after sec n u e)
       ∙ relocs_here before after (stepped n sec u) n us rest e
 
   -- the sections of parts, numbered from this number on, with their uses written
@@ -41,17 +41,17 @@ module _ (g : List GlobalData) (p : PlacedData) (symbols : List SymbolData) wher
   finished n [] = []
   finished n (q ∷ qs) = fold (stepped n) (section_of q) q.uses ∷ finished (n + 1) qs
 
-  relocs_all : (before : List SectionData) (n : ℕ) (parts : List DraftSectionData) → n ≡ length before → fold (sections_with_reloc g p) (before ++ map section_of parts) (relocs_of_sections symbols n parts) ≡ before ++ finished n parts
+  relocs_all : (before : List SectionData) (n : ℕ) (parts : List DraftSectionData) → n ≡ length before → fold (sections_after_reloc g p) (before ++ map section_of parts) (relocs_of_sections symbols n parts) ≡ before ++ finished n parts
   relocs_all before n [] e = refl
   relocs_all before n (q ∷ qs) e =
       let sec : SectionData = fold (stepped n) (section_of q) q.uses in
       let long : n + 1 ≡ length (before ++ sec ∷ []) = omega (arith, length-append before (sec ∷ [])) in
       relocs_here before (map section_of qs) (section_of q) n q.uses (relocs_of_sections symbols (n + 1) qs) e
-      ∙ ap (λ (ss : List SectionData). fold (sections_with_reloc g p) ss (relocs_of_sections symbols (n + 1) qs)) (sym (append_assoc before (sec ∷ []) (map section_of qs)))
+      ∙ ap (λ (ss : List SectionData). fold (sections_after_reloc g p) ss (relocs_of_sections symbols (n + 1) qs)) (sym (append_assoc before (sec ∷ []) (map section_of qs)))
       ∙ relocs_all (before ++ sec ∷ []) (n + 1) qs long
       ∙ append_assoc before (sec ∷ []) (finished (n + 1) qs)
 
-  pub relocs_written : (parts : List DraftSectionData) → fold (sections_with_reloc g p) (map section_of parts) (relocs_of_sections symbols 0 parts) ≡ finished 0 parts
+  pub relocs_written : (parts : List DraftSectionData) → fold (sections_after_reloc g p) (map section_of parts) (relocs_of_sections symbols 0 parts) ≡ finished 0 parts
   relocs_written parts = relocs_all [] 0 parts refl
 
   pub finished_at : (n i : ℕ) (parts : List DraftSectionData) (q : DraftSectionData) → slice_get parts i ≡ Some q → slice_get (finished n parts) i ≡ Some (fold (stepped (n + i)) (section_of q) q.uses)

@@ -12,7 +12,7 @@ use Rattle.elf_image.specs.Images.{SegmentData, segment_contains, byte_in_segmen
 use Rattle.tc_object.specs.Objects.{SectionData, AllInTurn}
 use Rattle.tc_link.specs.Layouts.{PlaceData, IsPlaceAfter, has_place_for, place_of}
 use Rattle.tc_link.specs.PlaceSizes.{next_multiple_of_4, used_place_size}
-use Rattle.tc_link.specs.Segments.{with_segment_padding, with_section, joined_sections}
+use Rattle.tc_link.specs.Segments.{with_segment_padding, with_section_of_name, joined_sections}
 use Rattle.tc_link.specs.Shapes.{SectionShape, section_shape}
 use Rattle.tc_link.proofs.ShapeLaws.{length-joined, taken-shapes, padded_length}
 use Rattle.tc_stmt.proofs.ListItems.{get_short, in_front_or_rest, InRest, map_get, map_at, map_take}
@@ -21,16 +21,16 @@ use Rattle.tc_stmt.proofs.ListItems.{get_short, in_front_or_rest, InRest, map_ge
 -- the bytes so far remain at the start
 record Longer (name before : List ℕ) (ss : List SectionData) : Type 0 where
   more : List ℕ
-  is : fold (with_section name) before ss ≡ before ++ more
+  is : fold (with_section_of_name name) before ss ≡ before ++ more
 
 stays : (name : List ℕ) (ss : List SectionData) (before : List ℕ) → Longer name before ss
 stays name [] before = record { more = []; is = sym (append-nil before) }
-stays name (s ∷ ss) before = by (bytes_eq name s.name) refl (stays name ss (with_section name before s))
+stays name (s ∷ ss) before = by (bytes_eq name s.name) refl (stays name ss (with_section_of_name name before s))
   where
     zeros : List ℕ
     zeros = replicate (next_multiple_of_4 (length before) - length before) 0
 
-    by : (b : Bool) → bytes_eq name s.name ≡ b → Longer name (with_section name before s) ss → Longer name before (s ∷ ss)
+    by : (b : Bool) → bytes_eq name s.name ≡ b → Longer name (with_section_of_name name before s) ss → Longer name before (s ∷ ss)
     by true e h = record {
       more = zeros ++ (s.bytes ++ h.more);
       is = h.is ∙ ap (λ b. cond b (with_segment_padding before ++ s.bytes) before ++ h.more) e ∙ append_assoc (with_segment_padding before) s.bytes h.more ∙ append_assoc before zeros (s.bytes ++ h.more);
@@ -47,14 +47,14 @@ pub record Stands (name : List ℕ) (before : List SectionData) (s : SectionData
 pub stands : (name : List ℕ) (before : List SectionData) (s : SectionData) (after : List SectionData) → bytes_eq name s.name ≡ true → Stands name before s after
 unfolding joined_sections
 stands name before s after e =
-    let h = stays name after (with_section name (fold (with_section name) [] before) s) in
+    let h = stays name after (with_section_of_name name (fold (with_section_of_name name) [] before) s) in
     record {
-      front = with_segment_padding (fold (with_section name) [] before);
+      front = with_segment_padding (fold (with_section_of_name name) [] before);
       rest = h.more;
-      is = fold-append (with_section name) [] before (s ∷ after) ∙ h.is
-          ∙ ap (λ b. cond b (with_segment_padding (fold (with_section name) [] before) ++ s.bytes) (fold (with_section name) [] before) ++ h.more) e
-          ∙ append_assoc (with_segment_padding (fold (with_section name) [] before)) s.bytes h.more;
-      place = padded_length (fold (with_section name) [] before) ∙ ap next_multiple_of_4 (length-joined name before);
+      is = fold-append (with_section_of_name name) [] before (s ∷ after) ∙ h.is
+          ∙ ap (λ b. cond b (with_segment_padding (fold (with_section_of_name name) [] before) ++ s.bytes) (fold (with_section_of_name name) [] before) ++ h.more) e
+          ∙ append_assoc (with_segment_padding (fold (with_section_of_name name) [] before)) s.bytes h.more;
+      place = padded_length (fold (with_section_of_name name) [] before) ∙ ap next_multiple_of_4 (length-joined name before);
     }
 
 -- ---- the bytes of a place
@@ -81,18 +81,18 @@ pad_byte before k b e = by (in_front_or_rest before (replicate (next_multiple_of
     by (inr r) = inr (zero_in (next_multiple_of_4 (length before) - length before) r.at b r.is)
 
 abbrev starts_behind : List ℕ → List ℕ → List SectionData → ℕ
-starts_behind name before ss = next_multiple_of_4 (length (fold (with_section name) before ss))
+starts_behind name before ss = next_multiple_of_4 (length (fold (with_section_of_name name) before ss))
 
-in_joined : (name : List ℕ) (ss : List SectionData) (before : List ℕ) (k b : ℕ) → slice_get (fold (with_section name) before ss) k ≡ Some b →
+in_joined : (name : List ℕ) (ss : List SectionData) (before : List ℕ) (k b : ℕ) → slice_get (fold (with_section_of_name name) before ss) k ≡ Some b →
     (k < length before) ⊎ ((b ≡ 0) ⊎ InSection name ss (starts_behind name before) k)
 in_joined name [] before k b e = inl (slice_get_within before k b e)
-in_joined name (s ∷ ss) before k b e = by_rest (in_joined name ss (with_section name before s) k b e)
+in_joined name (s ∷ ss) before k b e = by_rest (in_joined name ss (with_section_of_name name before s) k b e)
   where
     -- a byte in front stays
-    byte_in_front : k < length (with_section name before s) → slice_get (with_section name before s) k ≡ Some b
+    byte_in_front : k < length (with_section_of_name name before s) → slice_get (with_section_of_name name before s) k ≡ Some b
     byte_in_front h =
-        let l = stays name ss (with_section name before s) in
-        sym (get_short (with_section name before s) l.more k h) ∙ ap (λ (bs : List ℕ). slice_get bs k) (sym l.is) ∙ e
+        let l = stays name ss (with_section_of_name name before s) in
+        sym (get_short (with_section_of_name name before s) l.more k h) ∙ ap (λ (bs : List ℕ). slice_get bs k) (sym l.is) ∙ e
 
     in_this : (t : Bool) → bytes_eq name s.name ≡ t → slice_get (cond t (with_segment_padding before ++ s.bytes) before) k ≡ Some b → (k < length before) ⊎ ((b ≡ 0) ⊎ InSection name (s ∷ ss) (starts_behind name before) k)
     in_this true named g = by_part (in_front_or_rest (with_segment_padding before) s.bytes k b g)
@@ -110,7 +110,7 @@ in_joined name (s ∷ ss) before k b e = by_rest (in_joined name ss (with_sectio
             inr (inr (record { at = 0; section = s; is_section = refl; named = named; low = omega arith; high = omega arith }))
     in_this false named g = inl (slice_get_within before k b g)
 
-    by_rest : (k < length (with_section name before s)) ⊎ ((b ≡ 0) ⊎ InSection name ss (starts_behind name (with_section name before s)) k)
+    by_rest : (k < length (with_section_of_name name before s)) ⊎ ((b ≡ 0) ⊎ InSection name ss (starts_behind name (with_section_of_name name before s)) k)
         → (k < length before) ⊎ ((b ≡ 0) ⊎ InSection name (s ∷ ss) (starts_behind name before) k)
     by_rest (inl h) = in_this (bytes_eq name s.name) refl (byte_in_front h)
     by_rest (inr (inl h)) = inr (inl h)

@@ -2,10 +2,10 @@
 use Rattle.std.proofs.Common.{◌+◌, ◌%◌, ◌^◌, ℕ, refl, sym, subst}
 use Rattle.tc_asm.proofs.ShortJumps.{short_jumps_law}
 use Rattle.tc_program.specs.Addresses.{SectionHasAddress, own}
-use Rattle.tc_program.specs.PlacementLaws.{PlacedJumpsLaw}
+use Rattle.tc_program.specs.PlacementLaws.{ShortJumpsReachTargets}
 use Rattle.tc_program.proofs.Stands.{rules_at}
 
-pub jumps_law : PlacedJumpsLaw
+pub jumps_law : ShortJumpsReachTargets
 jumps_law sources objects layout number index source t r base are is_source at is none begins =
     let j = short_jumps_law source index t r (rules_at sources objects are number source is_source) at is none in
     let B : ℕ → Type 0 = λ s. SectionHasAddress layout.places sources number s base in

@@ -4,7 +4,7 @@ use Rattle.std.specs.Prelude.{slice_get}
 use Rattle.std.specs.List.{flat_map}
 use Rattle.elf_image.specs.Images.{ImageData}
 use Rattle.tc_object.specs.Objects.{ObjectData, IsObject}
-use Rattle.tc_asm.specs.DraftInvariants.{IsDraft}
+use Rattle.tc_asm.specs.DraftInvariants.{IsWellFormedDraft}
 use Rattle.tc_link.specs.Layouts.{LayoutData}
 use Rattle.tc_link.specs.GlobalSymbols.{globals_of, first_global_address}
 use Rattle.tc_link.specs.Relocated.{relocated_sections, all_relocated_sections}
@@ -18,7 +18,7 @@ use Rattle.tc_link.proofs.RelocLaws.{contents_shapes}
 use Rattle.tc_asm.specs.DraftedSources.{draft_in}
 use Rattle.tc_program.specs.Addresses.{program_sections}
 use Rattle.tc_program.specs.Placed.{segment_range}
-use Rattle.tc_program.specs.PlacementLaws.{AreAssembledFrom, PlacedSegmentsLaw, PlacedEntryLaw}
+use Rattle.tc_program.specs.PlacementLaws.{AreAssembledFrom, PlacesBecomeSegments, EntryIsSymbolAddress}
 use Rattle.tc_program.proofs.Sections.{AreObjects, all_sections}
 use Rattle.tc_asm.proofs.SourceDrafts.{source_draft, source_object}
 use Rattle.tc_program.proofs.Names.{global_at}
@@ -32,10 +32,10 @@ are_objects [] (o ∷ os) h = absurd h
 are_objects (x ∷ xs) [] h = absurd h
 are_objects (x ∷ xs) (o ∷ os) h = (h.0.1, are_objects xs os h.1)
 
-pub drafts_good : (sources : List (List ℕ)) (objects : List ObjectData) → AreAssembledFrom sources objects → (i : ℕ) (source : List ℕ) → slice_get sources i ≡ Some source → IsDraft (draft_in source)
+pub drafts_good : (sources : List (List ℕ)) (objects : List ObjectData) → AreAssembledFrom sources objects → (i : ℕ) (source : List ℕ) → slice_get sources i ≡ Some source → IsWellFormedDraft (draft_in source)
 drafts_good [] objects h i source e = cc
 drafts_good (x ∷ xs) [] h i source e = absurd h
-drafts_good (x ∷ xs) (o ∷ os) h zero source e = let same : x ≡ source = cc in subst (λ (y : List ℕ). IsDraft (draft_in y)) same (source_draft x h.0.0)
+drafts_good (x ∷ xs) (o ∷ os) h zero source e = let same : x ≡ source = cc in subst (λ (y : List ℕ). IsWellFormedDraft (draft_in y)) same (source_draft x h.0.0)
 drafts_good (x ∷ xs) (o ∷ os) h (suc i) source e = drafts_good xs os h.1 i source e
 
 pub objects_good : (sources : List (List ℕ)) (objects : List ObjectData) → AreAssembledFrom sources objects → (k : ℕ) (d : ObjectData) → k < length objects → IsObject (get_or objects k d)
@@ -81,7 +81,7 @@ pub placeable : (objects : List ObjectData) (layout : LayoutData) → refusal_be
 placeable objects layout e = (none_parts _ _ (none_parts _ _ (none_parts _ _ e).1).1).0
 
 -- ---- the laws
-pub segments_law : PlacedSegmentsLaw
+pub segments_law : PlacesBecomeSegments
 unfolding all_relocated_sections
 segments_law sources objects layout image are e =
     let parts = parts_of objects layout image e in
@@ -90,7 +90,7 @@ segments_law sources objects layout image are e =
     = contents_shapes g layout.places [] objects (objects_good sources objects are) ∙ ap (map section_shape) (sym (all_sections sources objects (are_objects sources objects are))) in
     ap (map segment_range) parts.segments ∙ spans (flat_map (relocated_sections g) (placed_in_layout layout objects)) (program_sections sources) layout.places shapes
 
-pub entry_law : PlacedEntryLaw
+pub entry_law : EntryIsSymbolAddress
 entry_law sources objects layout image are e =
     let parts = parts_of objects layout image e in
     global_at layout.places sources objects (are_objects sources objects are) (placeable objects layout parts.early) (drafts_good sources objects are) layout.entry image.entry parts.entry

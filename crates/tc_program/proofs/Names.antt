@@ -13,7 +13,7 @@ use Rattle.tc_asm.specs.declared.symbols.Place.{Place}
 use Rattle.tc_asm.specs.declared.symbols.Entry.{Entry}
 use Rattle.tc_asm.specs.Symbols.{SymbolData, entry_or_undefined, place_in, symbol_names}
 use Rattle.tc_asm.specs.Drafts.{DraftSectionData}
-use Rattle.tc_asm.specs.DraftInvariants.{EachInDraft, is_drafted_name, IsNewDraftName, AreDistinctDraftNames, IsLabelPlace, IsLabelPlaceIfAny, IsDraft}
+use Rattle.tc_asm.specs.DraftInvariants.{EachInDraft, is_drafted_name, IsNewDraftName, AreDistinctDraftNames, IsLabelPlace, IsLabelPlaceIfAny, IsWellFormedDraft}
 use Rattle.tc_asm.specs.Objects.{section_of, object_symbol, symbol_of, object_of_draft}
 use Rattle.tc_link.specs.Layouts.{PlaceData}
 use Rattle.tc_link.specs.Refusals.{has_symbol_in_section, first_no_place_refusal}
@@ -96,7 +96,7 @@ part_there (p ∷ ps) (suc n) h = part_there ps n (omega arith)
 
 -- ---- the address of a label
 module _ (layout_places : List PlaceData) (sources : List (List ℕ)) (objects : List ObjectData) (are : AreObjects sources objects) (placeable : first_no_place_refusal layout_places objects ≡ None)
-    (good : (i : ℕ) (source : List ℕ) → slice_get sources i ≡ Some source → IsDraft (draft_in source)) where
+    (good : (i : ℕ) (source : List ℕ) → slice_get sources i ≡ Some source → IsWellFormedDraft (draft_in source)) where
   abbrev pub bases : ℕ → List ℕ → List ℕ
   bases i source = section_bases_after layout_places (placing.sections_to_link (take i objects)) (object_of_draft (draft_in source)).sections
 

@@ -14,16 +14,16 @@ use Rattle.tc_asm.specs.Drafts.{DraftData, empty_draft, assembled_row_code, row_
 use Rattle.tc_isa.specs.Relocations.{is_relocation_kind}
 use Rattle.tc_asm.specs.DraftedSources.{symbols_of_lines}
 use Rattle.tc_asm.specs.DraftInvariants.{EachInDraft}
-use Rattle.tc_asm.specs.Statements.{StatementData, statement_of_item, statement_with_room, statements_from}
-use Rattle.tc_program.specs.PlacementLaws.{SourceFieldFillsRow, SourceFieldsLaw}
+use Rattle.tc_asm.specs.Statements.{StatementData, statement_of_item, statement_if_room, statements_from}
+use Rattle.tc_program.specs.PlacementLaws.{SourceFieldFillsRow, UnresolvedFieldsAreFillable}
 use Rattle.tc_stmt.proofs.ListItems.{InRest, in_front_or_rest}
-use Rattle.tc_asm.specs.ItemInvariants.{IsAddedCode, IsAddedItem}
+use Rattle.tc_asm.specs.ItemInvariants.{IsCodeOfSomeLine, IsItemOfSomeLine}
 use Rattle.tc_asm.proofs.SourceItems.{source_are}
 use Rattle.tc_asm.proofs.CodeSizes.{fits_true, resolved_fits}
 use Rattle.tc_reloc.proofs.FilledRows.{filled_row, filled_fits}
 
 -- ---- statements
-code_fills : (labels : List SymbolData) (d : DraftData) (k : ℕ) (f : Fields) (o : Option ReferenceData) (r : ReferenceData) → IsAddedCode k f o → o ≡ Some r → is_relocation_kind r.kind ≡ true → SourceFieldFillsRow r.kind (code_bytes labels d k f o)
+code_fills : (labels : List SymbolData) (d : DraftData) (k : ℕ) (f : Fields) (o : Option ReferenceData) (r : ReferenceData) → IsCodeOfSomeLine k f o → o ≡ Some r → is_relocation_kind r.kind ≡ true → SourceFieldFillsRow r.kind (code_bytes labels d k f o)
 unfolding code_bytes assembled_row_code
 code_fills labels d k f o r c is waits =
     let fit = resolved_fits labels d k f o c.row c.at c.symbols c.fits in
@@ -51,20 +51,20 @@ standing_waits true t h zero x e = let same : t ≡ x = cc in subst Waits same h
 standing_waits true t h (suc j) x e = cc
 standing_waits false t h j x e = cc
 
-item_waits : (labels : List SymbolData) (d : DraftData) (i : ItemData) → IsAddedItem i → (j : ℕ) (x : StatementData) → slice_get (statement_with_room d (statement_of_item labels d i)) j ≡ Some x → Waits x
+item_waits : (labels : List SymbolData) (d : DraftData) (i : ItemData) → IsItemOfSomeLine i → (j : ℕ) (x : StatementData) → slice_get (statement_if_room d (statement_of_item labels d i)) j ≡ Some x → Waits x
 item_waits labels d (code k f o) h j x e = standing_waits _ _ (record { so = λ r is waits. inr (code_fills labels d k f o r h is waits) }) j x e
 item_waits labels d (bytes bs o) h j x e = standing_waits _ _ (record { so = λ r is waits. inl (h.kind r is) }) j x e
 item_waits labels d (zeros n) h j x e = standing_waits _ _ (record { so = λ r is waits. cc }) j x e
 item_waits labels d _ h j x e = cc
 
-items_wait : (labels : List SymbolData) (is : List ItemData) (d : DraftData) → EachInDraft IsAddedItem is → (j : ℕ) (x : StatementData) → slice_get (statements_from labels d is) j ≡ Some x → Waits x
+items_wait : (labels : List SymbolData) (is : List ItemData) (d : DraftData) → EachInDraft IsItemOfSomeLine is → (j : ℕ) (x : StatementData) → slice_get (statements_from labels d is) j ≡ Some x → Waits x
 items_wait labels [] d h j x e = cc
-items_wait labels (i ∷ is) d h j x e = by (in_front_or_rest (statement_with_room d (statement_of_item labels d i)) (statements_from labels (draft_after_item labels d i) is) j x e) (λ k g. items_wait labels is (draft_after_item labels d i) h.1 k x g)
+items_wait labels (i ∷ is) d h j x e = by (in_front_or_rest (statement_if_room d (statement_of_item labels d i)) (statements_from labels (draft_after_item labels d i) is) j x e) (λ k g. items_wait labels is (draft_after_item labels d i) h.1 k x g)
   where
-    by : (slice_get (statement_with_room d (statement_of_item labels d i)) j ≡ Some x) ⊎ InRest StatementData (statement_with_room d (statement_of_item labels d i)) (statements_from labels (draft_after_item labels d i) is) j x
+    by : (slice_get (statement_if_room d (statement_of_item labels d i)) j ≡ Some x) ⊎ InRest StatementData (statement_if_room d (statement_of_item labels d i)) (statements_from labels (draft_after_item labels d i) is) j x
         → ((k : ℕ) → slice_get (statements_from labels (draft_after_item labels d i) is) k ≡ Some x → Waits x) → Waits x
     by (inl g) rec = item_waits labels d i h.0 j x g
     by (inr r) rec = rec r.at r.is
 
-pub fields_law : SourceFieldsLaw
+pub fields_law : UnresolvedFieldsAreFillable
 fields_law source index t r at is waits = (items_wait (symbols_of_lines (lines_in source)) (items_in (lines_in source)) empty_draft (source_are source) index t at).so r is waits

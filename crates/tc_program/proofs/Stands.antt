@@ -22,7 +22,7 @@ use Rattle.tc_asm.specs.Symbols.{SymbolData, symbol_number, symbol_names}
 use Rattle.tc_asm.specs.Drafts.{UseData, DraftSectionData, empty_draft, draft_section_bytes_at}
 use Rattle.tc_isa.specs.Relocations.{is_relocation_kind}
 use Rattle.tc_asm.specs.DraftedSources.{symbols_of_lines, draft_in}
-use Rattle.tc_asm.specs.Rules.{LinesKeepRules, items_rule}
+use Rattle.tc_asm.specs.Rules.{LinesKeepRules, rule_broken_by_items}
 use Rattle.tc_asm.specs.DraftInvariants.{is_drafted_name, IsUseOfKnownSymbol, IsDraftSection}
 use Rattle.tc_asm.specs.Objects.{section_of, symbol_of, assembled_addend, reloc_of, relocs_of_sections, object_of_draft}
 use Rattle.tc_asm.specs.Statements.{StatementData, section_bytes, statement_offset, statements_in, has_unresolved_symbol}
@@ -33,7 +33,7 @@ use Rattle.tc_link.specs.Placing.{PlacedData, section_bases_after, placed_in_lay
 use Rattle.tc_link.specs.GlobalSymbols.{GlobalData, globals_of}
 use Rattle.tc_link.specs.PlaceSizes.{next_multiple_of_4, used_place_size}
 use Rattle.tc_link.specs.Relocated.{symbol_address, relocated_sections, reloc_field_address, reloc_value, all_relocated_sections}
-use Rattle.tc_link.specs.Refusals.{reloc_error, Refusal, reloc, first_missing_symbol_refusal, is_used_by_relocs, has_symbol_in_section, refusal_at, first_reloc_refusal, first_refusal_from, refusal_before_relocs}
+use Rattle.tc_link.specs.Refusals.{reloc_error, Refusal, reloc, first_missing_symbol_refusal, is_used_by_relocs, has_symbol_in_section, reloc_refusal, first_reloc_refusal, first_refusal_from, refusal_before_relocs}
 use Rattle.tc_link.specs.Placing as placing
 use Rattle.tc_link.specs.Segments.{joined_sections, segment_of, segments_of}
 use Rattle.tc_link.specs.Shapes.{SectionShape, section_shape}
@@ -187,7 +187,7 @@ module _ (sources : List (List ℕ)) (objects : List ObjectData) (layout : Layou
   abbrev contents : List SectionData
   contents = all_relocated_sections (placed_in_layout layout objects)
 
-  rules : 15 ≤ items_rule (symbols_of_lines (lines_in source)) empty_draft (items_in (lines_in source))
+  rules : 15 ≤ rule_broken_by_items (symbols_of_lines (lines_in source)) empty_draft (items_in (lines_in source))
   rules = source_items source (rules_at sources objects are number source is_source)
 
   object_there : slice_get objects number ≡ Some object
@@ -403,9 +403,9 @@ module _ (sources : List (List ℕ)) (objects : List ObjectData) (layout : Layou
       unrefused : reloc_error globals own field ≡ None
       unfolding first_reloc_refusal
       unrefused =
-          let here : first_refusal_from (refusal_at globals (0 + number) own) 0 object.relocs ≡ None
-          = none_at (λ n (x : PlacedData). first_refusal_from (refusal_at globals n x) 0 x.object.relocs) 0 (placed_in_layout layout objects) number own parts.relocs own_there in
-          none_of (reloc_error globals own field) (none_at (refusal_at globals (0 + number) own) 0 object.relocs field_there.at field here field_there.is)
+          let here : first_refusal_from (reloc_refusal globals (0 + number) own) 0 object.relocs ≡ None
+          = none_at (λ n (x : PlacedData). first_refusal_from (reloc_refusal globals n x) 0 x.object.relocs) 0 (placed_in_layout layout objects) number own parts.relocs own_there in
+          none_of (reloc_error globals own field) (none_at (reloc_refusal globals (0 + number) own) 0 object.relocs field_there.at field here field_there.is)
         where
           none_of : (o : Option RelocErr) → option_map (λ e. reloc (0 + number) field.section field.offset e) o ≡ None → o ≡ None
           none_of None e = refl

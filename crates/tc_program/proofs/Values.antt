@@ -12,7 +12,7 @@ use Rattle.tc_object.specs.Objects as object
 use Rattle.tc_asm.specs.declared.symbols.Place.{Place}
 use Rattle.tc_asm.specs.declared.symbols.Entry.{Entry}
 use Rattle.tc_asm.specs.Symbols.{SymbolData, place_in}
-use Rattle.tc_asm.specs.DraftInvariants.{IsDraft}
+use Rattle.tc_asm.specs.DraftInvariants.{IsWellFormedDraft}
 use Rattle.tc_asm.specs.Objects.{object_symbol, symbol_of, object_of_draft}
 use Rattle.tc_link.specs.Layouts.{PlaceData}
 use Rattle.tc_link.specs.Refusals.{Refusal, missing, first_refusal_from, is_used_by_relocs, missing_symbol_refusal, first_missing_symbol_refusal, first_no_place_refusal}
@@ -80,7 +80,7 @@ global_there places objects i o k x e at there kind uses =
 
 -- ---- the address of a symbol of a source
 module _ (layout_places : List PlaceData) (sources : List (List ℕ)) (objects : List ObjectData) (are : AreObjects sources objects) (placeable : first_no_place_refusal layout_places objects ≡ None)
-    (good : (i : ℕ) (source : List ℕ) → slice_get sources i ≡ Some source → IsDraft (draft_in source)) (known : first_missing_symbol_refusal objects ≡ None) where
+    (good : (i : ℕ) (source : List ℕ) → slice_get sources i ≡ Some source → IsWellFormedDraft (draft_in source)) (known : first_missing_symbol_refusal objects ≡ None) where
   abbrev globals : List GlobalData
   globals = globals_of (placed_after layout_places [] objects)
 

@@ -1,12 +1,12 @@
 -- The image of sources that were assembled and linked, and their symbols.
 use Rattle.std.proofs.Common.{sym}
-use Rattle.tc_program.specs.PlacementLaws.{PlacedLaw, SourceSymbolsLaw}
+use Rattle.tc_program.specs.PlacementLaws.{LinkedImagesArePlaced, SymbolsAreOfWholeSource}
 use Rattle.tc_program.proofs.Laws.{parts_of, segments_law, entry_law}
 use Rattle.tc_program.proofs.Stands.{statement_stands}
 use Rattle.tc_program.proofs.Zeros.{zero_else}
 use Rattle.tc_asm.proofs.AlikeDrafts.{passes_agree}
 
-pub placed_law : PlacedLaw
+pub placed_law : LinkedImagesArePlaced
 placed_law sources objects layout image good are e =
     let parts = parts_of objects layout image e in
     record {
@@ -16,5 +16,5 @@ placed_law sources objects layout image good are e =
       entry = entry_law sources objects layout image are e;
     }
 
-pub symbols_law : SourceSymbolsLaw
+pub symbols_law : SymbolsAreOfWholeSource
 symbols_law source = sym (passes_agree source)

@@ -30,26 +30,26 @@ AreAssembledFrom (x ∷ xs) (o ∷ os) = (LinesKeepRules (lines_in x) (length (l
 
 -- law of linking: in an image linked from assembled sources, each place of the layout with bytes is
 -- one segment
-abbrev pub PlacedSegmentsLaw : Type 0
-PlacedSegmentsLaw = (sources : List (List ℕ)) (objects : List ObjectData) (layout : LayoutData) (image : ImageData) → AreAssembledFrom sources objects → image_of_objects objects layout ≡ Ok image
+abbrev pub PlacesBecomeSegments : Type 0
+PlacesBecomeSegments = (sources : List (List ℕ)) (objects : List ObjectData) (layout : LayoutData) (image : ImageData) → AreAssembledFrom sources objects → image_of_objects objects layout ≡ Ok image
     → map segment_range image.segments ≡ filter (λ s. nat_lt 0 s.size) (map (place_range (program_sections sources)) layout.places)
 
 -- law of linking: in an image linked from assembled sources, the entry is the address of the
 -- layout's entry symbol
-abbrev pub PlacedEntryLaw : Type 0
-PlacedEntryLaw = (sources : List (List ℕ)) (objects : List ObjectData) (layout : LayoutData) (image : ImageData) → AreAssembledFrom sources objects → image_of_objects objects layout ≡ Ok image
+abbrev pub EntryIsSymbolAddress : Type 0
+EntryIsSymbolAddress = (sources : List (List ℕ)) (objects : List ObjectData) (layout : LayoutData) (image : ImageData) → AreAssembledFrom sources objects → image_of_objects objects layout ≡ Ok image
     → GlobalHasAddress layout.places sources layout.entry image.entry
 
 -- law of linking: an image linked from assembled sources by a layout has each statement's bytes at
 -- its address
-abbrev pub PlacedLaw : Type 0
-PlacedLaw = (sources : List (List ℕ)) (objects : List ObjectData) (layout : LayoutData) (image : ImageData) → IsLayout layout → AreAssembledFrom sources objects → image_of_objects objects layout ≡ Ok image
+abbrev pub LinkedImagesArePlaced : Type 0
+LinkedImagesArePlaced = (sources : List (List ℕ)) (objects : List ObjectData) (layout : LayoutData) (image : ImageData) → IsLayout layout → AreAssembledFrom sources objects → image_of_objects objects layout ≡ Ok image
     → Placed sources layout image
 
 -- law of placing a source: the symbols that its jumps of 16 bits are resolved by are those of all
 -- its lines
-abbrev pub SourceSymbolsLaw : Type 0
-SourceSymbolsLaw = (source : List ℕ) → symbols_of_lines (lines_in source) ≡ symbols_in source
+abbrev pub SymbolsAreOfWholeSource : Type 0
+SymbolsAreOfWholeSource = (source : List ℕ) → symbols_of_lines (lines_in source) ≡ symbols_in source
 
 -- ---- filled fields
 -- the law of placing a source, at one statement: the bytes spell an instruction of a listed row,
@@ -65,8 +65,8 @@ pub record SourceFieldFillsRow (kind : ℕ) (bytes : List ℕ) : Type 0 where
 
 -- law of placing a source: the bytes of a statement that waits for an address are a word of data,
 -- or an instruction whose constant is to be filled
-abbrev pub SourceFieldsLaw : Type 0
-SourceFieldsLaw = (source : List ℕ) (index : ℕ) (t : StatementData) (r : ReferenceData) → slice_get (statements_in source) index ≡ Some t → t.reference ≡ Some r → is_relocation_kind r.kind ≡ true → (r.kind ≡ 7) ⊎ SourceFieldFillsRow r.kind t.bytes
+abbrev pub UnresolvedFieldsAreFillable : Type 0
+UnresolvedFieldsAreFillable = (source : List ℕ) (index : ℕ) (t : StatementData) (r : ReferenceData) → slice_get (statements_in source) index ≡ Some t → t.reference ≡ Some r → is_relocation_kind r.kind ≡ true → (r.kind ≡ 7) ⊎ SourceFieldFillsRow r.kind t.bytes
 
 -- ---- jumps of 16 bits
 
@@ -81,8 +81,8 @@ pub record PlacedJumpReaches (places : List PlaceData) (sources : List (List ℕ
 
 -- law of linking: each jump or call of 16 bits, which takes no relocation, reaches the address of
 -- its name in the source
-abbrev pub PlacedJumpsLaw : Type 0
-PlacedJumpsLaw = (sources : List (List ℕ)) (objects : List ObjectData) (layout : LayoutData) (number index : ℕ) (source : List ℕ) (t : StatementData) (r : ReferenceData) (base : ℕ)
+abbrev pub ShortJumpsReachTargets : Type 0
+ShortJumpsReachTargets = (sources : List (List ℕ)) (objects : List ObjectData) (layout : LayoutData) (number index : ℕ) (source : List ℕ) (t : StatementData) (r : ReferenceData) (base : ℕ)
     → AreAssembledFrom sources objects → slice_get sources number ≡ Some source → slice_get (statements_in source) index ≡ Some t → t.reference ≡ Some r → r.kind ≡ 0
     → SectionHasAddress layout.places sources number t.section base
     → PlacedJumpReaches layout.places sources number r (base + statement_offset (statements_in source) index t.section) t.bytes

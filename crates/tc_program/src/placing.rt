@@ -1,5 +1,5 @@
 // Public laws of sources and of the images that are linked from their objects.
-ghost use Rattle.tc_program.specs.PlacementLaws.{PlacedSegmentsLaw, PlacedEntryLaw, SourceSymbolsLaw, SourceFieldsLaw, PlacedJumpsLaw, PlacedLaw};
+ghost use Rattle.tc_program.specs.PlacementLaws.{PlacesBecomeSegments, EntryIsSymbolAddress, SymbolsAreOfWholeSource, UnresolvedFieldsAreFillable, ShortJumpsReachTargets, LinkedImagesArePlaced};
 
 /// Laws of an image that is linked from the objects of sources, if the sources break no rule.
 ///
@@ -13,10 +13,10 @@ ghost use Rattle.tc_program.specs.PlacementLaws.{PlacedSegmentsLaw, PlacedEntryL
 /// The symbols of jumps of 16 bits are those of the whole source. The displacement of each such
 /// jump reaches the address of its name.
 pub fn placing_laws()
-    ensures segments { PlacedSegmentsLaw }
-    ensures entry { PlacedEntryLaw }
-    ensures symbols { SourceSymbolsLaw }
-    ensures fields { SourceFieldsLaw }
-    ensures jumps { PlacedJumpsLaw }
-    ensures placed { PlacedLaw }
+    ensures segments { PlacesBecomeSegments }
+    ensures entry { EntryIsSymbolAddress }
+    ensures symbols { SymbolsAreOfWholeSource }
+    ensures fields { UnresolvedFieldsAreFillable }
+    ensures jumps { ShortJumpsReachTargets }
+    ensures placed { LinkedImagesArePlaced }
 {}

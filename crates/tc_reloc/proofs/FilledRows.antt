@@ -9,46 +9,46 @@ use Rattle.tc_isa.specs.declared.fields.Fields.{Fields}
 use Rattle.tc_isa.specs.declared.table.Form.{Form}
 use Rattle.tc_isa.specs.declared.table.Form.TheVariants.{Rlc, Bol, Brr, Brc, B}
 use Rattle.tc_isa.specs.Rows.{RowData, table_rows, is_32_bit_row}
-use Rattle.tc_isa.specs.Forms.{field_bounds, second_code_bound}
-use Rattle.tc_isa.specs.Spelling.{word_by_form, four_or_two_bytes, spelling, row_word}
+use Rattle.tc_isa.specs.Forms.{field_bounds, second_opcode_bound}
+use Rattle.tc_isa.specs.Spelling.{word_of_fields, four_or_two_bytes, spelling, row_word}
 use Rattle.tc_isa.specs.InBounds.{AreFieldsBelow}
 use Rattle.tc_isa.specs.declared.fields.Uses.{Uses}
-use Rattle.tc_isa.specs.ValidRowFields.{uses_of, are_unused_fields_zero, FieldsFitRow, IsRow}
+use Rattle.tc_isa.specs.ValidRowFields.{used_fields, are_unused_fields_zero, FieldsFitRow, IsRow}
 use Rattle.tc_isa.proofs.TableFacts.{row_at}
 use Rattle.tc_reloc.specs.Fields.{reloc_field_bound, reloc_field_bits, bits_outside_reloc_field, with_reloc_field}
 use Rattle.tc_isa.specs.Relocations.{can_relocation_fill}
-use Rattle.tc_reloc.specs.FillingLaws.{FilledRowFitsLaw, FilledConstantLaw}
+use Rattle.tc_reloc.specs.FillingLaws.{FilledFieldsFitRow, FillingSetsOnlyConstant}
 
 -- ---- words
-jump_word : (kind op1 op2 n : ℕ) (f : Fields) → op1 < 2 ^ 8 → (kind ≡ 1) ⊎ (kind ≡ 2) → bits_outside_reloc_field kind (word_by_form B op1 op2 f) + reloc_field_bits kind n ≡ word_by_form B op1 op2 (record f { k = n })
-unfolding bits_outside_reloc_field reloc_field_bits word_by_form
-jump_word kind op1 op2 n f less (inl e) = let P : ℕ → Type 0 = λ k. bits_outside_reloc_field k (word_by_form B op1 op2 f) + reloc_field_bits k n ≡ word_by_form B op1 op2 (record f { k = n }) in subst P (sym e) (omega arith)
-jump_word kind op1 op2 n f less (inr e) = let P : ℕ → Type 0 = λ k. bits_outside_reloc_field k (word_by_form B op1 op2 f) + reloc_field_bits k n ≡ word_by_form B op1 op2 (record f { k = n }) in subst P (sym e) (omega arith)
+jump_word : (kind op1 op2 n : ℕ) (f : Fields) → op1 < 2 ^ 8 → (kind ≡ 1) ⊎ (kind ≡ 2) → bits_outside_reloc_field kind (word_of_fields B op1 op2 f) + reloc_field_bits kind n ≡ word_of_fields B op1 op2 (record f { k = n })
+unfolding bits_outside_reloc_field reloc_field_bits word_of_fields
+jump_word kind op1 op2 n f less (inl e) = let P : ℕ → Type 0 = λ k. bits_outside_reloc_field k (word_of_fields B op1 op2 f) + reloc_field_bits k n ≡ word_of_fields B op1 op2 (record f { k = n }) in subst P (sym e) (omega arith)
+jump_word kind op1 op2 n f less (inr e) = let P : ℕ → Type 0 = λ k. bits_outside_reloc_field k (word_of_fields B op1 op2 f) + reloc_field_bits k n ≡ word_of_fields B op1 op2 (record f { k = n }) in subst P (sym e) (omega arith)
 
-filled_word : (form : Form) (kind op1 op2 n : ℕ) (f : Fields) → can_relocation_fill form kind ≡ true → op1 < 2 ^ 8 → op2 < second_code_bound form → AreFieldsBelow f (field_bounds form) →
-    bits_outside_reloc_field kind (word_by_form form op1 op2 f) + reloc_field_bits kind n ≡ word_by_form form op1 op2 (record f { k = n })
-unfolding bits_outside_reloc_field reloc_field_bits word_by_form field_bounds second_code_bound can_relocation_fill
+filled_word : (form : Form) (kind op1 op2 n : ℕ) (f : Fields) → can_relocation_fill form kind ≡ true → op1 < 2 ^ 8 → op2 < second_opcode_bound form → AreFieldsBelow f (field_bounds form) →
+    bits_outside_reloc_field kind (word_of_fields form op1 op2 f) + reloc_field_bits kind n ≡ word_of_fields form op1 op2 (record f { k = n })
+unfolding bits_outside_reloc_field reloc_field_bits word_of_fields field_bounds second_opcode_bound can_relocation_fill
 filled_word B kind op1 op2 n f e less small below = by (or_cases (kind == 1) (kind == 2) e)
   where
-    by : (kind == 1 ≡ true) ⊎ (kind == 2 ≡ true) → bits_outside_reloc_field kind (word_by_form B op1 op2 f) + reloc_field_bits kind n ≡ word_by_form B op1 op2 (record f { k = n })
+    by : (kind == 1 ≡ true) ⊎ (kind == 2 ≡ true) → bits_outside_reloc_field kind (word_of_fields B op1 op2 f) + reloc_field_bits kind n ≡ word_of_fields B op1 op2 (record f { k = n })
     by (inl h) = jump_word kind op1 op2 n f less (inl ((Decides-eqb kind 1).0 h))
     by (inr h) = jump_word kind op1 op2 n f less (inr ((Decides-eqb kind 2).0 h))
 filled_word Brr kind op1 op2 n f e less small below =
     let s1 = below.s1 in
     let s2 = below.s2 in
     let k = below.k in
-    let P : ℕ → Type 0 = λ i. bits_outside_reloc_field i (word_by_form Brr op1 op2 f) + reloc_field_bits i n ≡ word_by_form Brr op1 op2 (record f { k = n }) in
+    let P : ℕ → Type 0 = λ i. bits_outside_reloc_field i (word_of_fields Brr op1 op2 f) + reloc_field_bits i n ≡ word_of_fields Brr op1 op2 (record f { k = n }) in
     subst P (sym ((Decides-eqb kind 3).0 e)) (omega arith)
 filled_word Brc kind op1 op2 n f e less small below =
     let s1 = below.s1 in
     let s2 = below.s2 in
     let k = below.k in
-    let P : ℕ → Type 0 = λ i. bits_outside_reloc_field i (word_by_form Brc op1 op2 f) + reloc_field_bits i n ≡ word_by_form Brc op1 op2 (record f { k = n }) in
+    let P : ℕ → Type 0 = λ i. bits_outside_reloc_field i (word_of_fields Brc op1 op2 f) + reloc_field_bits i n ≡ word_of_fields Brc op1 op2 (record f { k = n }) in
     subst P (sym ((Decides-eqb kind 3).0 e)) (omega arith)
 filled_word Rlc kind op1 op2 n f e less small below = by (or_cases (kind == 4) (kind == 5) e)
   where
     P : ℕ → Type 0
-    P i = bits_outside_reloc_field i (word_by_form Rlc op1 op2 f) + reloc_field_bits i n ≡ word_by_form Rlc op1 op2 (record f { k = n })
+    P i = bits_outside_reloc_field i (word_of_fields Rlc op1 op2 f) + reloc_field_bits i n ≡ word_of_fields Rlc op1 op2 (record f { k = n })
 
     by : (kind == 4 ≡ true) ⊎ (kind == 5 ≡ true) → P kind
     by (inl h) = let s1 = below.s1 in let k = below.k in subst P (sym ((Decides-eqb kind 4).0 h)) (omega arith)
@@ -56,7 +56,7 @@ filled_word Rlc kind op1 op2 n f e less small below = by (or_cases (kind == 4) (
 filled_word Bol kind op1 op2 n f e less small below =
     let s1 = below.s1 in
     let s2 = below.s2 in
-    let P : ℕ → Type 0 = λ i. bits_outside_reloc_field i (word_by_form Bol op1 op2 f) + reloc_field_bits i n ≡ word_by_form Bol op1 op2 (record f { k = n }) in
+    let P : ℕ → Type 0 = λ i. bits_outside_reloc_field i (word_of_fields Bol op1 op2 f) + reloc_field_bits i n ≡ word_of_fields Bol op1 op2 (record f { k = n }) in
     subst P (sym ((Decides-eqb kind 6).0 e)) (omega arith)
 filled_word _ kind op1 op2 n f e less small below = cc
 
@@ -70,38 +70,38 @@ word_bytes w small =
     ap (λ n. w % 256 ∷ w / 2 ^ 8 % 256 ∷ w / 2 ^ 16 % 256 ∷ n ∷ []) last
 
 -- a word with a number that the field holds is a word
-room_below : (form : Form) (kind op1 op2 n : ℕ) (f : Fields) → can_relocation_fill form kind ≡ true → op1 < 2 ^ 8 → op2 < second_code_bound form → AreFieldsBelow f (field_bounds form) → n < reloc_field_bound kind → word_by_form form op1 op2 (record f { k = n }) < 2 ^ 32
-unfolding word_by_form field_bounds second_code_bound can_relocation_fill reloc_field_bound
+room_below : (form : Form) (kind op1 op2 n : ℕ) (f : Fields) → can_relocation_fill form kind ≡ true → op1 < 2 ^ 8 → op2 < second_opcode_bound form → AreFieldsBelow f (field_bounds form) → n < reloc_field_bound kind → word_of_fields form op1 op2 (record f { k = n }) < 2 ^ 32
+unfolding word_of_fields field_bounds second_opcode_bound can_relocation_fill reloc_field_bound
 room_below B kind op1 op2 n f e less small below room = by (or_cases (kind == 1) (kind == 2) e)
   where
     P : ℕ → Type 0
-    P i = n < reloc_field_bound i → word_by_form B op1 op2 (record f { k = n }) < 2 ^ 32
+    P i = n < reloc_field_bound i → word_of_fields B op1 op2 (record f { k = n }) < 2 ^ 32
 
-    by : (kind == 1 ≡ true) ⊎ (kind == 2 ≡ true) → word_by_form B op1 op2 (record f { k = n }) < 2 ^ 32
+    by : (kind == 1 ≡ true) ⊎ (kind == 2 ≡ true) → word_of_fields B op1 op2 (record f { k = n }) < 2 ^ 32
     by (inl h) = subst P (sym ((Decides-eqb kind 1).0 h)) (λ r. omega arith) room
     by (inr h) = subst P (sym ((Decides-eqb kind 2).0 h)) (λ r. omega arith) room
 room_below Brr kind op1 op2 n f e less small below room =
     let s1 = below.s1 in
     let s2 = below.s2 in
-    let P : ℕ → Type 0 = λ i. n < reloc_field_bound i → word_by_form Brr op1 op2 (record f { k = n }) < 2 ^ 32 in
+    let P : ℕ → Type 0 = λ i. n < reloc_field_bound i → word_of_fields Brr op1 op2 (record f { k = n }) < 2 ^ 32 in
     subst P (sym ((Decides-eqb kind 3).0 e)) (λ r. omega arith) room
 room_below Brc kind op1 op2 n f e less small below room =
     let s1 = below.s1 in
     let s2 = below.s2 in
-    let P : ℕ → Type 0 = λ i. n < reloc_field_bound i → word_by_form Brc op1 op2 (record f { k = n }) < 2 ^ 32 in
+    let P : ℕ → Type 0 = λ i. n < reloc_field_bound i → word_of_fields Brc op1 op2 (record f { k = n }) < 2 ^ 32 in
     subst P (sym ((Decides-eqb kind 3).0 e)) (λ r. omega arith) room
 room_below Rlc kind op1 op2 n f e less small below room = by (or_cases (kind == 4) (kind == 5) e)
   where
     P : ℕ → Type 0
-    P i = n < reloc_field_bound i → word_by_form Rlc op1 op2 (record f { k = n }) < 2 ^ 32
+    P i = n < reloc_field_bound i → word_of_fields Rlc op1 op2 (record f { k = n }) < 2 ^ 32
 
-    by : (kind == 4 ≡ true) ⊎ (kind == 5 ≡ true) → word_by_form Rlc op1 op2 (record f { k = n }) < 2 ^ 32
+    by : (kind == 4 ≡ true) ⊎ (kind == 5 ≡ true) → word_of_fields Rlc op1 op2 (record f { k = n }) < 2 ^ 32
     by (inl h) = let s1 = below.s1 in let c = below.c in subst P (sym ((Decides-eqb kind 4).0 h)) (λ r. omega arith) room
     by (inr h) = let s1 = below.s1 in let c = below.c in subst P (sym ((Decides-eqb kind 5).0 h)) (λ r. omega arith) room
 room_below Bol kind op1 op2 n f e less small below room =
     let s1 = below.s1 in
     let s2 = below.s2 in
-    let P : ℕ → Type 0 = λ i. n < reloc_field_bound i → word_by_form Bol op1 op2 (record f { k = n }) < 2 ^ 32 in
+    let P : ℕ → Type 0 = λ i. n < reloc_field_bound i → word_of_fields Bol op1 op2 (record f { k = n }) < 2 ^ 32 in
     subst P (sym ((Decides-eqb kind 6).0 e)) (λ r. omega arith) room
 room_below _ kind op1 op2 n f e less small below room = cc
 
@@ -126,7 +126,7 @@ abbrev takes_field : Form → Bool
 takes_field form = can_relocation_fill form 1 || can_relocation_fill form 3 || can_relocation_fill form 4 || can_relocation_fill form 6
 
 abbrev has_constant : RowData → Bool
-has_constant r = not (takes_field r.form) || (uses_of r).k
+has_constant r = not (takes_field r.form) || (used_fields r).k
 
 all_have : list_all has_constant table_rows ≡ true
 unfolding can_relocation_fill
@@ -146,8 +146,8 @@ passes_at p [] k x all e = cc
 passes_at {A} p (y ∷ ys) zero x all e = let same : y ≡ x = cc in ap p (sym same) ∙ (and_parts (p y) (list_all p ys) all).0
 passes_at p (y ∷ ys) (suc k) x all e = passes_at p ys k x (and_parts (p y) (list_all p ys) all).1 e
 
-constant_used : (place : ℕ) (row : RowData) (kind : ℕ) → slice_get table_rows place ≡ Some row → can_relocation_fill row.form kind ≡ true → (uses_of row).k ≡ true
-constant_used place row kind at e = by (takes_field row.form) (uses_of row).k (field_taken row.form kind e) (passes_at has_constant table_rows place row all_have at)
+constant_used : (place : ℕ) (row : RowData) (kind : ℕ) → slice_get table_rows place ≡ Some row → can_relocation_fill row.form kind ≡ true → (used_fields row).k ≡ true
+constant_used place row kind at e = by (takes_field row.form) (used_fields row).k (field_taken row.form kind e) (passes_at has_constant table_rows place row all_have at)
   where
     by : (a b : Bool) → a ≡ true → (not a || b) ≡ true → b ≡ true
     by true b h g = g
@@ -188,13 +188,13 @@ zero_with u f n h z = by u.k (f.k == 0) (n == 0) (u.c || f.c == 0) (u.s1 || f.s1
 pub filled_fits : (place : ℕ) (row : RowData) (f : Fields) (kind n : ℕ) → slice_get table_rows place ≡ Some row → FieldsFitRow row f → can_relocation_fill row.form kind ≡ true → n < reloc_field_bound kind → FieldsFitRow row (record f { k = n })
 filled_fits place row f kind n at fit suited room = record {
   below = record { c = fit.below.c; s1 = fit.below.s1; s2 = fit.below.s2; n = fit.below.n; k = constant_fits row.form kind n suited room };
-  zero = zero_with (uses_of row) f n (constant_used place row kind at suited) fit.zero;
+  zero = zero_with (used_fields row) f n (constant_used place row kind at suited) fit.zero;
   apart = fit.apart;
 }
 
 -- ---- the laws
-pub fits_law : FilledRowFitsLaw
+pub fits_law : FilledFieldsFitRow
 fits_law place row f kind n at fit suited room = filled_fits place row f kind n at fit suited room
 
-pub written_law : FilledConstantLaw
+pub written_law : FillingSetsOnlyConstant
 written_law place row f kind n at fit long suited room = filled_row row f kind n (row_at place row at) fit long suited room

@@ -13,10 +13,10 @@ with_filled_constant f n = record f { k = n }
 
 -- if the field of a relocation can hold a number, writing it there changes the constant of the
 -- instruction and nothing else
-abbrev pub FilledConstantLaw : Type 0
-FilledConstantLaw = (place : ℕ) (row : RowData) (f : Fields) (kind n : ℕ) → slice_get table_rows place ≡ Some row → FieldsFitRow row f → is_32_bit_row row ≡ true → can_relocation_fill row.form kind ≡ true → n < reloc_field_bound kind
+abbrev pub FillingSetsOnlyConstant : Type 0
+FillingSetsOnlyConstant = (place : ℕ) (row : RowData) (f : Fields) (kind n : ℕ) → slice_get table_rows place ≡ Some row → FieldsFitRow row f → is_32_bit_row row ≡ true → can_relocation_fill row.form kind ≡ true → n < reloc_field_bound kind
     → with_reloc_field kind (spelling row f) n ≡ spelling row (with_filled_constant f n)
 
 -- if the field of a relocation can hold a number, the instruction with that constant is valid
-abbrev pub FilledRowFitsLaw : Type 0
-FilledRowFitsLaw = (place : ℕ) (row : RowData) (f : Fields) (kind n : ℕ) → slice_get table_rows place ≡ Some row → FieldsFitRow row f → can_relocation_fill row.form kind ≡ true → n < reloc_field_bound kind → FieldsFitRow row (with_filled_constant f n)
+abbrev pub FilledFieldsFitRow : Type 0
+FilledFieldsFitRow = (place : ℕ) (row : RowData) (f : Fields) (kind n : ℕ) → slice_get table_rows place ≡ Some row → FieldsFitRow row f → can_relocation_fill row.form kind ≡ true → n < reloc_field_bound kind → FieldsFitRow row (with_filled_constant f n)

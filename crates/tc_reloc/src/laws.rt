@@ -1,10 +1,10 @@
 // Public laws of relocations and of the instructions whose constants they fill.
-ghost use Rattle.tc_reloc.specs.FillingLaws.{FilledRowFitsLaw, FilledConstantLaw};
+ghost use Rattle.tc_reloc.specs.FillingLaws.{FilledFieldsFitRow, FillingSetsOnlyConstant};
 
 /// If the field of a relocation can hold a number, that number fits the constant of each
 /// instruction whose constant the relocation fills. Writing it into the field gives the spelling of
 /// the instruction with that constant.
 pub fn relocation_filling_laws()
-    ensures fits { FilledRowFitsLaw }
-    ensures written { FilledConstantLaw }
+    ensures fits { FilledFieldsFitRow }
+    ensures written { FillingSetsOnlyConstant }
 {}

@@ -4,7 +4,7 @@ use Rattle.std.specs.Bool.{OnTrue}
 use Rattle.std.specs.Option.{option_map}
 use Rattle.std.proofs.lemmas.Bool.{cond_both, cond-true, cond-false, eqb-false}
 use Rattle.csa_chain.specs.MemoryBytes.{Memory, with_words, with_bytes, loaded_number, load_result}
-use Rattle.csa_chain.specs.Chain.{link_in, link_address, is_area, area_word, chain}
+use Rattle.csa_chain.specs.Chain.{link_in, link_address, is_area_mapped, area_word, chain}
 use Rattle.csa_chain.specs.ChainLaws.{MissesAreas}
 use Rattle.csa_chain.specs.ContextWords.{pcxi_word_of}
 use Rattle.csa_chain.proofs.ChainLaws.{Links, Avoids, chain_within-Links, Links-chain_within, used_after_save, used_after_restore}
@@ -23,18 +23,18 @@ use Rattle.tc_machine.specs.declared.events.End.{End}
 use Rattle.tc_machine.specs.declared.events.End.TheVariants.{Running, Dead}
 use Rattle.tc_machine.specs.declared.state.Machine.{Machine}
 use Rattle.tc_machine.specs.Machine.{reg, with_reg, dead_machine, if_running, if_end_running, psw_with_status}
-use Rattle.tc_machine.specs.Instructions.{with_pc_advanced, does, misaligned_access_trap, with_base_incremented, access_address, is_trapping_access}
+use Rattle.tc_machine.specs.Instructions.{with_pc_advanced, after_instruction, misaligned_access_trap, with_base_incremented, access_address, is_trapping_access}
 use Rattle.tc_machine.specs.Stepping.{is_interrupt_taken, after_fetch_result, machine_after_event, step, used_area_count}
 use Rattle.tc_machine.specs.Handlers.{after_interrupt}
 use Rattle.tc_machine.specs.SavesAndRestores.{context_of, with_context_saved, save, is_last_context_of_kind, with_context_restored, restore}
 use Rattle.tc_machine.specs.Fetching.{fetched_instruction, mapped_bytes, fetched_shape}
-use Rattle.tc_machine.specs.InstructionKinds.{is_area_keeping_shape}
+use Rattle.tc_machine.specs.InstructionKinds.{is_area_preserving_shape}
 use Rattle.tc_machine.proofs.Kept.{Same, same_does}
 use Rattle.tc_machine.proofs.Saves.{then_-running, length-context_of}
 use Rattle.tc_script.specs.declared.area_counts.AreasUsed.{AreasUsed}
 use Rattle.tc_script.specs.declared.area_counts.Effect.{Effect}
 use Rattle.tc_script.specs.declared.area_counts.Effect.TheVariants.{Stays, Saves, Restores, Unknown}
-use Rattle.tc_script.specs.AreasInSequence.{links_in_sequence, AreAreasInSequence, IsAreaCountOf, SavesContext, RestoresContext, StoresBytes, KeepsMemoryAndPcxi, AreaEffectHolds, IsAreaEffectOf}
+use Rattle.tc_script.specs.AreasInSequence.{links_in_sequence, AreAreasInSequence, CountsAreasInUse, SavesContext, RestoresContext, StoresBytes, KeepsMemoryAndPcxi, AreaEffectHolds, IsAreaEffectOf}
 
 -- ---- rows
 row_length : (first n : ℕ) → length (links_in_sequence first n) ≡ n
@@ -53,18 +53,18 @@ from_true true e p = p
 from_true false e p = cc
 
 -- such a row is counted
-pub counted_row : (u : AreasUsed) (m : Machine) → u.first < 2 ^ 20 → AreAreasInSequence u.first u.count m → IsAreaCountOf u m
+pub counted_row : (u : AreasUsed) (m : Machine) → u.first < 2 ^ 20 → AreAreasInSequence u.first u.count m → CountsAreasInUse u m
 counted_row u m small row = record { count = used_in_row m u.first u.count row; first = small; row = on_true u.in_row row }
 
 -- the row that is counted
-pub the_row : (u : AreasUsed) (m : Machine) → IsAreaCountOf u m → u.in_row ≡ true → AreAreasInSequence u.first u.count m
+pub the_row : (u : AreasUsed) (m : Machine) → CountsAreasInUse u m → u.in_row ≡ true → AreAreasInSequence u.first u.count m
 the_row u m h is = from_true u.in_row is h.row
 
 -- no area is in use if PCXI has no link
 pub none_used : (m : Machine) → link_in m.pcxi ≡ 0 → chain m.mem m.pcxi ≡ Some []
 none_used m e = chain_within-Links m.mem 4096 m.pcxi [] e (omega arith)
 
-pub counted_anew : (m : Machine) (u : AreasUsed) → u.count ≡ unwrap_or (used_area_count m) 0 → u.first ≡ m.fcx % 2 ^ 20 → (u.in_row ≡ true → link_in m.pcxi ≡ 0) → IsAreaCountOf u m
+pub counted_anew : (m : Machine) (u : AreasUsed) → u.count ≡ unwrap_or (used_area_count m) 0 → u.first ≡ m.fcx % 2 ^ 20 → (u.in_row ≡ true → link_in m.pcxi ≡ 0) → CountsAreasInUse u m
 counted_anew m u count first none = record {
   count = count;
   first = (let e = first in omega arith);
@@ -78,7 +78,7 @@ counted_anew m u count first none = record {
 }
 
 -- machines with equal memory and PCXI have equal counts
-pub counted_same : (u : AreasUsed) (m n : Machine) → Same m n → IsAreaCountOf u m → IsAreaCountOf u n
+pub counted_same : (u : AreasUsed) (m n : Machine) → Same m n → CountsAreasInUse u m → CountsAreasInUse u n
 counted_same u m n s h =
     let e : chain n.mem n.pcxi ≡ chain m.mem m.pcxi = ap (λ (mem : Memory). chain mem n.pcxi) s.mem ∙ ap (λ (w : ℕ). chain m.mem w) s.pcxi in
     record {
@@ -104,7 +104,7 @@ first_word : (m : Machine) (upper : Bool) → get_or (context_of m upper) 0 0 �
 first_word m true = refl
 first_word m false = refl
 
-pub told_save : (u : AreasUsed) (m after : Machine) → IsAreaCountOf u m → u.in_row ≡ true → m.pcxi < 2 ^ 32 → u.count < 4096 → m.fcx % 2 ^ 20 ≡ u.first + u.count → SavesContext m after → AreaEffectHolds Saves u after
+pub told_save : (u : AreasUsed) (m after : Machine) → CountsAreasInUse u m → u.in_row ≡ true → m.pcxi < 2 ^ 32 → u.count < 4096 → m.fcx % 2 ^ 20 ≡ u.first + u.count → SavesContext m after → AreaEffectHolds Saves u after
 told_save u m after h is small few next s =
     let f = link_in m.fcx in
     let at : f ≡ u.first + u.count = next in
@@ -142,7 +142,7 @@ less_row : (m after : Machine) (first n : ℕ) → RestoresContext m after → 1
 less_row m after first zero s some row = absurd (omega arith)
 less_row m after first (suc n) s some row = let e : n ≡ suc n - 1 = omega arith in subst (λ k. AreAreasInSequence first k after) e (restored_row m after first n s row)
 
-pub told_restore : (u : AreasUsed) (m after : Machine) → IsAreaCountOf u m → u.in_row ≡ true → 1 ≤ u.count → RestoresContext m after → AreaEffectHolds Restores u after
+pub told_restore : (u : AreasUsed) (m after : Machine) → CountsAreasInUse u m → u.in_row ≡ true → 1 ≤ u.count → RestoresContext m after → AreaEffectHolds Restores u after
 told_restore u m after h is some s = (some, counted_row (record u { count = u.count - 1 }) after h.first (less_row m after u.first u.count s some (the_row u m h is)))
 
 -- ---- stores
@@ -170,7 +170,7 @@ misses x size first (suc n) m row (inr (inr above)) =
     let high = subst (λ l. link_address l + 64 ≤ x) at above in
     (inr high, above_row x size first n n (omega arith) high)
 
-pub told_store : (u : AreasUsed) (m after : Machine) (x size : ℕ) → IsAreaCountOf u m → u.in_row ≡ true → x + size ≤ 2 ^ 32 → (u.count ≡ 0) ⊎ ((x + size ≤ link_address u.first) ⊎ (link_address (link_in m.pcxi) + 64 ≤ x)) → StoresBytes x size m after → AreaEffectHolds Stays u after
+pub told_store : (u : AreasUsed) (m after : Machine) (x size : ℕ) → CountsAreasInUse u m → u.in_row ≡ true → x + size ≤ 2 ^ 32 → (u.count ≡ 0) ⊎ ((x + size ≤ link_address u.first) ⊎ (link_address (link_in m.pcxi) + 64 ≤ x)) → StoresBytes x size m after → AreaEffectHolds Stays u after
 told_store u m after x size h is fits out s =
     let row = the_row u m h is in
     let miss = misses x size u.first u.count m row out in
@@ -191,7 +191,7 @@ from_running m next run =
 
 record DoesSave (m : Machine) (upper : Bool) : Type 0 where
   some : link_in m.fcx ≢ 0
-  area : is_area m.mem (link_in m.fcx) ≡ true
+  area : is_area_mapped m.mem (link_in m.fcx) ≡ true
   is : save m upper ≡ with_context_saved m upper
 
 save_running : (m : Machine) (upper : Bool) → (save m upper).end ≡ Running → DoesSave m upper
@@ -199,10 +199,10 @@ unfolding save
 save_running m upper run =
     let f = link_in m.fcx in
     let full = cond (f == link_in m.lcx) (dead_machine Fcd (with_context_saved m upper)) (with_context_saved m upper) in
-    elim (f == 0) as (λ t. f == 0 ≡ t → (cond t (dead_machine Fcu m) (cond (is_area m.mem f) full (dead_machine NoArea m))).end ≡ Running → DoesSave m upper) [
+    elim (f == 0) as (λ t. f == 0 ≡ t → (cond t (dead_machine Fcu m) (cond (is_area_mapped m.mem f) full (dead_machine NoArea m))).end ≡ Running → DoesSave m upper) [
       | true ↦ λ e h. dead_running Fcu h
       | false ↦ λ e.
-          elim (is_area m.mem f) as (λ t. is_area m.mem f ≡ t → (cond t full (dead_machine NoArea m)).end ≡ Running → DoesSave m upper) [
+          elim (is_area_mapped m.mem f) as (λ t. is_area_mapped m.mem f ≡ t → (cond t full (dead_machine NoArea m)).end ≡ Running → DoesSave m upper) [
             | true ↦ λ here.
                 elim (f == link_in m.lcx) as (λ t. f == link_in m.lcx ≡ t → (cond t (dead_machine Fcd (with_context_saved m upper)) (with_context_saved m upper)).end ≡ Running → DoesSave m upper) [
                   | true ↦ λ last h. dead_running Fcd h
@@ -210,7 +210,7 @@ save_running m upper run =
                     some = eqb-false _ _ e;
                     area = here;
                     is =
-                        ap (λ t. cond t (dead_machine Fcu m) (cond (is_area m.mem f) full (dead_machine NoArea m))) e
+                        ap (λ t. cond t (dead_machine Fcu m) (cond (is_area_mapped m.mem f) full (dead_machine NoArea m))) e
                         ∙ ap (λ t. cond t full (dead_machine NoArea m)) here
                         ∙ ap (λ t. cond t (dead_machine Fcd (with_context_saved m upper)) (with_context_saved m upper)) last;
                   }
@@ -241,13 +241,13 @@ restore_running : (m : Machine) (upper : Bool) → (restore m upper).end ≡ Run
 unfolding restore
 restore_running m upper run =
     let l = link_in m.pcxi in
-    let there = cond (is_area m.mem l) (with_context_restored m upper) (dead_machine NoArea m) in
+    let there = cond (is_area_mapped m.mem l) (with_context_restored m upper) (dead_machine NoArea m) in
     elim (l == 0) as (λ t. l == 0 ≡ t → (cond t (dead_machine Csu m) (cond (is_last_context_of_kind m upper) there (dead_machine Ctyp m))).end ≡ Running → DoesRestore m upper) [
       | true ↦ λ e h. dead_running Csu h
       | false ↦ λ e.
           elim (is_last_context_of_kind m upper) as (λ t. is_last_context_of_kind m upper ≡ t → (cond t there (dead_machine Ctyp m)).end ≡ Running → DoesRestore m upper) [
             | true ↦ λ kind.
-                elim (is_area m.mem l) as (λ t. is_area m.mem l ≡ t → (cond t (with_context_restored m upper) (dead_machine NoArea m)).end ≡ Running → DoesRestore m upper) [
+                elim (is_area_mapped m.mem l) as (λ t. is_area_mapped m.mem l ≡ t → (cond t (with_context_restored m upper) (dead_machine NoArea m)).end ≡ Running → DoesRestore m upper) [
                   | true ↦ λ here h. record {
                     some = eqb-false _ _ e;
                     is =
@@ -280,16 +280,16 @@ misaligned_saves : (m : Machine) → (misaligned_access_trap m).end ≡ Running 
 misaligned_saves m run = saves_then m true _ (λ s. record { mem = refl; pcxi = refl }) run
 
 module _ (m : Machine) (e : Event) where
-  pub load_traps : (dst : ℕ) (base : Arg) (offset size : ℕ) (signed after : Bool) (n : ℕ) → is_trapping_access e (access_address m base offset after) size ≡ true → (does m e (Load dst base offset size signed after) n).end ≡ Running → SavesContext m (does m e (Load dst base offset size signed after) n)
-  unfolding does
+  pub load_traps : (dst : ℕ) (base : Arg) (offset size : ℕ) (signed after : Bool) (n : ℕ) → is_trapping_access e (access_address m base offset after) size ≡ true → (after_instruction m e (Load dst base offset size signed after) n).end ≡ Running → SavesContext m (after_instruction m e (Load dst base offset size signed after) n)
+  unfolding after_instruction
   load_traps dst base offset size signed after n t run =
-      let is : does m e (Load dst base offset size signed after) n ≡ misaligned_access_trap m = cond-true _ _ _ t in
+      let is : after_instruction m e (Load dst base offset size signed after) n ≡ misaligned_access_trap m = cond-true _ _ _ t in
       subst (SavesContext m) (sym is) (misaligned_saves m (subst (λ (k : Machine). k.end ≡ Running) is run))
 
-  pub store_traps : (src : ℕ) (base : Arg) (offset size : ℕ) (after : Bool) (n : ℕ) → is_trapping_access e (access_address m base offset after) size ≡ true → (does m e (Store src base offset size after) n).end ≡ Running → SavesContext m (does m e (Store src base offset size after) n)
-  unfolding does
+  pub store_traps : (src : ℕ) (base : Arg) (offset size : ℕ) (after : Bool) (n : ℕ) → is_trapping_access e (access_address m base offset after) size ≡ true → (after_instruction m e (Store src base offset size after) n).end ≡ Running → SavesContext m (after_instruction m e (Store src base offset size after) n)
+  unfolding after_instruction
   store_traps src base offset size after n t run =
-      let is : does m e (Store src base offset size after) n ≡ misaligned_access_trap m = cond-true _ _ _ t in
+      let is : after_instruction m e (Store src base offset size after) n ≡ misaligned_access_trap m = cond-true _ _ _ t in
       subst (SavesContext m) (sym is) (misaligned_saves m (subst (λ (k : Machine). k.end ≡ Running) is run))
 
   same_reg : (k : Machine) (r w : ℕ) → Same k (with_reg k r w)
@@ -300,73 +300,73 @@ module _ (m : Machine) (e : Event) where
   same_base (Reg r) offset false = record { mem = refl; pcxi = refl }
   same_base (Word w) offset after = record { mem = refl; pcxi = refl }
 
-  pub load_same : (dst : ℕ) (base : Arg) (offset size : ℕ) (signed after : Bool) (n : ℕ) → is_trapping_access e (access_address m base offset after) size ≡ false → Same m (does m e (Load dst base offset size signed after) n)
-  unfolding does
+  pub load_same : (dst : ℕ) (base : Arg) (offset size : ℕ) (signed after : Bool) (n : ℕ) → is_trapping_access e (access_address m base offset after) size ≡ false → Same m (after_instruction m e (Load dst base offset size signed after) n)
+  unfolding after_instruction
   load_same dst base offset size signed after n t =
       let b = same_base base offset after in
       let loaded = load_result signed size (loaded_number m.mem e.input (access_address m base offset after) size) in
       let r = same_reg (with_base_incremented m base offset after) dst loaded in
-      let is : does m e (Load dst base offset size signed after) n ≡ with_pc_advanced n (with_reg (with_base_incremented m base offset after) dst loaded) = cond-false _ _ _ t in
+      let is : after_instruction m e (Load dst base offset size signed after) n ≡ with_pc_advanced n (with_reg (with_base_incremented m base offset after) dst loaded) = cond-false _ _ _ t in
       subst (Same m) (sym is) (record { mem = r.mem ∙ b.mem; pcxi = r.pcxi ∙ b.pcxi })
 
-  pub store_stores : (src : ℕ) (base : Arg) (offset size : ℕ) (after : Bool) (n : ℕ) → is_trapping_access e (access_address m base offset after) size ≡ false → StoresBytes (access_address m base offset after) size m (does m e (Store src base offset size after) n)
-  unfolding does
+  pub store_stores : (src : ℕ) (base : Arg) (offset size : ℕ) (after : Bool) (n : ℕ) → is_trapping_access e (access_address m base offset after) size ≡ false → StoresBytes (access_address m base offset after) size m (after_instruction m e (Store src base offset size after) n)
+  unfolding after_instruction
   store_stores src base offset size after n t =
       let b = same_base base offset after in
       let x = access_address m base offset after in
-      let is : does m e (Store src base offset size after) n ≡ with_pc_advanced n (record (with_base_incremented m base offset after) { mem = with_bytes m.mem x (reg m src) size }) = cond-false _ _ _ t in
+      let is : after_instruction m e (Store src base offset size after) n ≡ with_pc_advanced n (record (with_base_incremented m base offset after) { mem = with_bytes m.mem x (reg m src) size }) = cond-false _ _ _ t in
       subst (StoresBytes x size m) (sym is) (record { word = reg m src; mem = refl; pcxi = b.pcxi })
 
-  pub call_saves : (to : Target) (n : ℕ) → (does m e (Call to) n).end ≡ Running → SavesContext m (does m e (Call to) n)
-  unfolding does
+  pub call_saves : (to : Target) (n : ℕ) → (after_instruction m e (Call to) n).end ≡ Running → SavesContext m (after_instruction m e (Call to) n)
+  unfolding after_instruction
   call_saves to n run = saves_then m true _ (λ s. record { mem = refl; pcxi = refl }) run
 
-  pub svlcx_saves : (n : ℕ) → (does m e Svlcx n).end ≡ Running → SavesContext m (does m e Svlcx n)
-  unfolding does
+  pub svlcx_saves : (n : ℕ) → (after_instruction m e Svlcx n).end ≡ Running → SavesContext m (after_instruction m e Svlcx n)
+  unfolding after_instruction
   svlcx_saves n run = saves_then m false _ (λ s. record { mem = refl; pcxi = refl }) run
 
-  pub bisr_saves : (c n : ℕ) → (does m e (Bisr c) n).end ≡ Running → SavesContext m (does m e (Bisr c) n)
-  unfolding does
+  pub bisr_saves : (c n : ℕ) → (after_instruction m e (Bisr c) n).end ≡ Running → SavesContext m (after_instruction m e (Bisr c) n)
+  unfolding after_instruction
   bisr_saves c n run = saves_then m false _ (λ s. record { mem = refl; pcxi = refl }) run
 
-  pub syscall_saves : (tin n : ℕ) → (does m e (Syscall tin) n).end ≡ Running → SavesContext m (does m e (Syscall tin) n)
-  unfolding does
+  pub syscall_saves : (tin n : ℕ) → (after_instruction m e (Syscall tin) n).end ≡ Running → SavesContext m (after_instruction m e (Syscall tin) n)
+  unfolding after_instruction
   syscall_saves tin n run = saves_then m true _ (λ s. record { mem = refl; pcxi = refl }) run
 
-  pub ret_restores : (n : ℕ) → (does m e Ret n).end ≡ Running → RestoresContext m (does m e Ret n)
-  unfolding does
+  pub ret_restores : (n : ℕ) → (after_instruction m e Ret n).end ≡ Running → RestoresContext m (after_instruction m e Ret n)
+  unfolding after_instruction
   ret_restores n run = restores_then m true _ (λ s. record { mem = refl; pcxi = refl }) run
 
-  pub rfe_restores : (n : ℕ) → (does m e Rfe n).end ≡ Running → RestoresContext m (does m e Rfe n)
-  unfolding does
+  pub rfe_restores : (n : ℕ) → (after_instruction m e Rfe n).end ≡ Running → RestoresContext m (after_instruction m e Rfe n)
+  unfolding after_instruction
   rfe_restores n run = restores_then m true _ (λ s. record { mem = refl; pcxi = refl }) run
 
-  pub rslcx_restores : (n : ℕ) → (does m e Rslcx n).end ≡ Running → RestoresContext m (does m e Rslcx n)
-  unfolding does
+  pub rslcx_restores : (n : ℕ) → (after_instruction m e Rslcx n).end ≡ Running → RestoresContext m (after_instruction m e Rslcx n)
+  unfolding after_instruction
   rslcx_restores n run = restores_then m false _ (λ s. record { mem = refl; pcxi = refl }) run
 
 -- ---- what an effect says of an instruction
 module _ (effect : Effect) (u : AreasUsed) (m : Machine) (e : Event) where
   pub told_call : (s : Shape) {to : Target} → s ≡ Call to → ((k : Machine) → SavesContext m k → AreaEffectHolds effect u k) → IsAreaEffectOf effect u m e s
-  told_call s {to = to} is tells = subst (λ x. IsAreaEffectOf effect u m e x) (sym is) (λ n run. tells (does m e (Call to) n) (call_saves m e to n run))
+  told_call s {to = to} is tells = subst (λ x. IsAreaEffectOf effect u m e x) (sym is) (λ n run. tells (after_instruction m e (Call to) n) (call_saves m e to n run))
 
   pub told_svlcx : (s : Shape) → s ≡ Svlcx → ((k : Machine) → SavesContext m k → AreaEffectHolds effect u k) → IsAreaEffectOf effect u m e s
-  told_svlcx s is tells = subst (λ x. IsAreaEffectOf effect u m e x) (sym is) (λ n run. tells (does m e Svlcx n) (svlcx_saves m e n run))
+  told_svlcx s is tells = subst (λ x. IsAreaEffectOf effect u m e x) (sym is) (λ n run. tells (after_instruction m e Svlcx n) (svlcx_saves m e n run))
 
   pub told_bisr : (s : Shape) {c : ℕ} → s ≡ Bisr c → ((k : Machine) → SavesContext m k → AreaEffectHolds effect u k) → IsAreaEffectOf effect u m e s
-  told_bisr s {c = c} is tells = subst (λ x. IsAreaEffectOf effect u m e x) (sym is) (λ n run. tells (does m e (Bisr c) n) (bisr_saves m e c n run))
+  told_bisr s {c = c} is tells = subst (λ x. IsAreaEffectOf effect u m e x) (sym is) (λ n run. tells (after_instruction m e (Bisr c) n) (bisr_saves m e c n run))
 
   pub told_syscall : (s : Shape) {tin : ℕ} → s ≡ Syscall tin → ((k : Machine) → SavesContext m k → AreaEffectHolds effect u k) → IsAreaEffectOf effect u m e s
-  told_syscall s {tin = tin} is tells = subst (λ x. IsAreaEffectOf effect u m e x) (sym is) (λ n run. tells (does m e (Syscall tin) n) (syscall_saves m e tin n run))
+  told_syscall s {tin = tin} is tells = subst (λ x. IsAreaEffectOf effect u m e x) (sym is) (λ n run. tells (after_instruction m e (Syscall tin) n) (syscall_saves m e tin n run))
 
   pub told_ret : (s : Shape) → s ≡ Ret → ((k : Machine) → RestoresContext m k → AreaEffectHolds effect u k) → IsAreaEffectOf effect u m e s
-  told_ret s is tells = subst (λ x. IsAreaEffectOf effect u m e x) (sym is) (λ n run. tells (does m e Ret n) (ret_restores m e n run))
+  told_ret s is tells = subst (λ x. IsAreaEffectOf effect u m e x) (sym is) (λ n run. tells (after_instruction m e Ret n) (ret_restores m e n run))
 
   pub told_rfe : (s : Shape) → s ≡ Rfe → ((k : Machine) → RestoresContext m k → AreaEffectHolds effect u k) → IsAreaEffectOf effect u m e s
-  told_rfe s is tells = subst (λ x. IsAreaEffectOf effect u m e x) (sym is) (λ n run. tells (does m e Rfe n) (rfe_restores m e n run))
+  told_rfe s is tells = subst (λ x. IsAreaEffectOf effect u m e x) (sym is) (λ n run. tells (after_instruction m e Rfe n) (rfe_restores m e n run))
 
   pub told_rslcx : (s : Shape) → s ≡ Rslcx → ((k : Machine) → RestoresContext m k → AreaEffectHolds effect u k) → IsAreaEffectOf effect u m e s
-  told_rslcx s is tells = subst (λ x. IsAreaEffectOf effect u m e x) (sym is) (λ n run. tells (does m e Rslcx n) (rslcx_restores m e n run))
+  told_rslcx s is tells = subst (λ x. IsAreaEffectOf effect u m e x) (sym is) (λ n run. tells (after_instruction m e Rslcx n) (rslcx_restores m e n run))
 
   pub told_load : (s : Shape) {dst : ℕ} {base : Arg} {offset size : ℕ} {signed after : Bool} (x : ℕ) → s ≡ Load dst base offset size signed after → x ≡ access_address m base offset after →
       ((k : Machine) → (is_trapping_access e x size ≡ true → SavesContext m k) → (is_trapping_access e x size ≡ false → KeepsMemoryAndPcxi m k) → AreaEffectHolds effect u k) → IsAreaEffectOf effect u m e s
@@ -374,7 +374,7 @@ module _ (effect : Effect) (u : AreasUsed) (m : Machine) (e : Event) where
       subst (λ y. IsAreaEffectOf effect u m e y) (sym is)
       (λ n run.
       let traps : is_trapping_access e (access_address m base offset after) size ≡ is_trapping_access e x size = ap (λ (y : ℕ). is_trapping_access e y size) (sym at) in
-      tells (does m e (Load dst base offset size signed after) n)
+      tells (after_instruction m e (Load dst base offset size signed after) n)
       (λ t. load_traps m e dst base offset size signed after n (traps ∙ t) run)
       (λ t. let same = load_same m e dst base offset size signed after n (traps ∙ t) in record { mem = same.mem; pcxi = same.pcxi }))
 
@@ -384,16 +384,16 @@ module _ (effect : Effect) (u : AreasUsed) (m : Machine) (e : Event) where
       subst (λ y. IsAreaEffectOf effect u m e y) (sym is)
       (λ n run.
       let traps : is_trapping_access e (access_address m base offset after) size ≡ is_trapping_access e x size = ap (λ (y : ℕ). is_trapping_access e y size) (sym at) in
-      tells (does m e (Store src base offset size after) n)
+      tells (after_instruction m e (Store src base offset size after) n)
       (λ t. store_traps m e src base offset size after n (traps ∙ t) run)
-      (λ t. subst (λ y. StoresBytes y size m (does m e (Store src base offset size after) n)) (sym at) (store_stores m e src base offset size after n (traps ∙ t))))
+      (λ t. subst (λ y. StoresBytes y size m (after_instruction m e (Store src base offset size after) n)) (sym at) (store_stores m e src base offset size after n (traps ∙ t))))
 
 -- what leaves the memory and PCXI
-pub told_stayed : (u : AreasUsed) (m n : Machine) → IsAreaCountOf u m → KeepsMemoryAndPcxi m n → AreaEffectHolds Stays u n
+pub told_stayed : (u : AreasUsed) (m n : Machine) → CountsAreasInUse u m → KeepsMemoryAndPcxi m n → AreaEffectHolds Stays u n
 told_stayed u m n h s = counted_same u m n (record { mem = s.mem; pcxi = s.pcxi }) h
 
-pub told_plain : (u : AreasUsed) (m : Machine) (e : Event) (s t : Shape) → s ≡ t → is_area_keeping_shape e t ≡ true → IsAreaCountOf u m → IsAreaEffectOf Stays u m e s
-told_plain u m e s t is k h = subst (λ x. IsAreaEffectOf Stays u m e x) (sym is) (λ n run. counted_same u m (does m e t n) (same_does e t k m n) h)
+pub told_plain : (u : AreasUsed) (m : Machine) (e : Event) (s t : Shape) → s ≡ t → is_area_preserving_shape e t ≡ true → CountsAreasInUse u m → IsAreaEffectOf Stays u m e s
+told_plain u m e s t is k h = subst (λ x. IsAreaEffectOf Stays u m e x) (sym is) (λ n run. counted_same u m (after_instruction m e t n) (same_does e t k m n) h)
 
 -- ---- events
 end_same : (k : Machine) (e : Event) (end : End) → k.end ≡ end → Same k (if_end_running end k (λ n. record n { psw = psw_with_status n.psw e.status }))
@@ -421,14 +421,14 @@ told_interrupt effect u m e here taken tells run =
     told_same effect u (machine_after_event m e) (step m e) w.same (tells (machine_after_event m e) (subst (SavesContext m) (sym is) (interrupt_saves m e.irq (subst (λ (k : Machine). k.end ≡ Running) is w.running))))
 
 -- the instruction at pc
-pub told_found : (effect : Effect) (u : AreasUsed) (m : Machine) (e : Event) (shape : Shape) (n : ℕ) → m.end ≡ Running → is_interrupt_taken m e ≡ false → Ok (shape, n) ≡ fetched_shape (decoded_of (mapped_bytes 4 m.mem m.pc)) → ((does m e shape n).end ≡ Running → AreaEffectHolds effect u (does m e shape n)) → (step m e).end ≡ Running → AreaEffectHolds effect u (step m e)
+pub told_found : (effect : Effect) (u : AreasUsed) (m : Machine) (e : Event) (shape : Shape) (n : ℕ) → m.end ≡ Running → is_interrupt_taken m e ≡ false → Ok (shape, n) ≡ fetched_shape (decoded_of (mapped_bytes 4 m.mem m.pc)) → ((after_instruction m e shape n).end ≡ Running → AreaEffectHolds effect u (after_instruction m e shape n)) → (step m e).end ≡ Running → AreaEffectHolds effect u (step m e)
 unfolding fetched_instruction
 told_found effect u m e shape n here free at tells run =
     let w = went m e here run in
     let found = fetched_shape (decoded_of (mapped_bytes 4 m.mem m.pc)) in
     elim (m.pc % 2 == 0) as (λ t. m.pc % 2 == 0 ≡ t → AreaEffectHolds effect u (step m e)) [
       | true ↦ λ even.
-          let is : machine_after_event m e ≡ does m e shape n = cond-false _ _ _ free ∙ ap (λ t. after_fetch_result m e (cond t found (Err NoCode))) even ∙ ap (after_fetch_result m e) (sym at) in
+          let is : machine_after_event m e ≡ after_instruction m e shape n = cond-false _ _ _ free ∙ ap (λ t. after_fetch_result m e (cond t found (Err NoCode))) even ∙ ap (after_fetch_result m e) (sym at) in
           told_same effect u (machine_after_event m e) (step m e) w.same (subst (AreaEffectHolds effect u) (sym is) (tells (subst (λ (k : Machine). k.end ≡ Running) is w.running)))
       | false ↦ λ odd.
           let is : machine_after_event m e ≡ dead_machine NoCode m = cond-false _ _ _ free ∙ ap (λ t. after_fetch_result m e (cond t found (Err NoCode))) odd in
@@ -436,7 +436,7 @@ told_found effect u m e shape n here free at tells run =
     ] refl
 
 -- if the areas in use aren't known to be consecutive, their number alone stays
-pub told_kept : (u : AreasUsed) (m n : Machine) → IsAreaCountOf u m → u.in_row ≡ false → used_area_count n ≡ used_area_count m → AreaEffectHolds Stays u n
+pub told_kept : (u : AreasUsed) (m n : Machine) → CountsAreasInUse u m → u.in_row ≡ false → used_area_count n ≡ used_area_count m → AreaEffectHolds Stays u n
 told_kept u m n h off same = record {
   count = h.count ∙ ap (λ (o : Option ℕ). unwrap_or o 0) (sym same);
   first = h.first;

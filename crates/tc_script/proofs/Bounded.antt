@@ -12,7 +12,7 @@ use Rattle.tcd_base.specs.Ranges.{IsWithinRange, is_within_range}
 use Rattle.tcd_plan.proofs.ApartLaws.{all_apart-behind}
 use Rattle.tc_script.specs.declared.scripts.AnswerRange.{AnswerRange}
 use Rattle.tc_script.specs.ScriptsFitPlans.{AreAnswerBoundsInside}
-use Rattle.tc_script.specs.Ports.{ArePortsBounded, device_answer_at, device_answer}
+use Rattle.tc_script.specs.Ports.{AnswersWithinDeviceBounds, device_answer_at, device_answer}
 use Rattle.tc_script.specs.DrivenRuns.{DeviceAnswers}
 use Rattle.tcd_base.proofs.RangeLaws.{within_true, true_within}
 use Rattle.tc_script.proofs.Only.{AnswersBy}
@@ -65,7 +65,7 @@ devices_apart plan ok =
     all_apart-behind (plan.rom ++ plan.ram) (ranges_of plan.devices) (all_apart-front (plan.rom ++ plan.ram ++ ranges_of plan.devices) (areas_range plan ∷ []) ok.apart)
 
 -- answers of a script that fits the plan
-pub bounded_by : (plan : PlanData) (bounds : List AnswerRange) (answers : DeviceAnswers) → IsPlan plan → AreAnswerBoundsInside plan.devices bounds → AnswersBy plan.devices bounds answers → ArePortsBounded answers plan.devices
+pub bounded_by : (plan : PlanData) (bounds : List AnswerRange) (answers : DeviceAnswers) → IsPlan plan → AreAnswerBoundsInside plan.devices bounds → AnswersBy plan.devices bounds answers → AnswersWithinDeviceBounds answers plan.devices
 bounded_by plan bounds answers ok inside by = λ k d lt addr t w has early small gives.
     subst (λ v. Lies v (slice_index_or plan.devices k d)) (sym (by addr t w gives))
     (lies_at addr t plan.devices bounds k (slice_index_or plan.devices k d) inside (devices_apart plan ok) (slice_get-get_or plan.devices k d lt) has)

@@ -24,7 +24,7 @@ use Rattle.tc_machine.specs.Safe.{Fits}
 use Rattle.tc_machine.specs.Stepping.{none_if_dead, load_of_fetched, load_at_pc, next_load_of}
 use Rattle.tc_machine.proofs.ShapeWords.{IsSize, IsShape, shape_of-suits}
 use Rattle.tc_script.specs.declared.scripts.Turn.{Turn}
-use Rattle.tc_script.specs.Ports.{ArePortsAskable, ArePortsBounded}
+use Rattle.tc_script.specs.Ports.{AcceptsDeviceAddresses, AnswersWithinDeviceBounds}
 use Rattle.tc_script.specs.DrivenRuns.{DeviceAnswers, IsDrivenInput, IsEventOfTurn}
 use Rattle.tcd_plan.specs.MappedAddresses.{IsInDevice, MayAnswerAt, MayAnswerLoad}
 
@@ -46,7 +46,7 @@ outside x n ds is h = false≢true (sym is ∙ in_one-true x n ds h)
 
 -- ---- asking
 -- the first byte of the access may be asked for
-pub asked : (can : ℕ → ℕ → Type 0) (x n t : ℕ) (ds : List Device) → ArePortsAskable can ds → 1 ≤ n → t < 2 ^ 32 → IsInDevice x n ds → can x t
+pub asked : (can : ℕ → ℕ → Type 0) (x n t : ℕ) (ds : List Device) → AcceptsDeviceAddresses can ds → 1 ≤ n → t < 2 ^ 32 → IsInDevice x n ds → can x t
 asked can x n t [] all some small is = absurd is
 asked can x n t (d ∷ ds) all some small (inl here) = all 0 d (omega arith) x t (here.0, omega (arith, here.1)) small
 asked can x n t (d ∷ ds) all some small (inr there) = asked can x n t ds (All-tail (λ d. (addr t : ℕ) → IsWithinRange addr 1 d.range → t < 2 ^ 32 → can addr t) d ds all) some small there
@@ -58,11 +58,11 @@ none_within : (x w : ℕ) (ds : List Device) → (IsInDevice x 4 ds → ⊥) →
 none_within x w [] out = All-nil (λ d. IsWithinRange x 4 d.range → Lies w d)
 none_within x w (d ∷ ds) out = All-cons (λ d. IsWithinRange x 4 d.range → Lies w d) d ds (λ here. absurd (out (inl here))) (none_within x w ds (λ there. out (inr there)))
 
-all_within : (answers : DeviceAnswers) (x t w : ℕ) (ds : List Device) → ArePortsBounded answers ds → t < 2 ^ 32 → w < 2 ^ 32 → answers x t w → MayAnswerAt x w ds
+all_within : (answers : DeviceAnswers) (x t w : ℕ) (ds : List Device) → AnswersWithinDeviceBounds answers ds → t < 2 ^ 32 → w < 2 ^ 32 → answers x t w → MayAnswerAt x w ds
 all_within answers x t w ds all early small gives =
     All-weaker (λ d. (addr t w : ℕ) → IsWithinRange addr 1 d.range → t < 2 ^ 32 → w < 2 ^ 32 → answers addr t w → Lies w d) (λ d. IsWithinRange x 4 d.range → Lies w d) (λ d h here. h x t w (here.0, omega (arith, here.1)) early small gives) ds all
 
-input_lies : (answers : DeviceAnswers) (ds : List Device) (t : ℕ) (load : Option (ℕ × ℕ)) (w : ℕ) → ArePortsBounded answers ds → t < 2 ^ 32 → w < 2 ^ 32 → IsDrivenInput ds answers t load w → IfSome load (λ l. l.1 ≡ 4 → MayAnswerAt l.0 w ds)
+input_lies : (answers : DeviceAnswers) (ds : List Device) (t : ℕ) (load : Option (ℕ × ℕ)) (w : ℕ) → AnswersWithinDeviceBounds answers ds → t < 2 ^ 32 → w < 2 ^ 32 → IsDrivenInput ds answers t load w → IfSome load (λ l. l.1 ≡ 4 → MayAnswerAt l.0 w ds)
 input_lies answers ds t None w all early small is = tt
 input_lies answers ds t (Some load) w all early small (inl is) = λ four. all_within answers load.0 t w ds all early small is.1
 input_lies answers ds t (Some load) w all early small (inr is) = λ four. none_within load.0 w ds (λ h. is.0 (subst (λ n. IsInDevice load.0 n ds) (sym four) h))
@@ -78,7 +78,7 @@ at_pc : (plan : PlanData) (m : Machine) (w : ℕ) → MayAnswerLoad plan w (load
 unfolding fetched_instruction
 at_pc plan m w h = cond_both (m.pc % 2 == 0) (fetched_shape (decoded_at m)) (Err NoCode) (λ r. MayAnswerLoad plan w (load_of_fetched m r)) (λ even. h) (λ odd. tt)
 
-pub fits_event : (plan : PlanData) (answers : DeviceAnswers) (t : ℕ) (turn : Turn) (m : Machine) (e : Event) → m.end ≡ Running → IsEventOfTurn plan.devices answers t turn m e → ArePortsBounded answers plan.devices → (turn.irq ≡ 0) ⊎ Contains plan.irqs turn.irq → t < 2 ^ 32 → e.input < 2 ^ 32 → Fits plan m e
+pub fits_event : (plan : PlanData) (answers : DeviceAnswers) (t : ℕ) (turn : Turn) (m : Machine) (e : Event) → m.end ≡ Running → IsEventOfTurn plan.devices answers t turn m e → AnswersWithinDeviceBounds answers plan.devices → (turn.irq ≡ 0) ⊎ Contains plan.irqs turn.irq → t < 2 ^ 32 → e.input < 2 ^ 32 → Fits plan m e
 fits_event plan answers t turn m e running is all source early small = record {
   irq = subst (λ n. (n ≡ 0) ⊎ Contains plan.irqs n) (sym is.irq) source;
   input = small;

@@ -2,12 +2,12 @@
 use Rattle.std.specs.Prelude.{◌≡◌, ◌≢◌, ℕ, zero, suc, ◌+◌, ◌-◌, ◌<◌, ◌≤◌, ◌^◌, Bool, true, List, [], ◌∷◌, Some, unwrap_or}
 use Rattle.std.specs.Bool.{OnTrue}
 use Rattle.csa_chain.specs.MemoryBytes.{with_bytes}
-use Rattle.csa_chain.specs.Chain.{link_in, is_area, chain}
+use Rattle.csa_chain.specs.Chain.{link_in, is_area_mapped, chain}
 use Rattle.tc_isa.specs.declared.shapes.Shape.{Shape}
 use Rattle.tc_machine.specs.declared.events.Event.{Event}
 use Rattle.tc_machine.specs.declared.events.End.TheVariants.{Running}
 use Rattle.tc_machine.specs.declared.state.Machine.{Machine}
-use Rattle.tc_machine.specs.Instructions.{does}
+use Rattle.tc_machine.specs.Instructions.{after_instruction}
 use Rattle.tc_machine.specs.SavesAndRestores.{with_context_saved, with_context_restored}
 use Rattle.tc_machine.specs.Stepping.{used_area_count}
 use Rattle.tc_script.specs.declared.area_counts.AreasUsed.{AreasUsed}
@@ -28,7 +28,7 @@ abbrev pub KnowsAreasInSequence : AreasUsed → Type 0
 KnowsAreasInSequence u = u.in_row ≡ true
 
 -- this number of areas is in use, and they are consecutive if the count says so
-pub record IsAreaCountOf (u : AreasUsed) (m : Machine) : Type 0 where
+pub record CountsAreasInUse (u : AreasUsed) (m : Machine) : Type 0 where
   pub count : u.count ≡ unwrap_or (used_area_count m) 0
   pub first : u.first < 2 ^ 20
   pub row : OnTrue u.in_row (AreAreasInSequence u.first u.count m)
@@ -38,7 +38,7 @@ pub record IsAreaCountOf (u : AreasUsed) (m : Machine) : Type 0 where
 pub record SavesContext (m after : Machine) : Type 0 where
   pub upper : Bool
   pub some : link_in m.fcx ≢ 0
-  pub area : is_area m.mem (link_in m.fcx) ≡ true
+  pub area : is_area_mapped m.mem (link_in m.fcx) ≡ true
   pub mem : after.mem ≡ (with_context_saved m upper).mem
   pub pcxi : after.pcxi ≡ (with_context_saved m upper).pcxi
 
@@ -66,12 +66,12 @@ pub record KeepsMemoryAndPcxi (m after : Machine) : Type 0 where
 -- what an effect says of the areas in use after an event is true: as u counts them before, one
 -- more, one less, or nothing
 abbrev pub AreaEffectHolds : Effect → AreasUsed → Machine → Type 0
-AreaEffectHolds Stays u after = IsAreaCountOf u after
-AreaEffectHolds Saves u after = (u.count < 4096) × IsAreaCountOf (record u { count = u.count + 1 }) after
-AreaEffectHolds Restores u after = (1 ≤ u.count) × IsAreaCountOf (record u { count = u.count - 1 }) after
+AreaEffectHolds Stays u after = CountsAreasInUse u after
+AreaEffectHolds Saves u after = (u.count < 4096) × CountsAreasInUse (record u { count = u.count + 1 }) after
+AreaEffectHolds Restores u after = (1 ≤ u.count) × CountsAreasInUse (record u { count = u.count - 1 }) after
 AreaEffectHolds Unknown u after = Unit {0}
 
 -- the effect is true of the areas in use after an instruction of this shape, if the machine then
 -- runs
 abbrev pub IsAreaEffectOf : Effect → AreasUsed → Machine → Event → Shape → Type 0
-IsAreaEffectOf effect u m e shape = (n : ℕ) → (does m e shape n).end ≡ Running → AreaEffectHolds effect u (does m e shape n)
+IsAreaEffectOf effect u m e shape = (n : ℕ) → (after_instruction m e shape n).end ≡ Running → AreaEffectHolds effect u (after_instruction m e shape n)

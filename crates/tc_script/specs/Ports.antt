@@ -11,12 +11,12 @@ pub record PortsData (F : Type 0) : Type 0 where
   pub answer : F
 
 -- the closure of ports may be asked for each address of each peripheral and each event number
-abbrev pub ArePortsAskable : (ℕ → ℕ → Type 0) → List Device → Type 0
-ArePortsAskable can devices = All (λ d. (addr t : ℕ) → IsWithinRange addr 1 d.range → t < 2 ^ 32 → can addr t) devices
+abbrev pub AcceptsDeviceAddresses : (ℕ → ℕ → Type 0) → List Device → Type 0
+AcceptsDeviceAddresses can devices = All (λ d. (addr t : ℕ) → IsWithinRange addr 1 d.range → t < 2 ^ 32 → can addr t) devices
 
 -- each word that the closure answers for an address of a peripheral is within the latter's bounds
-abbrev pub ArePortsBounded : (ℕ → ℕ → ℕ → Type 0) → List Device → Type 0
-ArePortsBounded gives devices =
+abbrev pub AnswersWithinDeviceBounds : (ℕ → ℕ → ℕ → Type 0) → List Device → Type 0
+AnswersWithinDeviceBounds gives devices =
     All (λ d. (addr t w : ℕ) → IsWithinRange addr 1 d.range → t < 2 ^ 32 → w < 2 ^ 32 → gives addr t w → (d.lo ≤ w) × (w ≤ d.hi)) devices
 
 -- the bounds of the answers of a peripheral's port until a line of the script states others: its

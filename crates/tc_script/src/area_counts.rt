@@ -1,12 +1,12 @@
 // Counts the save areas in use, event by event.
 // A recount of the chain is needed only if the effect of an event isn't known.
 ghost use Rattle.std.specs.Prelude.{◌≡◌, ◌<◌, ◌+◌, ◌*◌, true, false, IfOk};
-ghost use Rattle.tc_isa.specs.InBounds.{IsShape, IsShapeAccessSize};
+ghost use Rattle.tc_isa.specs.InBounds.{IsShapeInBounds, IsOneTwoOrFour};
 ghost use Rattle.tc_machine.specs.declared.state.Machine.{Machine};
 ghost use Rattle.tc_machine.specs.Fetching.{shape_at_pc};
 ghost use Rattle.tc_machine.specs.Instructions.{is_trapping_access};
 ghost use Rattle.tc_machine.specs.Stepping.{step, is_interrupt_taken};
-ghost use Rattle.tc_script.specs.AreasInSequence.{IsAreaCountOf, KnowsAreasInSequence, SavesContext, RestoresContext, StoresBytes, KeepsMemoryAndPcxi, AreaEffectHolds, IsAreaEffectOf};
+ghost use Rattle.tc_script.specs.AreasInSequence.{CountsAreasInUse, KnowsAreasInSequence, SavesContext, RestoresContext, StoresBytes, KeepsMemoryAndPcxi, AreaEffectHolds, IsAreaEffectOf};
 
 use csa_chain::address_of;
 use tc_isa::Shape;
@@ -33,7 +33,7 @@ pub(crate) enum Effect {
 /// Returns how many save areas are in use, by a walk along their chain, or 0 if there is no chain.
 /// They are known to be consecutive only if there are none.
 pub(crate) fn count_areas_in_use(m: &Machine) -> AreasUsed
-    ensures { IsAreaCountOf result m.now }
+    ensures { CountsAreasInUse result m.now }
 {
     let count = m.used().unwrap_or(0);
     AreasUsed {
@@ -53,8 +53,8 @@ pub(crate) fn area_effect_of_event(
 ) -> Effect
     requires running { m.now.end ≡ End.Running }
     requires found { found.now ≡ shape_at_pc m.now }
-    requires bounded { IfOk found.now (λ it. IsShape it.0) }
-    requires counted { IsAreaCountOf used m.now }
+    requires bounded { IfOk found.now (λ it. IsShapeInBounds it.0) }
+    requires counted { CountsAreasInUse used m.now }
     ensures { (step m.now event.now).end ≡ End.Running
         → AreaEffectHolds result used (step m.now event.now) }
 {
@@ -78,7 +78,7 @@ pub(crate) fn area_effect_of_event(
 /// still runs. If it is dead, or the effect isn't known, they are counted again.
 pub(crate) fn update_areas_in_use(m: &Machine, used: &mut AreasUsed, effect: Effect)
     requires { m.now.end ≡ End.Running → AreaEffectHolds effect used.old m.now }
-    ensures { IsAreaCountOf used.new m.now }
+    ensures { CountsAreasInUse used.new m.now }
 {
     let End::Running = m.end else {
         *used = count_areas_in_use(m);
@@ -102,7 +102,7 @@ fn is_event_interrupt_taken(m: &Machine, event: &Event) -> bool
 /// Returns the effect of a save on areas in use that are consecutive: one more, if the first free
 /// area is next, else unknown.
 fn area_effect_of_save(m: &Machine, used: AreasUsed) -> Effect
-    requires counted { IsAreaCountOf used m.now }
+    requires counted { CountsAreasInUse used m.now }
     requires row { KnowsAreasInSequence used }
     ensures { (after : Machine) → SavesContext m.now after → AreaEffectHolds result used after }
 {
@@ -122,9 +122,9 @@ fn area_effect_of_save(m: &Machine, used: AreasUsed) -> Effect
 /// Returns the effect of an instruction on the areas in use, which are consecutive, if the machine
 /// still runs afterwards.
 fn area_effect_of_instruction(m: &Machine, event: &Event, shape: Shape, used: AreasUsed) -> Effect
-    requires counted { IsAreaCountOf used m.now }
+    requires counted { CountsAreasInUse used m.now }
     requires row { KnowsAreasInSequence used }
-    requires bounded { IsShape shape }
+    requires bounded { IsShapeInBounds shape }
     ensures { IsAreaEffectOf result used m.now event.now shape }
 {
     match shape {
@@ -163,9 +163,9 @@ fn area_effect_of_instruction(m: &Machine, event: &Event, shape: Shape, used: Ar
 /// Returns the effect of a load on the areas in use, which are consecutive: none, or that of a save
 /// if the load traps.
 fn area_effect_of_load(m: &Machine, event: &Event, used: AreasUsed, addr: u32, size: u8) -> Effect
-    requires counted { IsAreaCountOf used m.now }
+    requires counted { CountsAreasInUse used m.now }
     requires row { KnowsAreasInSequence used }
-    requires size { IsShapeAccessSize size }
+    requires size { IsOneTwoOrFour size }
     ensures { (after : Machine)
         → (is_trapping_access event.now addr size ≡ true → SavesContext m.now after)
         → (is_trapping_access event.now addr size ≡ false → KeepsMemoryAndPcxi m.now after)
@@ -187,9 +187,9 @@ fn area_effect_of_store_or_trap(
     addr: u32,
     size: u8,
 ) -> Effect
-    requires counted { IsAreaCountOf used m.now }
+    requires counted { CountsAreasInUse used m.now }
     requires row { KnowsAreasInSequence used }
-    requires size { IsShapeAccessSize size }
+    requires size { IsOneTwoOrFour size }
     ensures { (after : Machine)
         → (is_trapping_access event.now addr size ≡ true → SavesContext m.now after)
         → (is_trapping_access event.now addr size ≡ false → StoresBytes addr size m.now after)
@@ -205,7 +205,7 @@ fn area_effect_of_store_or_trap(
 /// Returns the effect of a call, a return, or another save or restore of a context on consecutive
 /// areas in use; unknown for other instructions.
 fn area_effect_of_context_op(m: &Machine, event: &Event, shape: Shape, used: AreasUsed) -> Effect
-    requires counted { IsAreaCountOf used m.now }
+    requires counted { CountsAreasInUse used m.now }
     requires row { KnowsAreasInSequence used }
     ensures { IsAreaEffectOf result used m.now event.now shape }
 {
@@ -224,7 +224,7 @@ fn area_effect_of_context_op(m: &Machine, event: &Event, shape: Shape, used: Are
 /// Returns the effect on the areas in use of a store that doesn't trap: none if the store surely
 /// misses all of them, else unknown.
 fn area_effect_of_store(m: &Machine, used: AreasUsed, addr: u32, size: u8) -> Effect
-    requires counted { IsAreaCountOf used m.now }
+    requires counted { CountsAreasInUse used m.now }
     requires row { KnowsAreasInSequence used }
     ensures { (after : Machine) → StoresBytes addr size m.now after
         → AreaEffectHolds result used after }
@@ -252,7 +252,7 @@ fn area_effect_of_store(m: &Machine, used: AreasUsed, addr: u32, size: u8) -> Ef
 /// Returns the effect of a restore on the areas in use, which are consecutive: one less, or unknown
 /// if there are none.
 fn area_effect_of_restore(m: &Machine, used: AreasUsed) -> Effect
-    requires counted { IsAreaCountOf used m.now }
+    requires counted { CountsAreasInUse used m.now }
     requires row { KnowsAreasInSequence used }
     ensures { (after : Machine) → RestoresContext m.now after → AreaEffectHolds result used after }
 {

@@ -1,10 +1,10 @@
 // Drives the machine by the turns of a script.
 ghost use Rattle.std.specs.Prelude.{◌≡◌, ◌<◌, ◌^◌, IfOk};
 ghost use Rattle.std.specs.Bool.{MatchBool};
-ghost use Rattle.tc_isa.specs.InBounds.{IsShape};
+ghost use Rattle.tc_isa.specs.InBounds.{IsShapeInBounds};
 ghost use Rattle.tc_machine.specs.Fetching.{shape_at_pc};
 ghost use Rattle.tc_script.specs.ScriptsFitPlans.{AreTurnInterruptsOfPlan};
-ghost use Rattle.tc_script.specs.Ports.{ArePortsAskable, ArePortsBounded};
+ghost use Rattle.tc_script.specs.Ports.{AcceptsDeviceAddresses, AnswersWithinDeviceBounds};
 ghost use Rattle.tc_script.specs.DrivenRuns.{IsEventOfTurn, IsDrivenRun};
 ghost use Rattle.tc_machine.specs.Machine.{IsDead};
 
@@ -34,8 +34,8 @@ pub fn drive<F: Fn(u32, u32) -> u32>(
 ) -> Peak
     requires devices { ports.now.devices ≡ plan.now.devices }
     requires sources { AreTurnInterruptsOfPlan plan.now script.now.turns }
-    requires askable { ArePortsAskable (F.pre ports.now.answer) plan.now.devices }
-    requires bounded { ArePortsBounded (F.post ports.now.answer) plan.now.devices }
+    requires askable { AcceptsDeviceAddresses (F.pre ports.now.answer) plan.now.devices }
+    requires bounded { AnswersWithinDeviceBounds (F.post ports.now.answer) plan.now.devices }
     ensures { IsDrivenRun plan.now (F.post ports.now.answer) script.now.turns m.old m.new result }
 {
     let mut areas = count_areas_in_use(m);
@@ -81,9 +81,9 @@ fn event_of_turn<F: Fn(u32, u32) -> u32>(
     turn: Turn,
     t: u32,
 ) -> Event
-    requires askable { ArePortsAskable (F.pre ports.now.answer) ports.now.devices }
+    requires askable { AcceptsDeviceAddresses (F.pre ports.now.answer) ports.now.devices }
     requires found { found.now ≡ shape_at_pc m.now }
-    requires bounded { IfOk found.now (λ it. IsShape it.0) }
+    requires bounded { IfOk found.now (λ it. IsShapeInBounds it.0) }
     ensures event { IsEventOfTurn ports.now.devices (F.post ports.now.answer) t turn m.now result }
     ensures word { result.input < 2 ^ 32 }
 {

@@ -2,7 +2,7 @@
 ghost use Rattle.std.specs.Prelude.{◌≡◌, ◌<◌, All, IfSome};
 ghost use Rattle.tcd_base.specs.Bytes.{bytes_of_word};
 ghost use Rattle.tc_machine.specs.Fetching.{mapped_bytes};
-ghost use Rattle.tc_script.specs.KnownWords.{IsKnownWord, HasDecodedShapeAt};
+ghost use Rattle.tc_script.specs.KnownWords.{IsCorrectCacheEntry, HasDecodedShapeAt};
 
 use tc_isa::{Arg, Op, Shape};
 use tc_machine::{Cause, Machine};
@@ -32,7 +32,7 @@ fn known_word_index(word: u32) -> usize
 impl KnownWords {
     /// Returns the cache of decoded words with which the run of a script begins: without words.
     pub(crate) fn new() -> KnownWords
-        ensures { All IsKnownWord result.words }
+        ensures { All IsCorrectCacheEntry result.words }
     {
         // All zeros, so that the table is filled at once.
         let shape = Shape::Compute {
@@ -53,9 +53,9 @@ impl KnownWords {
     /// Returns the index of an entry of the cache of decoded words that says what the bytes at pc
     /// do. They are decoded if no entry does yet.
     pub(crate) fn find_or_decode_at_pc(&mut self, m: &Machine) -> usize
-        requires { All IsKnownWord self.old.words }
+        requires { All IsCorrectCacheEntry self.old.words }
         ensures place { result < 1024 }
-        ensures known { All IsKnownWord self.new.words }
+        ensures known { All IsCorrectCacheEntry self.new.words }
         ensures stands { HasDecodedShapeAt self.new.words result
             (mapped_bytes 4 m.now.mem m.now.pc) }
     {
@@ -76,9 +76,9 @@ impl KnownWords {
     #[inline(never)]
     fn decode_into(&mut self, m: &Machine, place: usize, word: Option<u32>)
         requires place { place < 1024 }
-        requires known { All IsKnownWord self.old.words }
+        requires known { All IsCorrectCacheEntry self.old.words }
         requires word { IfSome word (λ w. bytes_of_word w ≡ mapped_bytes 4 m.now.mem m.now.pc) }
-        ensures known { All IsKnownWord self.new.words }
+        ensures known { All IsCorrectCacheEntry self.new.words }
         ensures stands { HasDecodedShapeAt self.new.words place
             (mapped_bytes 4 m.now.mem m.now.pc) }
     {

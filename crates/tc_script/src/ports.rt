@@ -1,6 +1,6 @@
 // The answers of peripherals: the ports that a run is driven with.
 ghost use Rattle.std.specs.Prelude.{◌≡◌, ◌<◌, ◌≤◌, IfSome, length};
-ghost use Rattle.tc_script.specs.Ports.{ArePortsAskable, ArePortsBounded, device_answer, device_answer_at, is_in_device};
+ghost use Rattle.tc_script.specs.Ports.{AcceptsDeviceAddresses, AnswersWithinDeviceBounds, device_answer, device_answer_at, is_in_device};
 ghost use Rattle.tc_script.specs.DrivenRuns.{IsDrivenInput};
 
 use crate::Script;
@@ -30,12 +30,12 @@ impl<F: Fn(u32, u32) -> u32> Model for Ports<F> {
 impl<F: Fn(u32, u32) -> u32> Ports<F> {
     /// Returns the ports of a plan's peripherals.
     pub fn new(plan: &Plan, answer: F) -> Ports<F>
-        requires askable { ArePortsAskable (F.pre answer) plan.now.devices }
-        requires bounded { ArePortsBounded (F.post answer) plan.now.devices }
+        requires askable { AcceptsDeviceAddresses (F.pre answer) plan.now.devices }
+        requires bounded { AnswersWithinDeviceBounds (F.post answer) plan.now.devices }
         ensures devices { result.devices ≡ plan.now.devices }
         ensures answer { result.answer ≡ answer }
-        ensures askable { ArePortsAskable (F.pre result.answer) plan.now.devices }
-        ensures bounded { ArePortsBounded (F.post result.answer) plan.now.devices }
+        ensures askable { AcceptsDeviceAddresses (F.pre result.answer) plan.now.devices }
+        ensures bounded { AnswersWithinDeviceBounds (F.post result.answer) plan.now.devices }
     {
         let mut devices = ArrayVec::new();
         devices
@@ -71,7 +71,7 @@ pub(crate) fn port_input<F: Fn(u32, u32) -> u32>(
     t: u32,
 ) -> u32
     requires some { IfSome load (λ l. 1 ≤ l.1) }
-    requires askable { ArePortsAskable (F.pre ports.now.answer) ports.now.devices }
+    requires askable { AcceptsDeviceAddresses (F.pre ports.now.answer) ports.now.devices }
     ensures { IsDrivenInput ports.now.devices (F.post ports.now.answer) t load result }
 {
     let Some((addr, size)) = load else {

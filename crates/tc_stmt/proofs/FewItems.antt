@@ -12,13 +12,13 @@ use Rattle.tc_lex.specs.declared.kinds.TokenKind.TheVariants as kind
 use Rattle.tc_lex.specs.Cut.{tokens_of, IsTokenFault, AreTokens}
 use Rattle.tc_lex.proofs.LineLaws.{cut_reads, fault_reads}
 use Rattle.tc_lex.specs.Pieces.{PieceData, is_token_kind, token_text}
-use Rattle.tc_lex.specs.Operands.{OperandData, operand, operands, is_comma}
+use Rattle.tc_lex.specs.Operands.{OperandData, operand_of_tokens, operands_of_tokens, is_comma}
 use Rattle.tc_stmt.specs.RowFields.{RowFieldsData}
-use Rattle.tc_stmt.specs.StatementRow.{statement}
+use Rattle.tc_stmt.specs.StatementRow.{row_of_statement}
 use Rattle.tc_stmt.proofs.Cases.{by_test}
 use Rattle.tc_stmt.specs.Items.{ItemData, section, global}
 use Rattle.tc_stmt.specs.DataValues.{value_item}
-use Rattle.tc_stmt.specs.Lines.{LineData, line_data, only_operand_name, named_line, space_line, values_line, code_line, statement_line, line_from, has_label, tokens_line, line_token_with_text, label_of, label_before, meaning_of_cut_line, line_in}
+use Rattle.tc_stmt.specs.Lines.{LineData, line_data, only_operand_name, named_line, space_line, values_line, code_line, statement_line, line_from, has_label, tokens_line, line_token_with_text, label_of, label_of_text, meaning_of_cut_line, line_of_text}
 
 -- a line that adds at most this many items
 record Few (most : ℕ) (l : LineData) : Type 0 where
@@ -55,21 +55,21 @@ stated_few name os h =
     (λ e. by_test (Few 65) (bytes_eq name (codes ".half")) _ _ (λ e. values_few 2 os h)
     (λ e. by_test (Few 65) (bytes_eq name (codes ".word")) _ _ (λ e. values_few 4 os h)
     (λ e. by_test (Few 65) (bytes_eq name (codes ".space")) _ _ (λ e. space_few os)
-    (λ e. code_few name (statement name os)))))))
+    (λ e. code_few name (row_of_statement name os)))))))
 
-operands_few : (ps : List PieceData) → length (operands ps) ≤ length ps + 1
-unfolding operands
+operands_few : (ps : List PieceData) → length (operands_of_tokens ps) ≤ length ps + 1
+unfolding operands_of_tokens
 operands_few [] = omega arith
 operands_few (p ∷ ps) =
     let parts = slice_split is_comma (p ∷ ps) in
-    omega (arith, length-map parts operand, length-slice_split is_comma (p ∷ ps), count_by-le-length is_comma (p ∷ ps))
+    omega (arith, length-map parts operand_of_tokens, length-slice_split is_comma (p ∷ ps), count_by-le-length is_comma (p ∷ ps))
 
 from_few : (ps : List PieceData) (at : ℕ) → length ps ≤ 64 → Few 65 (line_from ps at)
 unfolding line_from
 from_few ps at h =
     by_test (Few 65) (length ps == at) _ _ (λ e. record { items = omega arith })
     (λ e. by_test (Few 65) (is_token_kind ps at kind.Word) _ _
-    (λ e. stated_few (token_text ps at) (operands (drop (at + 1) ps)) (omega (arith, h, operands_few (drop (at + 1) ps), length-drop (at + 1) ps)))
+    (λ e. stated_few (token_text ps at) (operands_of_tokens (drop (at + 1) ps)) (omega (arith, h, operands_few (drop (at + 1) ps), length-drop (at + 1) ps)))
     (λ e. record { items = omega arith }))
 
 pieces_few : (ps : List PieceData) → length ps ≤ 64 → Few 66 (tokens_line ps)
@@ -83,7 +83,7 @@ label_few : (ps : List PieceData) → Few 66 (line_data 1 (label_of ps))
 unfolding label_of
 label_few ps = by_test (λ (is : List ItemData). Few 66 (line_data 1 is)) (has_label ps) _ _ (λ e. record { items = omega arith }) (λ e. record { items = omega arith })
 
-before_few : (text : List ℕ) (q : Result (List Token) ℕ) → Few 66 (line_data 1 (label_before text q))
+before_few : (text : List ℕ) (q : Result (List Token) ℕ) → Few 66 (line_data 1 (label_of_text text q))
 before_few text (Ok ts) = label_few (map (line_token_with_text text) ts)
 before_few text (Err at) = record { items = omega arith }
 
@@ -91,7 +91,7 @@ cut_few : (line : List ℕ) (q : Result (List Token) ℕ) → tokens_of line ≡
 cut_few line (Ok ts) e = let c = cut_reads line ts e in pieces_few (map (line_token_with_text line) ts) (omega (arith, c.few, length-map ts (line_token_with_text line)))
 cut_few line (Err at) e = before_few (take at line) (tokens_of (take at line))
 
-pub line_few : (line : List ℕ) → length (line_in line).items ≤ 66
+pub line_few : (line : List ℕ) → length (line_of_text line).items ≤ 66
 line_few line = let h = cut_few line (tokens_of line) refl in h.items
 
 -- ---- lines that can't be cut

@@ -9,7 +9,7 @@ use Rattle.std.proofs.lemmas.List.{take_more, map_push, length-map, get_or-map}
 use Rattle.std.proofs.lemmas.List.Sums.{fold_more, fails_before_first}
 use Rattle.tc_lex.specs.declared.operand.Operand.{Operand}
 use Rattle.tc_lex.specs.Operands.{operand_of}
-use Rattle.tc_stmt.specs.DataValues.{value_rule, space_rule, space_item}
+use Rattle.tc_stmt.specs.DataValues.{rule_broken_by_value, rule_broken_by_space, space_item}
 use Rattle.tc_stmt.specs.Items.{zeros}
 use Rattle.tc_stmt.specs.Lines.{line_data, is_unbracketed_name, only_operand_name, space_line}
 use Rattle.tc_lex.proofs.Parted.{none_from}
@@ -25,13 +25,13 @@ pushed g pre xs i d out new x within e is so_far =
     ∙ ap (λ ys. pre ++ ys) (sym (map_push g (take i xs) (get_or xs i d)) ∙ ap (map g) (sym (take_more xs i d within)))
 
 pub rule_more : (width : ℕ) (os : List Operand) (i : ℕ) (d : Operand) (first rule next value : ℕ)
-    → i < length os → next ≡ min rule value → value ≡ value_rule width (operand_of (get_or os i d)) → rule ≡ fold (λ r o. min r (value_rule width o)) first (take i (map operand_of os))
-    → next ≡ fold (λ r o. min r (value_rule width o)) first (take (i + 1) (map operand_of os))
+    → i < length os → next ≡ min rule value → value ≡ rule_broken_by_value width (operand_of (get_or os i d)) → rule ≡ fold (λ r o. min r (rule_broken_by_value width o)) first (take i (map operand_of os))
+    → next ≡ fold (λ r o. min r (rule_broken_by_value width o)) first (take (i + 1) (map operand_of os))
 rule_more width os i d first rule next value within e is so_far =
     e
-    ∙ ap (min rule) (is ∙ ap (value_rule width) (sym (get_or-map operand_of os i d (operand_of d) within)))
-    ∙ ap (λ r. min r (value_rule width (get_or (map operand_of os) i (operand_of d)))) so_far
-    ∙ sym (fold_more (λ r o. min r (value_rule width o)) first (map operand_of os) i (operand_of d) (rw (length-map os operand_of) within))
+    ∙ ap (min rule) (is ∙ ap (rule_broken_by_value width) (sym (get_or-map operand_of os i d (operand_of d) within)))
+    ∙ ap (λ r. min r (rule_broken_by_value width (get_or (map operand_of os) i (operand_of d)))) so_far
+    ∙ sym (fold_more (λ r o. min r (rule_broken_by_value width o)) first (map operand_of os) i (operand_of d) (rw (length-map os operand_of) within))
 
 -- ---- a list of one operand
 pub word_of-one : (os : List Operand) (d : Operand) → length os ≡ 1
@@ -48,7 +48,7 @@ word_of-other (o ∷ []) h = absurd (h refl)
 word_of-other (o ∷ p ∷ os) h = refl
 
 pub space_line-one : (os : List Operand) (d : Operand) → length os ≡ 1
-    → space_line (map operand_of os) ≡ line_data (space_rule (operand_of (get_or os 0 d))) (space_item (operand_of (get_or os 0 d)) ∷ [])
+    → space_line (map operand_of os) ≡ line_data (rule_broken_by_space (operand_of (get_or os 0 d))) (space_item (operand_of (get_or os 0 d)) ∷ [])
 unfolding space_line
 space_line-one [] d h = absurd (omega arith)
 space_line-one (o ∷ []) d h = refl

@@ -8,7 +8,7 @@ use Rattle.tc_stmt.specs.declared.row_fields.RowFields.{RowFields}
 use Rattle.tc_stmt.specs.declared.tally.Tally.{Tally}
 use Rattle.tc_lex.specs.Operands.{OperandData}
 use Rattle.tc_stmt.specs.RowFields.{row_fields_of}
-use Rattle.tc_stmt.specs.StatementRow.{row_outcome, statement_outcome, found_row_or_next, tally_rule, GivesRowOutcome}
+use Rattle.tc_stmt.specs.StatementRow.{row_outcome, statement_outcome, found_row_or_next, rule_broken_by_statement, GivesRowOutcome}
 use Rattle.tc_stmt.proofs.Places.{row_here}
 
 abbrev pub any_row : RowData
@@ -19,7 +19,7 @@ module _ (name : List ℕ) (os : List OperandData) (rows : List Row) (i : ℕ) (
   unfolding statement_outcome
   outcome-some h = ap (λ (rs : List RowData). statement_outcome name os rs i t) (drop_more (map row_of rows) i any_row (rw (length-map rows row_of) h))
 
-  pub outcome-end : length rows ≤ i → statement_outcome name os (drop i (map row_of rows)) i t ≡ Err (tally_rule t)
+  pub outcome-end : length rows ≤ i → statement_outcome name os (drop i (map row_of rows)) i t ≡ Err (rule_broken_by_statement t)
   unfolding statement_outcome
   outcome-end h = ap (λ (rs : List RowData). statement_outcome name os rs i t) (drop_all i (map row_of rows) (rw (length-map rows row_of) h))
 

@@ -9,7 +9,7 @@ use Rattle.std.proofs.lemmas.List.Concat.{flat_map-append}
 use Rattle.tc_stmt.specs.declared.source.Line.{Line}
 use Rattle.tc_stmt.specs.declared.item.Item.{Item}
 use Rattle.tc_stmt.specs.Items.{ItemData, item_of}
-use Rattle.tc_stmt.specs.Lines.{LineData, line_data, line_in, lines_in, items_in}
+use Rattle.tc_stmt.specs.Lines.{LineData, line_data, line_of_text, lines_in, items_in}
 use Rattle.tc_stmt.specs.SourceViews.{lines_read, AreReadLines}
 use Rattle.tc_stmt.proofs.ListItems.{take_behind, drop_behind}
 use Rattle.tc_stmt.proofs.LoopLaws.{is_feed, lines_more, lines_end}
@@ -78,19 +78,19 @@ length-lines_read (l ∷ lines) is = ap suc (length-lines_read lines (drop l.cou
 pub record Reading (source : List ℕ) (lines : List Line) (items : List Item) (rest : List ℕ) : Type 0 where
   pub parts : List (List ℕ)
   pub parted : parts ++ slice_split is_feed rest ≡ slice_split is_feed source
-  pub are_read : AreReadLines lines items (map line_in parts)
+  pub are_read : AreReadLines lines items (map line_of_text parts)
 
 pub reading_none : (source : List ℕ) (lines : List Line) (items : List Item) → lines ≡ [] → items ≡ [] → Reading source lines items source
 reading_none source lines items e f = record { parts = []; parted = refl; are_read = rw (e, f) read_none }
 
-one_more : (parts : List (List ℕ)) (lines : List Line) (items : List Item) (line : List ℕ) → AreReadLines lines items (map line_in parts ++ line_in line ∷ []) → AreReadLines lines items (map line_in (parts ++ line ∷ []))
-one_more parts lines items line h = rw (map_push line_in parts line) h
+one_more : (parts : List (List ℕ)) (lines : List Line) (items : List Item) (line : List ℕ) → AreReadLines lines items (map line_of_text parts ++ line_of_text line ∷ []) → AreReadLines lines items (map line_of_text (parts ++ line ∷ []))
+one_more parts lines items line h = rw (map_push line_of_text parts line) h
 
-module _ (source : List ℕ) (lines next : List Line) (old new : List Item) (rest line : List ℕ) (r : Reading source lines old rest) (more : (ls : List LineData) → AreReadLines lines old ls → AreReadLines next new (ls ++ line_in line ∷ [])) where
-  with_line : (l : List ℕ) → line ≡ l → AreReadLines next new (map line_in (r.parts ++ l ∷ []))
+module _ (source : List ℕ) (lines next : List Line) (old new : List Item) (rest line : List ℕ) (r : Reading source lines old rest) (more : (ls : List LineData) → AreReadLines lines old ls → AreReadLines next new (ls ++ line_of_text line ∷ [])) where
+  with_line : (l : List ℕ) → line ≡ l → AreReadLines next new (map line_of_text (r.parts ++ l ∷ []))
   with_line l e =
-      let P : List ℕ → Type 0 = λ k. AreReadLines next new (map line_in r.parts ++ line_in k ∷ []) in
-      one_more r.parts next new l (subst P e (more (map line_in r.parts) r.are_read))
+      let P : List ℕ → Type 0 = λ k. AreReadLines next new (map line_of_text r.parts ++ line_of_text k ∷ []) in
+      one_more r.parts next new l (subst P e (more (map line_of_text r.parts) r.are_read))
 
   -- a further line
   pub reading_more : (i : ℕ) (behind : List ℕ) → position is_feed rest ≡ Some i → line ≡ take i rest → behind ≡ drop (i + 1) rest → Reading source next new behind
@@ -103,11 +103,11 @@ module _ (source : List ℕ) (lines next : List Line) (old new : List Item) (res
   -- the last line
   pub reading_end : position is_feed rest ≡ None → line ≡ rest → AreReadLines next new (lines_in source)
   reading_end none e =
-      let P : List (List ℕ) → Type 0 = λ parts. AreReadLines next new (map line_in parts) in
+      let P : List (List ℕ) → Type 0 = λ parts. AreReadLines next new (map line_of_text parts) in
       subst P (lines_end r.parts rest none ∙ r.parted) (with_line rest e)
 
 -- one line more than line feeds
 pub few_read : (source : List ℕ) (lines : List Line) (is : List ItemData) → lines_read lines is ≡ lines_in source → length lines ≤ length source + 1
 few_read source lines is e =
-    let long = sym (length-lines_read lines is) ∙ ap length e ∙ length-map (slice_split is_feed source) line_in ∙ length-slice_split is_feed source in
+    let long = sym (length-lines_read lines is) ∙ ap length e ∙ length-map (slice_split is_feed source) line_of_text ∙ length-slice_split is_feed source in
     omega (arith, long, count_by-le-length is_feed source)

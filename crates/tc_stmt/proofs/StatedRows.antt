@@ -12,7 +12,7 @@ use Rattle.tc_isa.specs.declared.fields.Uses.{Uses}
 use Rattle.tc_isa.specs.Rows.{RowData, table_rows, is_32_bit_row}
 use Rattle.tc_isa.specs.Forms.{field_bounds, form_index}
 use Rattle.tc_isa.specs.InBounds.{AreFieldsBelow}
-use Rattle.tc_isa.specs.ValidRowFields.{IsRow, uses_of, are_unused_fields_zero, are_registers_allowed}
+use Rattle.tc_isa.specs.ValidRowFields.{IsRow, used_fields, are_unused_fields_zero, are_registers_allowed}
 use Rattle.tc_isa.proofs.TableFacts.{row_at}
 use Rattle.tc_lex.specs.declared.operand.Shape.{Shape}
 use Rattle.tc_lex.specs.declared.operand.Shape.TheVariants as shape
@@ -21,18 +21,18 @@ use Rattle.tc_stmt.specs.declared.want.Field.TheVariants.{C, S1, S2, N, K}
 use Rattle.tc_stmt.specs.declared.want.Want.{Want}
 use Rattle.tc_stmt.specs.declared.want.Want.TheVariants.{Reg, A10, Number, Target, Absolute, Memory}
 use Rattle.tc_stmt.specs.declared.tally.Tally.{Tally}
-use Rattle.tc_stmt.specs.Names.{is_source_name, symbol_rule}
+use Rattle.tc_stmt.specs.Names.{is_source_name, rule_broken_by_symbol}
 use Rattle.tc_lex.specs.Operands.{ValueData, OperandData}
 use Rattle.tc_stmt.specs.Wants.{want_of, wants_of}
-use Rattle.tc_stmt.specs.RowFields.{RowFieldsData, zero_fields, with_rule, set_field, field_of, with_value}
+use Rattle.tc_stmt.specs.RowFields.{RowFieldsData, zero_fields, with_rule, set_field, field_of, with_field_value}
 use Rattle.tc_stmt.specs.Items.{ReferenceData}
-use Rattle.tc_stmt.specs.Filling.{fill_named_register, fill_number, reference, with_symbol, half_operand_relocation, fill_constant, fill_memory, fill_target, fill_address, fill_absolute, fill_register, fill_a10, fill_plain, fill, fill_operands, note_equal_registers, fields_of_row, is_within_field_bound}
-use Rattle.tc_stmt.specs.Displacements.{is_far_displacement, is_odd_displacement, displacement_rule, with_displacement, target_operand_relocation}
+use Rattle.tc_stmt.specs.Filling.{fill_named_register, fill_number, reference_from_value, with_symbol, half_operand_relocation, fill_constant, fill_memory, fill_target, fill_address, fill_absolute, fill_register, check_a10, fill_plain_operand, fill_operand, fill_operands, note_equal_registers, fields_of_row, is_within_field_bound}
+use Rattle.tc_stmt.specs.Displacements.{is_far_displacement, is_odd_displacement, rule_broken_by_displacement, with_displacement, target_operand_relocation}
 use Rattle.tc_stmt.specs.OperandForms.{shape_index, register_number, operand_number_modulo, is_symbol_operand, is_half_operand}
-use Rattle.tc_stmt.specs.StatementRow.{row_outcome, statement_outcome, found_row_or_next, statement}
+use Rattle.tc_stmt.specs.StatementRow.{row_outcome, statement_outcome, found_row_or_next, row_of_statement}
 use Rattle.tc_stmt.specs.StatementRow as judging
 use Rattle.tc_isa.specs.Relocations.{is_relocation_kind, can_relocation_fill}
-use Rattle.tc_stmt.specs.StatedRows.{can_take_symbol_directly, TakesSymbol, TakesAnySymbol, FieldsAndSymbolFitRow, IsRowOfStatement, StatementFitsRowLaw}
+use Rattle.tc_stmt.specs.StatedRows.{can_take_symbol_directly, TakesSymbol, TakesSymbolIfAny, FieldsAndSymbolFitRow, IsRowOfStatement, StatementsFitRows}
 use Rattle.tc_stmt.proofs.Cases.{by_test, one_passes}
 use Rattle.tc_stmt.proofs.ZeroConstants.{zero_judged}
 
@@ -47,12 +47,12 @@ is_used K u = u.k
 
 -- the row has a field for the want, wide enough
 abbrev suits : RowData → Want → Bool
-suits r (Reg bank field) = is_used field (uses_of r) && nat_le 16 (field_of field (field_bounds r.form))
+suits r (Reg bank field) = is_used field (used_fields r) && nat_le 16 (field_of field (field_bounds r.form))
 suits r A10 = true
-suits r (Number signed field) = is_used field (uses_of r)
-suits r Target = (uses_of r).k && cond (is_32_bit_row r) (can_relocation_fill r.form (target_operand_relocation r)) (can_take_symbol_directly r.form)
-suits r Absolute = (uses_of r).k && nat_le (cond (form_index r.form == 8) (2 ^ 18) (2 ^ 24)) (field_bounds r.form).k && (form_index r.form == 8 || (is_32_bit_row r && can_relocation_fill r.form 2))
-suits r (Memory plus offset) = (uses_of r).s2 && nat_le 16 (field_bounds r.form).s2 && (not offset || (uses_of r).k)
+suits r (Number signed field) = is_used field (used_fields r)
+suits r Target = (used_fields r).k && cond (is_32_bit_row r) (can_relocation_fill r.form (target_operand_relocation r)) (can_take_symbol_directly r.form)
+suits r Absolute = (used_fields r).k && nat_le (cond (form_index r.form == 8) (2 ^ 18) (2 ^ 24)) (field_bounds r.form).k && (form_index r.form == 8 || (is_32_bit_row r && can_relocation_fill r.form 2))
+suits r (Memory plus offset) = (used_fields r).s2 && nat_le 16 (field_bounds r.form).s2 && (not offset || (used_fields r).k)
 
 -- only rows of four bytes take a half of a symbol
 abbrev halves_long : RowData → Bool
@@ -71,8 +71,8 @@ row_suit k r at = and_parts (list_all (suits r) (wants_of r)) (halves_long r) (o
 -- ---- the fields so far
 pub record Sound (r : RowData) (f : RowFieldsData) : Type 0 where
   pub below : AreFieldsBelow f.fields (field_bounds r.form)
-  pub zero : are_unused_fields_zero (uses_of r) f.fields ≡ true
-  pub symbols : TakesAnySymbol r f.reference
+  pub zero : are_unused_fields_zero (used_fields r) f.fields ≡ true
+  pub symbols : TakesSymbolIfAny r f.reference
 
 record IfSound (r : RowData) (o : Option RowFieldsData) : Type 0 where
   some : (f : RowFieldsData) → o ≡ Some f → Sound r f
@@ -129,10 +129,10 @@ below_put S2 b f v h s = record { c = s.c; s1 = s.s1; s2 = byte_below v b.s2 h; 
 below_put N b f v h s = record { c = s.c; s1 = s.s1; s2 = s.s2; n = byte_below v b.n h; k = s.k }
 below_put K b f v h s = record { c = s.c; s1 = s.s1; s2 = s.s2; n = s.n; k = h }
 
-sound_put : (r : RowData) (field : Field) (v : ℕ) (f : RowFieldsData) → is_used field (uses_of r) ≡ true → v < field_of field (field_bounds r.form) → Sound r f → Sound r (with_value field v f)
+sound_put : (r : RowData) (field : Field) (v : ℕ) (f : RowFieldsData) → is_used field (used_fields r) ≡ true → v < field_of field (field_bounds r.form) → Sound r f → Sound r (with_field_value field v f)
 sound_put r field v f used less s = record {
   below = below_put field (field_bounds r.form) f.fields v less s.below;
-  zero = zero_put field (uses_of r) f.fields v used s.zero;
+  zero = zero_put field (used_fields r) f.fields v used s.zero;
   symbols = s.symbols;
 }
 
@@ -155,7 +155,7 @@ unfolding is_within_field_bound
 fits_plus true bound size e = let h = ltb-true size (bound / 2) e in omega arith
 fits_plus false bound size e = ltb-true size bound e
 
-sound_number : (r : RowData) (signed : Bool) (field : Field) (minus : Bool) (size : ℕ) (f : RowFieldsData) → is_used field (uses_of r) ≡ true → Sound r f → Sound r (fill_number r.form signed field minus size f)
+sound_number : (r : RowData) (signed : Bool) (field : Field) (minus : Bool) (size : ℕ) (f : RowFieldsData) → is_used field (used_fields r) ≡ true → Sound r f → Sound r (fill_number r.form signed field minus size f)
 unfolding fill_number
 sound_number r signed field minus size f used s =
     let bound : ℕ = field_of field (field_bounds r.form) in
@@ -165,7 +165,7 @@ sound_number r signed field minus size f used s =
     (λ e. fits_plus signed (field_of field (field_bounds r.form)) size (ap (λ m. is_within_field_bound signed (field_of field (field_bounds r.form)) m size) (sym e) ∙ b))) s)
     (λ b. sound_broken r 5 f s)
 
-sound_register : (r : RowData) (bank : Bool) (field : Field) (name : List ℕ) (f : RowFieldsData) → is_used field (uses_of r) ≡ true → nat_le 16 (field_of field (field_bounds r.form)) ≡ true → Sound r f → Sound r (fill_named_register bank field name f)
+sound_register : (r : RowData) (bank : Bool) (field : Field) (name : List ℕ) (f : RowFieldsData) → is_used field (used_fields r) ≡ true → nat_le 16 (field_of field (field_bounds r.form)) ≡ true → Sound r f → Sound r (fill_named_register bank field name f)
 unfolding fill_named_register
 sound_register r bank field name f used wide s =
     let bound = leb-true 16 (field_of field (field_bounds r.form)) wide in
@@ -177,8 +177,8 @@ sound_register r bank field name f used wide s =
     small n b h = omega arith
 
 -- ---- symbols
-symbol_named : (v : ValueData) → (symbol_rule v == 15) ≡ true → is_source_name v.name ≡ true
-unfolding symbol_rule
+symbol_named : (v : ValueData) → (rule_broken_by_symbol v == 15) ≡ true → is_source_name v.name ≡ true
+unfolding rule_broken_by_symbol
 symbol_named v e = by (v.wide || nat_le (2 ^ 32) v.size) (is_source_name v.name) e
   where
     by : (a b : Bool) → (cond a 5 (cond b 15 9) == 15) ≡ true → b ≡ true
@@ -186,14 +186,14 @@ symbol_named v e = by (v.wide || nat_le (2 ^ 32) v.size) (is_source_name v.name)
     by false true e = refl
     by false false e = cc
 
-sound_symbol : (r : RowData) (kind : ℕ) (v : ValueData) (f : RowFieldsData) → (is_relocation_kind kind ≡ true → (is_32_bit_row r ≡ true) × (can_relocation_fill r.form kind ≡ true)) → (kind ≡ 0 → ((uses_of r).k ≡ true) × (can_take_symbol_directly r.form ≡ true)) → Sound r f → Sound r (with_symbol kind v f)
+sound_symbol : (r : RowData) (kind : ℕ) (v : ValueData) (f : RowFieldsData) → (is_relocation_kind kind ≡ true → (is_32_bit_row r ≡ true) × (can_relocation_fill r.form kind ≡ true)) → (kind ≡ 0 → ((used_fields r).k ≡ true) × (can_take_symbol_directly r.form ≡ true)) → Sound r f → Sound r (with_symbol kind v f)
 unfolding with_symbol
 sound_symbol r kind v f long target s =
-    by_test (Sound r) (symbol_rule v == 15) _ _
+    by_test (Sound r) (rule_broken_by_symbol v == 15) _ _
     (λ b. record { below = s.below; zero = s.zero; symbols = record { some = λ t e. subst (TakesSymbol r) (given t e) (record { named = symbol_named v b; long = long; target = target }) } })
-    (λ b. sound_broken r (symbol_rule v) f s)
+    (λ b. sound_broken r (rule_broken_by_symbol v) f s)
   where
-    given : (t : ReferenceData) → ◌≡◌ {A = Option ReferenceData} (Some (reference kind v)) (Some t) → reference kind v ≡ t
+    given : (t : ReferenceData) → ◌≡◌ {A = Option ReferenceData} (Some (reference_from_value kind v)) (Some t) → reference_from_value kind v ≡ t
     given t e = cc
 
 never : (n : ℕ) → n ≡ 0 → (n == 0) ≡ false → ⊥
@@ -215,7 +215,7 @@ half_long r shape.Bad all half some = cc
 half_long r shape.Huge all half some = cc
 
 -- ---- values at their places
-sound_value : (r : RowData) (signed : Bool) (field : Field) (v : ValueData) (f : RowFieldsData) → halves_long r ≡ true → is_used field (uses_of r) ≡ true → Sound r f → IfSound r (fill_constant r signed field v f)
+sound_value : (r : RowData) (signed : Bool) (field : Field) (v : ValueData) (f : RowFieldsData) → halves_long r ≡ true → is_used field (used_fields r) ≡ true → Sound r f → IfSound r (fill_constant r signed field v f)
 unfolding fill_constant
 sound_value r signed field v f halves used s =
     by_test (IfSound r) (shape_index v.shape == 1) _ _ (λ e. sound_some r _ (sound_number r signed field v.minus v.size f used s))
@@ -229,12 +229,12 @@ sound_value r signed field v f halves used s =
 sound_memory : (r : RowData) (plus offset : Bool) (o : OperandData) (f : RowFieldsData) → halves_long r ≡ true → suits r (Memory plus offset) ≡ true → Sound r f → IfSound r (fill_memory r plus offset o f)
 unfolding fill_memory field_of
 sound_memory r plus offset o f halves suit s =
-    let p = and_parts ((uses_of r).s2 && nat_le 16 (field_bounds r.form).s2) (not offset || (uses_of r).k) suit in
-    let q = and_parts ((uses_of r).s2) (nat_le 16 (field_bounds r.form).s2) p.0 in
+    let p = and_parts ((used_fields r).s2 && nat_le 16 (field_bounds r.form).s2) (not offset || (used_fields r).k) suit in
+    let q = and_parts ((used_fields r).s2) (nat_le 16 (field_bounds r.form).s2) p.0 in
     let base : Sound r (fill_named_register true S2 o.base f) = sound_register r true S2 o.base f q.0 q.1 s in
     by_test (IfSound r) _ _ _
     (λ e. by_test (IfSound r) (shape_index o.value.shape == 0) _ _ (λ e. sound_some r _ base)
-    (λ e. by_test (IfSound r) offset _ _ (λ is. sound_value r true K o.value (fill_named_register true S2 o.base f) halves (named offset (uses_of r).k is p.1) base) (λ e. sound_none r)))
+    (λ e. by_test (IfSound r) offset _ _ (λ is. sound_value r true K o.value (fill_named_register true S2 o.base f) halves (named offset (used_fields r).k is p.1) base) (λ e. sound_none r)))
     (λ e. sound_none r)
   where
     named : (a b : Bool) → a ≡ true → (not a || b) ≡ true → b ≡ true
@@ -242,8 +242,8 @@ sound_memory r plus offset o f halves suit s =
     named false b e h = cc
 
 -- ---- targets
-near : (r : RowData) (size : ℕ) → (displacement_rule r false size == 15) ≡ true → 0 < (field_bounds r.form).k → size / 2 < (field_bounds r.form).k
-unfolding displacement_rule
+near : (r : RowData) (size : ℕ) → (rule_broken_by_displacement r false size == 15) ≡ true → 0 < (field_bounds r.form).k → size / 2 < (field_bounds r.form).k
+unfolding rule_broken_by_displacement
 near r size e some = by_form (form_index r.form == 13) (field_bounds r.form).k some (by_far (is_far_displacement r.form (field_bounds r.form).k false size) (is_32_bit_row r) (is_odd_displacement size) e)
   where
     by_far : (far long odd : Bool) → (min (cond far (cond long 5 11) 15) (cond odd 6 15) == 15) ≡ true → far ≡ false
@@ -257,13 +257,13 @@ near r size e some = by_form (form_index r.form == 13) (field_bounds r.form).k s
     by_form true bound some e = let h = ltb-false (2 * (bound - 1)) size e in omega arith
     by_form false bound some e = let h = ltb-false (bound - 2) size e in omega arith
 
-pub sound_displaced : (r : RowData) (minus : Bool) (size : ℕ) (f : RowFieldsData) → (uses_of r).k ≡ true → Sound r f → Sound r (with_displacement r minus size f)
+pub sound_displaced : (r : RowData) (minus : Bool) (size : ℕ) (f : RowFieldsData) → (used_fields r).k ≡ true → Sound r f → Sound r (with_displacement r minus size f)
 unfolding with_displacement field_of
 sound_displaced r minus size f used s =
     let some : 0 < (field_bounds r.form).k = more_than_none K (field_bounds r.form) f.fields s.below in
-    by_test (Sound r) (displacement_rule r minus size == 15) _ _
-    (λ b. sound_put r K (operand_number_modulo (field_bounds r.form).k minus (size / 2)) f used (wrapped_below (field_bounds r.form).k minus (size / 2) some (λ e. near r size (ap (λ m. displacement_rule r m size == 15) (sym e) ∙ b) some)) s)
-    (λ b. sound_broken r (displacement_rule r minus size) f s)
+    by_test (Sound r) (rule_broken_by_displacement r minus size == 15) _ _
+    (λ b. sound_put r K (operand_number_modulo (field_bounds r.form).k minus (size / 2)) f used (wrapped_below (field_bounds r.form).k minus (size / 2) some (λ e. near r size (ap (λ m. rule_broken_by_displacement r m size == 15) (sym e) ∙ b) some)) s)
+    (λ b. sound_broken r (rule_broken_by_displacement r minus size) f s)
 
 is_target : (r : RowData) → is_relocation_kind (target_operand_relocation r) ≡ true → is_32_bit_row r ≡ true
 unfolding target_operand_relocation
@@ -293,8 +293,8 @@ target_short r fit e = by (is_32_bit_row r) (form_index r.form == 7) (can_reloca
 sound_target : (r : RowData) (v : ValueData) (f : RowFieldsData) → suits r Target ≡ true → Sound r f → IfSound r (fill_target r v f)
 unfolding fill_target
 sound_target r v f suit s =
-    let used = (and_parts (uses_of r).k (cond (is_32_bit_row r) (can_relocation_fill r.form (target_operand_relocation r)) (can_take_symbol_directly r.form)) suit).0 in
-    let fit = (and_parts (uses_of r).k (cond (is_32_bit_row r) (can_relocation_fill r.form (target_operand_relocation r)) (can_take_symbol_directly r.form)) suit).1 in
+    let used = (and_parts (used_fields r).k (cond (is_32_bit_row r) (can_relocation_fill r.form (target_operand_relocation r)) (can_take_symbol_directly r.form)) suit).0 in
+    let fit = (and_parts (used_fields r).k (cond (is_32_bit_row r) (can_relocation_fill r.form (target_operand_relocation r)) (can_take_symbol_directly r.form)) suit).1 in
     by_test (IfSound r) (shape_index v.shape == 3 && bytes_eq v.name (codes ".")) _ _ (λ e. sound_some r _ (by_test (Sound r) v.wide _ _ (λ e. sound_broken r 5 f s) (λ e. sound_displaced r v.minus v.size f used s)))
     (λ e. by_test (IfSound r) (is_symbol_operand (shape_index v.shape)) _ _ (λ e. sound_some r _ (sound_symbol r (target_operand_relocation r) v f (target_long r fit) (λ z. (used, target_short r fit z)) s))
     (λ e. by_test (IfSound r) (is_half_operand (shape_index v.shape)) _ _ (λ e. sound_some r _ (sound_broken r _ f s)) (λ e. sound_none r)))
@@ -310,7 +310,7 @@ high_segment size bound h room = omega arith
 jump_segment : (size bound : ℕ) → size < 2 ^ 32 → 2 ^ 24 ≤ bound → size / 2 ^ 28 * 2 ^ 20 + size % 2 ^ 21 / 2 < bound
 jump_segment size bound h room = omega arith
 
-sound_address : (r : RowData) (minus : Bool) (size : ℕ) (f : RowFieldsData) → (uses_of r).k ≡ true → nat_le (cond (form_index r.form == 8) (2 ^ 18) (2 ^ 24)) (field_bounds r.form).k ≡ true → Sound r f → Sound r (fill_address r.form minus size f)
+sound_address : (r : RowData) (minus : Bool) (size : ℕ) (f : RowFieldsData) → (used_fields r).k ≡ true → nat_le (cond (form_index r.form == 8) (2 ^ 18) (2 ^ 24)) (field_bounds r.form).k ≡ true → Sound r f → Sound r (fill_address r.form minus size f)
 unfolding fill_address field_of
 sound_address r minus size f used room s =
     by_test (Sound r) ((minus && not (size == 0)) || nat_le (2 ^ 32) size) _ _ (λ e. sound_broken r 5 f s)
@@ -336,10 +336,10 @@ sound_absolute r v f suit s =
     (λ e. by_test (IfSound r) (is_half_operand (shape_index v.shape)) _ _ (λ e. sound_some r _ (sound_broken r _ f s)) (λ e. sound_none r))))
 
 -- ---- operands
-sound_fill : (r : RowData) (w : Want) (o : OperandData) (f : RowFieldsData) → halves_long r ≡ true → suits r w ≡ true → Sound r f → IfSound r (fill r w o f)
-unfolding fill fill_plain fill_register fill_a10
+sound_fill : (r : RowData) (w : Want) (o : OperandData) (f : RowFieldsData) → halves_long r ≡ true → suits r w ≡ true → Sound r f → IfSound r (fill_operand r w o f)
+unfolding fill_operand fill_plain_operand fill_register check_a10
 sound_fill r (Reg bank field) o f halves suit s =
-    let p = and_parts (is_used field (uses_of r)) (nat_le 16 (field_of field (field_bounds r.form))) suit in
+    let p = and_parts (is_used field (used_fields r)) (nat_le 16 (field_of field (field_bounds r.form))) suit in
     by_test (IfSound r) o.is_memory _ _ (λ e. sound_none r)
     (λ e. by_test (IfSound r) (shape_index o.value.shape == 2) _ _ (λ e. sound_some r _ (sound_register r bank field o.value.name f p.0 p.1 s)) (λ e. sound_none r))
 sound_fill r A10 o f halves suit s =
@@ -361,7 +361,7 @@ sound_all r [] (o ∷ os) f halves all s = sound_none r
 sound_all r (w ∷ ws) [] f halves all s = sound_none r
 sound_all r (w ∷ ws) (o ∷ os) f halves all s =
     let p = and_parts (suits r w) (list_all (suits r) ws) all in
-    sound_then r (fill_operands r ws os) (fill r w o f) (sound_fill r w o f halves p.0 s) (λ g t. sound_all r ws os g halves p.1 t)
+    sound_then r (fill_operands r ws os) (fill_operand r w o f) (sound_fill r w o f halves p.0 s) (λ g t. sound_all r ws os g halves p.1 t)
 
 sound_nothing : (r : RowData) → IsRow r → Sound r zero_fields
 sound_nothing r row = record {
@@ -372,7 +372,7 @@ sound_nothing r row = record {
       let n = b.n in
       let k = b.k in
       record { c = omega arith; s1 = omega arith; s2 = omega arith; n = omega arith; k = omega arith };
-  zero = zeros (uses_of r).c (uses_of r).s1 (uses_of r).s2 (uses_of r).n (uses_of r).k;
+  zero = zeros (used_fields r).c (used_fields r).s1 (used_fields r).s2 (used_fields r).n (used_fields r).k;
   symbols = record { some = λ s e. cc };
 }
   where
@@ -445,12 +445,12 @@ chosen name os (r ∷ rs) place t k f e = by (row_outcome name os r t) refl e (�
         record { at = 0; row = r; is_row = refl; number = omega arith; is = ok.0; rule = ok.1 }
     by (Err u) is e rec = further (rec u e)
 
-pub stated : (name : List ℕ) (os : List OperandData) (k : ℕ) (f : RowFieldsData) → statement name os ≡ Ok (k, f) → IsRowOfStatement k f
+pub stated : (name : List ℕ) (os : List OperandData) (k : ℕ) (f : RowFieldsData) → row_of_statement name os ≡ Ok (k, f) → IsRowOfStatement k f
 stated name os k f e =
     let c = chosen name os table_rows 0 judging.empty_tally k f e in
     let same : c.at ≡ k = let n = c.number in omega arith in
     let at : slice_get table_rows k ≡ Some c.row = ap (slice_get table_rows) (sym same) ∙ c.is_row in
     record { row = c.row; at = at; stated = sound_judged k c.row os f at c.is c.rule; zero = (zero_judged k c.row os f at c.is).some }
 
-pub stated_law : StatementFitsRowLaw
+pub stated_law : StatementsFitRows
 stated_law name os k f e = stated name os k f e

@@ -16,11 +16,11 @@ use Rattle.tc_stmt.specs.declared.want.Want.{Want}
 use Rattle.tc_stmt.specs.declared.want.Want.TheVariants.{Reg, A10, Number, Target, Absolute, Memory}
 use Rattle.tc_lex.specs.Operands.{ValueData, OperandData}
 use Rattle.tc_stmt.specs.Wants.{want_of, wants_of}
-use Rattle.tc_stmt.specs.RowFields.{RowFieldsData, zero_fields, with_rule, set_field, with_value, field_of}
+use Rattle.tc_stmt.specs.RowFields.{RowFieldsData, zero_fields, with_rule, set_field, with_field_value, field_of}
 use Rattle.tc_stmt.specs.Items.{ReferenceData}
-use Rattle.tc_stmt.specs.Filling.{fill_named_register, fill_number, with_symbol, half_operand_relocation, fill_constant, fill_memory, fill_target, fill_address, fill_absolute, fill_register, fill_a10, fill_plain, fill, fill_operands, note_equal_registers, fields_of_row, is_within_field_bound}
-use Rattle.tc_stmt.specs.Names.{symbol_rule}
-use Rattle.tc_stmt.specs.Displacements.{displacement_rule, with_displacement}
+use Rattle.tc_stmt.specs.Filling.{fill_named_register, fill_number, with_symbol, half_operand_relocation, fill_constant, fill_memory, fill_target, fill_address, fill_absolute, fill_register, check_a10, fill_plain_operand, fill_operand, fill_operands, note_equal_registers, fields_of_row, is_within_field_bound}
+use Rattle.tc_stmt.specs.Names.{rule_broken_by_symbol}
+use Rattle.tc_stmt.specs.Displacements.{rule_broken_by_displacement, with_displacement}
 use Rattle.tc_stmt.specs.OperandForms.{shape_index, register_number, operand_number_modulo, is_symbol_operand, is_half_operand}
 use Rattle.tc_stmt.proofs.Cases.{by_test, one_passes}
 
@@ -98,7 +98,7 @@ kept_same f = record { reference = refl; constant = refl }
 kept_broken : (n : ℕ) (f : RowFieldsData) → IsKept f (with_rule n f)
 kept_broken n f = record { reference = refl; constant = refl }
 
-kept_put : (field : Field) (v : ℕ) (f : RowFieldsData) → is_constant field ≡ false → IsKept f (with_value field v f)
+kept_put : (field : Field) (v : ℕ) (f : RowFieldsData) → is_constant field ≡ false → IsKept f (with_field_value field v f)
 unfolding set_field
 kept_put K v f h = cc
 kept_put _ v f h = record { reference = refl; constant = refl }
@@ -150,8 +150,8 @@ kept_memory r plus false o f h =
     (λ e. by_test (IfSo (IsKept f)) (shape_index o.value.shape == 0) _ _ (λ e. if_some (IsKept f) _ (kept_register true S2 o.base f refl)) (λ e. if_none (IsKept f)))
     (λ e. if_none (IsKept f))
 
-kept_fill : (r : RowData) (w : Want) (o : OperandData) (f : RowFieldsData) → takes r w ≡ false → IfSo (IsKept f) (fill r w o f)
-unfolding fill fill_plain fill_register fill_a10
+kept_fill : (r : RowData) (w : Want) (o : OperandData) (f : RowFieldsData) → takes r w ≡ false → IfSo (IsKept f) (fill_operand r w o f)
+unfolding fill_operand fill_plain_operand fill_register check_a10
 kept_fill r (Reg bank field) o f h =
     by_test (IfSo (IsKept f)) o.is_memory _ _ (λ e. if_none (IsKept f))
     (λ e. by_test (IfSo (IsKept f)) (shape_index o.value.shape == 2) _ _ (λ e. if_some (IsKept f) _ (kept_register bank field o.value.name f h)) (λ e. if_none (IsKept f)))
@@ -163,15 +163,15 @@ kept_fill r (Memory plus offset) o f h = kept_memory r plus offset o f h
 kept_fill r _ o f h = cc
 
 -- ---- operands that set the constant or the symbol
-none_put : (field : Field) (v : ℕ) (f : RowFieldsData) → IsFree f → IsZero (with_value field v f)
-none_put field v f h = zero_none (with_value field v f) h.none
+none_put : (field : Field) (v : ℕ) (f : RowFieldsData) → IsFree f → IsZero (with_field_value field v f)
+none_put field v f h = zero_none (with_field_value field v f) h.none
 
 none_broken : (n : ℕ) (f : RowFieldsData) → IsFree f → IsZero (with_rule n f)
 none_broken n f h = zero_none (with_rule n f) h.none
 
 zero_symbol : (kind : ℕ) (v : ValueData) (f : RowFieldsData) → IsFree f → IsZero (with_symbol kind v f)
 unfolding with_symbol
-zero_symbol kind v f h = by_test IsZero (symbol_rule v == 15) _ _ (λ e. record { some = λ s g. h.zero }) (λ e. none_broken (symbol_rule v) f h)
+zero_symbol kind v f h = by_test IsZero (rule_broken_by_symbol v == 15) _ _ (λ e. record { some = λ s g. h.zero }) (λ e. none_broken (rule_broken_by_symbol v) f h)
 
 zero_register : (bank : Bool) (field : Field) (name : List ℕ) (f : RowFieldsData) → IsFree f → IsZero (fill_named_register bank field name f)
 unfolding fill_named_register
@@ -201,7 +201,7 @@ zero_memory r plus offset o f h =
 
 zero_displaced : (r : RowData) (minus : Bool) (size : ℕ) (f : RowFieldsData) → IsFree f → IsZero (with_displacement r minus size f)
 unfolding with_displacement
-zero_displaced r minus size f h = by_test IsZero (displacement_rule r minus size == 15) _ _ (λ e. none_put K (operand_number_modulo (field_bounds r.form).k minus (size / 2)) f h) (λ e. none_broken (displacement_rule r minus size) f h)
+zero_displaced r minus size f h = by_test IsZero (rule_broken_by_displacement r minus size == 15) _ _ (λ e. none_put K (operand_number_modulo (field_bounds r.form).k minus (size / 2)) f h) (λ e. none_broken (rule_broken_by_displacement r minus size) f h)
 
 zero_target : (r : RowData) (v : ValueData) (f : RowFieldsData) → IsFree f → IfSo IsZero (fill_target r v f)
 unfolding fill_target
@@ -227,8 +227,8 @@ zero_absolute r v f h =
     (λ e. by_test (IfSo IsZero) (form_index r.form == 8) _ _ (λ e. if_some IsZero _ (none_broken _ f h)) (λ e. if_some IsZero _ (zero_symbol 2 v f h)))
     (λ e. by_test (IfSo IsZero) (is_half_operand (shape_index v.shape)) _ _ (λ e. if_some IsZero _ (none_broken _ f h)) (λ e. if_none IsZero))))
 
-zero_fill : (r : RowData) (w : Want) (o : OperandData) (f : RowFieldsData) → IsFree f → IfSo IsZero (fill r w o f)
-unfolding fill fill_plain fill_register fill_a10
+zero_fill : (r : RowData) (w : Want) (o : OperandData) (f : RowFieldsData) → IsFree f → IfSo IsZero (fill_operand r w o f)
+unfolding fill_operand fill_plain_operand fill_register check_a10
 zero_fill r (Reg bank field) o f h =
     by_test (IfSo IsZero) o.is_memory _ _ (λ e. if_none IsZero)
     (λ e. by_test (IfSo IsZero) (shape_index o.value.shape == 2) _ _ (λ e. if_some IsZero _ (zero_register bank field o.value.name f h)) (λ e. if_none IsZero))
@@ -252,7 +252,7 @@ none_all r [] (o ∷ os) f h z = if_none IsZero
 none_all r (w ∷ ws) [] f h z = if_none IsZero
 none_all r (w ∷ ws) (o ∷ os) f h z =
     let p = and_parts (not (takes r w)) (none_takes r ws) h in
-    then_so (IsKept f) IsZero (fill_operands r ws os) (fill r w o f) (kept_fill r w o f (not_true (takes r w) p.0)) (λ g k. none_all r ws os g p.1 (zero_kept f g z k))
+    then_so (IsKept f) IsZero (fill_operands r ws os) (fill_operand r w o f) (kept_fill r w o f (not_true (takes r w) p.0)) (λ g k. none_all r ws os g p.1 (zero_kept f g z k))
 
 one_all : (r : RowData) (ws : List Want) (os : List OperandData) (f : RowFieldsData) → one_takes r ws ≡ true → IsFree f → IfSo IsZero (fill_operands r ws os f)
 unfolding fill_operands
@@ -261,9 +261,9 @@ one_all r [] (o ∷ os) f h z = if_none IsZero
 one_all r (w ∷ ws) [] f h z = if_none IsZero
 one_all r (w ∷ ws) (o ∷ os) f h z = by (takes r w) refl h (λ g k. one_all r ws os g k)
   where
-    by : (b : Bool) → takes r w ≡ b → cond b (none_takes r ws) (one_takes r ws) ≡ true → ((g : RowFieldsData) → one_takes r ws ≡ true → IsFree g → IfSo IsZero (fill_operands r ws os g)) → IfSo IsZero (option_and_then (fill_operands r ws os) (fill r w o f))
-    by true e none rec = then_so IsZero IsZero (fill_operands r ws os) (fill r w o f) (zero_fill r w o f z) (λ g k. none_all r ws os g none k)
-    by false e one rec = then_so (IsKept f) IsZero (fill_operands r ws os) (fill r w o f) (kept_fill r w o f e) (λ g k. rec g one (free_kept f g z k))
+    by : (b : Bool) → takes r w ≡ b → cond b (none_takes r ws) (one_takes r ws) ≡ true → ((g : RowFieldsData) → one_takes r ws ≡ true → IsFree g → IfSo IsZero (fill_operands r ws os g)) → IfSo IsZero (option_and_then (fill_operands r ws os) (fill_operand r w o f))
+    by true e none rec = then_so IsZero IsZero (fill_operands r ws os) (fill_operand r w o f) (zero_fill r w o f z) (λ g k. none_all r ws os g none k)
+    by false e one rec = then_so (IsKept f) IsZero (fill_operands r ws os) (fill_operand r w o f) (kept_fill r w o f e) (λ g k. rec g one (free_kept f g z k))
 
 zero_apart : (r : RowData) (f : RowFieldsData) → IsZero f → IsZero (note_equal_registers r f)
 zero_apart r f h = by_test IsZero (are_registers_allowed r f.fields) f (with_rule 12 f) (λ e. h) (λ e. zero_kept f (with_rule 12 f) h (kept_broken 12 f))

@@ -4,8 +4,8 @@ use Rattle.tc_isa.specs.Relocations.{word32}
 use Rattle.tc_stmt.specs.SourceRules.{wrong_operands, no_rule, wide_number, misplaced_symbol, past_limits}
 use Rattle.tcd_base.specs.Bytes.{four_bytes}
 use Rattle.tc_lex.specs.Operands.{OperandData}
-use Rattle.tc_stmt.specs.Filling.{reference}
-use Rattle.tc_stmt.specs.Names.{symbol_rule}
+use Rattle.tc_stmt.specs.Filling.{reference_from_value}
+use Rattle.tc_stmt.specs.Names.{rule_broken_by_symbol}
 use Rattle.tc_stmt.specs.OperandForms.{shape_index, is_symbol_operand, is_half_operand, operand_number_modulo, is_number_operand, is_huge_operand}
 use Rattle.tc_stmt.specs.Items.{ItemData, bytes, zeros}
 
@@ -19,34 +19,34 @@ is_value_within_width bits minus size = if minus then nat_le size (2 ^ bits / 2)
 
 -- the least rule that a value of `.byte`, `.half` or `.word`, of this many bytes, breaks; 15 is
 -- none
-unfoldable pub value_rule : ℕ → OperandData → ℕ
-value_rule width o =
+unfoldable pub rule_broken_by_value : ℕ → OperandData → ℕ
+rule_broken_by_value width o =
     if o.is_memory then wrong_operands
     else (if is_number_operand o.value.shape then (if is_value_within_width (8 * width) o.value.minus o.value.size then no_rule else wide_number)
     else (if is_huge_operand o.value.shape then wide_number
-    else (if is_symbol_operand (shape_index o.value.shape) then (if width == 4 then symbol_rule o.value else min misplaced_symbol (symbol_rule o.value))
-    else (if is_half_operand (shape_index o.value.shape) then min misplaced_symbol (symbol_rule o.value) else wrong_operands))))
+    else (if is_symbol_operand (shape_index o.value.shape) then (if width == 4 then rule_broken_by_symbol o.value else min misplaced_symbol (rule_broken_by_symbol o.value))
+    else (if is_half_operand (shape_index o.value.shape) then min misplaced_symbol (rule_broken_by_symbol o.value) else wrong_operands))))
 
 -- the item for a value of `.byte`, `.half` or `.word`, of this many bytes: the lowest byte first,
 -- and zeros if it breaks a rule
 unfoldable pub value_item : ℕ → OperandData → ItemData
 value_item width o =
-    if not (value_rule width o == no_rule) then zeros width
+    if not (rule_broken_by_value width o == no_rule) then zeros width
     else (if is_number_operand o.value.shape then bytes (take width (four_bytes (operand_number_modulo (2 ^ 32) o.value.minus o.value.size))) None
-    else bytes (take width (0 ∷ 0 ∷ 0 ∷ 0 ∷ [])) (Some (reference word32 o.value)))
+    else bytes (take width (0 ∷ 0 ∷ 0 ∷ 0 ∷ [])) (Some (reference_from_value word32 o.value)))
 
 -- the least rule that the operand of `.space` breaks by itself
-unfoldable pub space_rule : OperandData → ℕ
-space_rule o =
+unfoldable pub rule_broken_by_space : OperandData → ℕ
+rule_broken_by_space o =
     if o.is_memory then wrong_operands
     else (if is_number_operand o.value.shape then (if o.value.minus && not (o.value.size == 0) then wide_number else (if nat_le o.value.size (2 ^ 24) then no_rule else past_limits))
     else (if is_huge_operand o.value.shape then wide_number
-    else (if is_symbol_operand (shape_index o.value.shape) || is_half_operand (shape_index o.value.shape) then min misplaced_symbol (symbol_rule o.value) else wrong_operands)))
+    else (if is_symbol_operand (shape_index o.value.shape) || is_half_operand (shape_index o.value.shape) then min misplaced_symbol (rule_broken_by_symbol o.value) else wrong_operands)))
 
 -- the item for `.space`: zeros, and none of them if a rule is broken
 unfoldable pub space_item : OperandData → ItemData
-space_item o = zeros (if space_rule o == no_rule then o.value.size else 0)
+space_item o = zeros (if rule_broken_by_space o == no_rule then o.value.size else 0)
 
 -- the least rule that the values of `.byte`, `.half` or `.word` break; no values break rule 3
-unfoldable pub values_rule : ℕ → List OperandData → ℕ
-values_rule width os = fold (λ rule o. min rule (value_rule width o)) (if length os == 0 then wrong_operands else no_rule) os
+unfoldable pub rule_broken_by_values : ℕ → List OperandData → ℕ
+rule_broken_by_values width os = fold (λ rule o. min rule (rule_broken_by_value width o)) (if length os == 0 then wrong_operands else no_rule) os

@@ -7,7 +7,7 @@ use Rattle.tc_isa.specs.declared.table.Form.{Form}
 use Rattle.tc_isa.specs.Forms.{field_bounds, is_sbr_form, is_b_form}
 use Rattle.tc_stmt.specs.declared.want.Field.TheVariants.{K}
 use Rattle.tc_stmt.specs.OperandForms.{operand_number_modulo}
-use Rattle.tc_stmt.specs.RowFields.{RowFieldsData, with_rule, with_value}
+use Rattle.tc_stmt.specs.RowFields.{RowFieldsData, with_rule, with_field_value}
 
 -- `size` bytes, backwards if `minus`, are too far for a row of this form, whose field has `bound`
 -- values; SBR (form 13) only reaches forwards
@@ -22,14 +22,14 @@ abbrev pub is_odd_displacement : ℕ → Bool
 is_odd_displacement size = size % 2 == 1
 
 -- the least rule that a displacement of this many bytes breaks
-unfoldable pub displacement_rule : RowData → Bool → ℕ → ℕ
-displacement_rule r minus size =
+unfoldable pub rule_broken_by_displacement : RowData → Bool → ℕ → ℕ
+rule_broken_by_displacement r minus size =
     min (if is_far_displacement r.form (field_bounds r.form).k minus size then (if is_32_bit_row r then wide_number else far_target) else no_rule) (if is_odd_displacement size then odd_displacement else no_rule)
 
 -- a row's fields after a jump's displacement of this many bytes fills one of them, or breaks a rule
 unfoldable pub with_displacement : RowData → Bool → ℕ → RowFieldsData → RowFieldsData
 with_displacement r minus size acc =
-    if displacement_rule r minus size == no_rule then with_value K (operand_number_modulo (field_bounds r.form).k minus (size / 2)) acc else with_rule (displacement_rule r minus size) acc
+    if rule_broken_by_displacement r minus size == no_rule then with_field_value K (operand_number_modulo (field_bounds r.form).k minus (size / 2)) acc else with_rule (rule_broken_by_displacement r minus size) acc
 
 -- the relocation of an operand that names the target of a jump or call instead of giving a
 -- displacement: rel24 in a B row, rel15 in other rows of 32 bits, and none in rows of 16 bits

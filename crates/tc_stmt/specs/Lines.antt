@@ -10,12 +10,12 @@ use Rattle.tc_lex.specs.Cut.{tokens_of}
 use Rattle.tc_isa.specs.Rows.{is_32_bit_row}
 use Rattle.tc_stmt.specs.RowIndex.{row_of_name}
 use Rattle.tc_lex.specs.Pieces.{PieceData, is_token_kind, token_text, piece_of_token as with_text}
-use Rattle.tc_lex.specs.Operands.{OperandData, operands}
+use Rattle.tc_lex.specs.Operands.{OperandData, operands_of_tokens}
 use Rattle.tc_stmt.specs.RowFields.{RowFieldsData}
 use Rattle.tc_stmt.specs.OperandForms.{is_name_operand}
-use Rattle.tc_stmt.specs.StatementRow.{statement}
+use Rattle.tc_stmt.specs.StatementRow.{row_of_statement}
 use Rattle.tc_stmt.specs.Items.{ItemData, label, section, global, code, zeros}
-use Rattle.tc_stmt.specs.DataValues.{value_item, space_rule, space_item, values_rule}
+use Rattle.tc_stmt.specs.DataValues.{value_item, rule_broken_by_space, space_item, rule_broken_by_values}
 
 -- the least rule that a line breaks by itself (15 is none), and the items that it adds to its
 -- source
@@ -51,13 +51,13 @@ named_line make os = option_map_or (λ name. line_data no_rule (make name ∷ []
 -- operands break rule 3
 unfoldable pub space_line : List OperandData → LineData
 space_line [] = line_data wrong_operands (zeros 0 ∷ [])
-space_line (o ∷ []) = line_data (space_rule o) (space_item o ∷ [])
+space_line (o ∷ []) = line_data (rule_broken_by_space o) (space_item o ∷ [])
 space_line (o ∷ p ∷ os) = line_data wrong_operands (zeros 0 ∷ [])
 
 -- the meaning of a line that is `.byte`, `.half` or `.word`: the rule that the line breaks, and an
 -- item for each of its values of this many bytes
 unfoldable pub values_line : ℕ → List OperandData → LineData
-values_line width os = line_data (values_rule width os) (map (value_item width) os)
+values_line width os = line_data (rule_broken_by_values width os) (map (value_item width) os)
 
 -- the number of zeros that a line adds if its instruction breaks a rule: the size in bytes of the
 -- instructions with its name, or 0 if there are none
@@ -79,7 +79,7 @@ statement_line name os =
     else (if bytes_eq name (codes ".half") then values_line 2 os
     else (if bytes_eq name (codes ".word") then values_line 4 os
     else (if bytes_eq name (codes ".space") then space_line os
-    else code_line name (statement name os))))))
+    else code_line name (row_of_statement name os))))))
 
 -- ---- lines
 -- the meaning of a line's tokens from this place on: nothing, or a statement's name and its
@@ -87,7 +87,7 @@ statement_line name os =
 unfoldable pub line_from : List PieceData → ℕ → LineData
 line_from ps at =
     if length ps == at then line_data no_rule []
-    else (if is_token_kind ps at kind.Word then statement_line (token_text ps at) (operands (drop (at + 1) ps)) else line_data bad_token [])
+    else (if is_token_kind ps at kind.Word then statement_line (token_text ps at) (operands_of_tokens (drop (at + 1) ps)) else line_data bad_token [])
 
 -- the line begins with a label: a word and a `:`
 abbrev pub has_label : List PieceData → Bool
@@ -111,23 +111,23 @@ unfoldable pub label_of : List PieceData → List ItemData
 label_of ps = if has_label ps then label (token_text ps 0) ∷ [] else []
 
 -- the label at the start of a text with these tokens, if there is one
-abbrev pub label_before : List ℕ → Result (List Token) ℕ → List ItemData
-label_before text (Ok ts) = label_of (map (line_token_with_text text) ts)
-label_before text (Err at) = []
+abbrev pub label_of_text : List ℕ → Result (List Token) ℕ → List ItemData
+label_of_text text (Ok ts) = label_of (map (line_token_with_text text) ts)
+label_of_text text (Err at) = []
 
 -- the line with these tokens; a line that can't be cut breaks rule 1, but the label before the
 -- fault still defines its name
 abbrev pub meaning_of_cut_line : List ℕ → Result (List Token) ℕ → LineData
 meaning_of_cut_line line (Ok ts) = tokens_line (map (line_token_with_text line) ts)
-meaning_of_cut_line line (Err at) = line_data bad_token (label_before (take at line) (tokens_of (take at line)))
+meaning_of_cut_line line (Err at) = line_data bad_token (label_of_text (take at line) (tokens_of (take at line)))
 
 -- the meaning of a line's text by itself: a byte outside the grammar or a 65th token breaks rule 1
-abbrev pub line_in : List ℕ → LineData
-line_in line = meaning_of_cut_line line (tokens_of line)
+abbrev pub line_of_text : List ℕ → LineData
+line_of_text line = meaning_of_cut_line line (tokens_of line)
 
 -- the lines of a source, separated by line feeds
 abbrev pub lines_in : List ℕ → List LineData
-lines_in source = map line_in (slice_split (λ c. c == 10) source)
+lines_in source = map line_of_text (slice_split (λ c. c == 10) source)
 
 -- the items that the meanings of these lines add to a source, in order, one line after another
 abbrev pub items_in : List LineData → List ItemData

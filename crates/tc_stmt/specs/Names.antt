@@ -11,5 +11,5 @@ is_source_name bs = is_some (object_name_of bs) && not (bytes_eq bs (codes "."))
 
 -- the least rule that a symbol in an operand breaks in every place: its name must be one for
 -- sources, and the number added to it below 2^32
-unfoldable pub symbol_rule : ValueData → ℕ
-symbol_rule v = if v.wide || nat_le (2 ^ 32) v.size then wide_number else (if is_source_name v.name then no_rule else bad_name)
+unfoldable pub rule_broken_by_symbol : ValueData → ℕ
+rule_broken_by_symbol v = if v.wide || nat_le (2 ^ 32) v.size then wide_number else (if is_source_name v.name then no_rule else bad_name)

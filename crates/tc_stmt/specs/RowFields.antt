@@ -44,5 +44,5 @@ field_of N f = f.n
 field_of K f = f.k
 
 -- the row's fields so far, with this value in one of them
-abbrev pub with_value : Field → ℕ → RowFieldsData → RowFieldsData
-with_value field v acc = record acc { fields = set_field field v acc.fields }
+abbrev pub with_field_value : Field → ℕ → RowFieldsData → RowFieldsData
+with_field_value field v acc = record acc { fields = set_field field v acc.fields }

@@ -14,22 +14,22 @@ row_of_name name = find (λ (r : RowData). bytes_eq r.name name) table_rows
 
 -- none of the first n rows has a name with this key, so that a search for a statement's name can
 -- skip them
-abbrev pub are_rows_without_key : ℕ → ℕ → List RowData → Bool
-are_rows_without_key zero k rs = true
-are_rows_without_key (suc n) k [] = true
-are_rows_without_key (suc n) k (r ∷ rs) = not (name_key r.name == k) && are_rows_without_key n k rs
+abbrev pub are_first_without_key : ℕ → ℕ → List RowData → Bool
+are_first_without_key zero k rs = true
+are_first_without_key (suc n) k [] = true
+are_first_without_key (suc n) k (r ∷ rs) = not (name_key r.name == k) && are_first_without_key n k rs
 
 -- the index of rows by the keys of their names is right: each place is after that of its row, and
 -- no row between them has the same key
 abbrev pub are_next_rows : ℕ → List RowData → List ℕ → Bool
 are_next_rows i [] ns = true
 are_next_rows i (r ∷ rs) [] = false
-are_next_rows i (r ∷ rs) (n ∷ ns) = nat_lt i n && are_rows_without_key (n - (i + 1)) (name_key r.name) rs && are_next_rows (i + 1) rs ns
+are_next_rows i (r ∷ rs) (n ∷ ns) = nat_lt i n && are_first_without_key (n - (i + 1)) (name_key r.name) rs && are_next_rows (i + 1) rs ns
 
 -- the index of first rows is right: no row before the place for a key, from k on, has this key
 abbrev pub are_first_rows : ℕ → List RowData → List ℕ → Bool
 are_first_rows k rs [] = true
-are_first_rows k rs (n ∷ ns) = are_rows_without_key n k rs && are_first_rows (k + 1) rs ns
+are_first_rows k rs (n ∷ ns) = are_first_without_key n k rs && are_first_rows (k + 1) rs ns
 
 -- the index of first rows is right for all keys: no row before the place for a key has this key
 abbrev pub IsFirstRowIndex : List RowData → List ℕ → Type 0

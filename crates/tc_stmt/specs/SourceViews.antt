@@ -23,5 +23,5 @@ pub record AreReadLines (lines : List Line) (items : List Item) (ls : List LineD
 
 -- the code read one more line of a source: it returned the line's rule, and in the plain data the
 -- line's items come after those before
-abbrev pub AddsLine : {E : Type 0} → LineData → Result ℕ E → List Item → List Item → Type 0
-AddsLine l result old new = IfOk result (λ rule. line_data rule (map item_of new) ≡ line_after_items (map item_of old) l)
+abbrev pub GivesRuleAndAddsItems : {E : Type 0} → LineData → Result ℕ E → List Item → List Item → Type 0
+GivesRuleAndAddsItems l result old new = IfOk result (λ rule. line_data rule (map item_of new) ≡ line_after_items (map item_of old) l)

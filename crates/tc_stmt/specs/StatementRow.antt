@@ -24,8 +24,8 @@ row_outcome name os r t =
     else Err t
 
 -- the least rule that is broken if no row fits
-abbrev pub tally_rule : Tally → ℕ
-tally_rule t = if t.named then (if t.fits then t.least else wrong_operands) else unknown_statement
+abbrev pub rule_broken_by_statement : Tally → ℕ
+rule_broken_by_statement t = if t.named then (if t.fits then t.least else wrong_operands) else unknown_statement
 
 -- the row of this number if the statement fits it, else the outcome of the next rows
 abbrev pub found_row_or_next : Result RowFieldsData Tally → ℕ → (Tally → Result (ℕ × RowFieldsData) ℕ) → Result (ℕ × RowFieldsData) ℕ
@@ -35,7 +35,7 @@ found_row_or_next (Err t) place next = next t
 -- the first of these rows, numbered from this place on, that the statement fits, or the least rule
 -- that it breaks
 unfoldable pub statement_outcome : List ℕ → List OperandData → List RowData → ℕ → Tally → Result (ℕ × RowFieldsData) ℕ
-statement_outcome name os [] place t = Err (tally_rule t)
+statement_outcome name os [] place t = Err (rule_broken_by_statement t)
 statement_outcome name os (r ∷ rs) place t = found_row_or_next (row_outcome name os r t) place (statement_outcome name os rs (place + 1))
 
 -- the number of the first of these rows that the statement fits, with the fields, or the least rule
@@ -44,8 +44,8 @@ abbrev pub first_fitting_row : List ℕ → List OperandData → List RowData �
 first_fitting_row name os rows = statement_outcome name os rows 0 empty_tally
 
 -- the first row of this name that fits the operands and breaks no rule, or the least rule broken
-abbrev pub statement : List ℕ → List OperandData → Result (ℕ × RowFieldsData) ℕ
-statement name os = first_fitting_row name os table_rows
+abbrev pub row_of_statement : List ℕ → List OperandData → Result (ℕ × RowFieldsData) ℕ
+row_of_statement name os = first_fitting_row name os table_rows
 
 -- the code's answer for a row is this: the fields in the record, or the tally after the row
 abbrev pub GivesRowOutcome : {U : Type 0} → Result U Tally → RowFields → Result RowFieldsData Tally → Type 0

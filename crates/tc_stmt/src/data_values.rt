@@ -4,7 +4,7 @@ ghost use Rattle.tcd_base.specs.Bytes.{four_bytes};
 ghost use Rattle.tc_lex.specs.Operands.{operand_of};
 ghost use Rattle.tc_stmt.specs.Items.{item_of};
 ghost use Rattle.tc_stmt.specs.OperandForms.{shape_index, operand_number_modulo};
-ghost use Rattle.tc_stmt.specs.DataValues.{IsDataWidth, is_value_within_width, value_rule, value_item, space_rule, space_item, values_rule};
+ghost use Rattle.tc_stmt.specs.DataValues.{IsDataWidth, is_value_within_width, rule_broken_by_value, value_item, rule_broken_by_space, space_item, rule_broken_by_values};
 ghost use Rattle.tc_stmt.specs.SourceRules.{no_rule, wrong_operands};
 
 use crate::item::Item;
@@ -16,10 +16,10 @@ use tc_lex::Operand;
 
 /// The least rule that a value of `.byte`, `.half` or `.word` breaks, or no rule. `width` is its
 /// number of bytes.
-#[tactic(auto, unfolding(crate::specs::DataValues::value_rule))]
+#[tactic(auto, unfolding(crate::specs::DataValues::rule_broken_by_value))]
 pub(crate) fn rule_broken_by_value(width: u8, o: &Operand<'_>) -> u8
     requires { IsDataWidth width }
-    ensures value { result ≡ value_rule width (operand_of o.now) }
+    ensures value { result ≡ rule_broken_by_value width (operand_of o.now) }
     ensures small { result ≡ no_rule → o.now.value.size < 2 ^ 32 }
 {
     let shape = shape_index(o.value.shape);
@@ -51,7 +51,7 @@ pub(crate) fn rule_broken_by_value(width: u8, o: &Operand<'_>) -> u8
 /// are zeros if the value breaks `rule`.
 #[tactic(auto, unfolding(crate::specs::DataValues::value_item))]
 pub(crate) fn value_item<'a>(rule: u8, width: u8, o: &Operand<'a>) -> Item<'a>
-    requires rule { rule ≡ value_rule width (operand_of o.now) }
+    requires rule { rule ≡ rule_broken_by_value width (operand_of o.now) }
     requires small { rule ≡ no_rule → o.now.value.size < 2 ^ 32 }
     ensures { item_of result ≡ value_item width (operand_of o.now) }
 {
@@ -67,9 +67,9 @@ pub(crate) fn value_item<'a>(rule: u8, width: u8, o: &Operand<'a>) -> Item<'a>
 
 /// Returns the least rule that the operand of the data `.space N` breaks by itself, or no rule: N
 /// may be negative, too large or no number.
-#[tactic(auto, unfolding(crate::specs::DataValues::space_rule))]
+#[tactic(auto, unfolding(crate::specs::DataValues::rule_broken_by_space))]
 pub(crate) fn rule_broken_by_space(o: &Operand<'_>) -> u8
-    ensures value { result ≡ space_rule (operand_of o.now) }
+    ensures value { result ≡ rule_broken_by_space (operand_of o.now) }
     ensures small { result ≡ no_rule → o.now.value.size ≤ 2 ^ 24 }
 {
     let shape = shape_index(o.value.shape);
@@ -117,14 +117,14 @@ pub(crate) fn rule_broken_by_missing_values(os: &[Operand<'_>]) -> u8
 
 /// Adds an item of `width` bytes for each of these values of `.byte`, `.half` or `.word`. Returns
 /// the least rule that they break, or no rule.
-#[tactic(auto, unfolding(crate::specs::DataValues::values_rule))]
+#[tactic(auto, unfolding(crate::specs::DataValues::rule_broken_by_values))]
 pub(crate) fn add_values<'a>(
     width: u8,
     os: &[Operand<'a>],
     items: &mut Vec<Item<'a>>,
 ) -> Result<u8, AllocError>
     requires { IsDataWidth width }
-    ensures rule { IfOk result (λ rule. rule ≡ values_rule width (map operand_of os.now)) }
+    ensures rule { IfOk result (λ rule. rule ≡ rule_broken_by_values width (map operand_of os.now)) }
     ensures items { OnOk result (map item_of items.new.items
         ≡ map item_of items.old.items ++ map (value_item width) (map operand_of os.now)) }
 {

@@ -5,8 +5,8 @@ ghost use Rattle.tc_isa.specs.Forms.{field_bounds};
 ghost use Rattle.tc_lex.specs.Operands.{value_of, operand_of};
 ghost use Rattle.tc_stmt.specs.SourceRules.{no_rule};
 ghost use Rattle.tc_stmt.specs.RowFields.{row_fields_of, field_of};
-ghost use Rattle.tc_stmt.specs.Filling.{GivesFilledFields, fill_named_register, fill_number, half_operand_relocation, fill_constant, fill_memory, fill_target, fill_address, fill_absolute, fill_register, fill_a10, fill_plain, fill, fill_operands, is_within_field_bound, is_named_row};
-ghost use Rattle.tc_stmt.specs.Displacements.{displacement_rule, with_displacement, target_operand_relocation, is_far_displacement};
+ghost use Rattle.tc_stmt.specs.Filling.{GivesFieldsOrFalse, fill_named_register, fill_number, half_operand_relocation, fill_constant, fill_memory, fill_target, fill_address, fill_absolute, fill_register, check_a10, fill_plain_operand, fill_operand, fill_operands, is_within_field_bound, is_row_named};
+ghost use Rattle.tc_stmt.specs.Displacements.{rule_broken_by_displacement, with_displacement, target_operand_relocation, is_far_displacement};
 ghost use Rattle.tc_stmt.specs.OperandForms.{register_number, operand_number_modulo};
 
 use crate::form_index::{ABS, B, BOL, SBR, form_index};
@@ -41,10 +41,10 @@ pub fn with_displacement<'a>(
 
 /// Fills a row's fields with an operand of the kind that the row wants there. Returns false if the
 /// operand has another form.
-#[tactic(auto, unfolding(crate::specs::Filling::fill, crate::specs::Filling::fill_plain))]
+#[tactic(auto, unfolding(crate::specs::Filling::fill_operand, crate::specs::Filling::fill_plain_operand))]
 pub(crate) fn fill_operand<'a>(row: &Row, want: Want, o: &Operand<'a>, acc: &mut RowFields<'a>) -> bool
-    ensures { GivesFilledFields result acc.new
-        (fill (row_of row.now) want (operand_of o.now) (row_fields_of acc.old)) }
+    ensures { GivesFieldsOrFalse result acc.new
+        (fill_operand (row_of row.now) want (operand_of o.now) (row_fields_of acc.old)) }
 {
     if let Want::Memory(plus, offset) = want {
         return fill_memory(row, plus, offset, o, acc);
@@ -70,7 +70,7 @@ pub(crate) fn fill_operands<'a>(
     os: &[Operand<'a>],
     acc: &mut RowFields<'a>,
 ) -> bool
-    ensures { GivesFilledFields result acc.new
+    ensures { GivesFieldsOrFalse result acc.new
         (fill_operands (row_of row.now) wants.now (map operand_of os.now) (row_fields_of acc.old)) }
 {
     if wants.len() != os.len() {
@@ -104,9 +104,9 @@ fn fill_displacement(row: &Row, minus: bool, size: u128, acc: &mut RowFields<'_>
 }
 
 // The least rule that a displacement of `size` bytes, backwards if `minus`, breaks, or no rule.
-#[tactic(auto, unfolding(crate::specs::Displacements::displacement_rule))]
+#[tactic(auto, unfolding(crate::specs::Displacements::rule_broken_by_displacement))]
 fn rule_broken_by_displacement(row: &Row, minus: bool, size: u128) -> u8
-    ensures value { result ≡ displacement_rule (row_of row.now) minus size }
+    ensures value { result ≡ rule_broken_by_displacement (row_of row.now) minus size }
     ensures near { result ≡ no_rule → size ≤ 2 * (field_bounds row.now.form).k }
 {
     let by_odd = if size % 2 == 1 {
@@ -181,7 +181,7 @@ fn fill_memory<'a>(
     o: &Operand<'a>,
     acc: &mut RowFields<'a>,
 ) -> bool
-    ensures { GivesFilledFields result acc.new
+    ensures { GivesFieldsOrFalse result acc.new
         (fill_memory (row_of row.now) plus offset (operand_of o.now) (row_fields_of acc.old)) }
 {
     if o.is_memory && (if o.plus { plus } else { !plus }) {
@@ -203,7 +203,7 @@ fn fill_memory<'a>(
 /// Returns false if the operand has another form.
 #[tactic(auto, unfolding(crate::specs::Filling::fill_register))]
 fn fill_register(bank: bool, field: Field, v: &Value<'_>, acc: &mut RowFields<'_>) -> bool
-    ensures { GivesFilledFields result acc.new
+    ensures { GivesFieldsOrFalse result acc.new
         (fill_register bank field (value_of v.now) (row_fields_of acc.old)) }
 {
     if shape_index(v.shape) == WORD {
@@ -216,9 +216,9 @@ fn fill_register(bank: bool, field: Field, v: &Value<'_>, acc: &mut RowFields<'_
 
 /// Takes the operand a10, which no field holds; another name breaks rule 4. Returns false if the
 /// operand has another form.
-#[tactic(auto, unfolding(crate::specs::Filling::fill_a10))]
+#[tactic(auto, unfolding(crate::specs::Filling::check_a10))]
 fn check_a10(v: &Value<'_>, acc: &mut RowFields<'_>) -> bool
-    ensures { GivesFilledFields result acc.new (fill_a10 (value_of v.now) (row_fields_of acc.old)) }
+    ensures { GivesFieldsOrFalse result acc.new (check_a10 (value_of v.now) (row_fields_of acc.old)) }
 {
     if shape_index(v.shape) == WORD {
         if !is_same_text(v.name, "a10") {
@@ -240,7 +240,7 @@ fn fill_constant<'a>(
     v: &Value<'a>,
     acc: &mut RowFields<'a>,
 ) -> bool
-    ensures { GivesFilledFields result acc.new
+    ensures { GivesFieldsOrFalse result acc.new
         (fill_constant (row_of row.now) signed field (value_of v.now) (row_fields_of acc.old)) }
 {
     let shape = shape_index(v.shape);
@@ -270,7 +270,7 @@ fn fill_constant<'a>(
 /// operand has another form.
 #[tactic(auto, unfolding(crate::specs::Filling::fill_target))]
 fn fill_target<'a>(row: &Row, v: &Value<'a>, acc: &mut RowFields<'a>) -> bool
-    ensures { GivesFilledFields result acc.new
+    ensures { GivesFieldsOrFalse result acc.new
         (fill_target (row_of row.now) (value_of v.now) (row_fields_of acc.old)) }
 {
     let shape = shape_index(v.shape);
@@ -296,7 +296,7 @@ fn fill_target<'a>(row: &Row, v: &Value<'a>, acc: &mut RowFields<'a>) -> bool
 /// operand has another form.
 #[tactic(auto, unfolding(crate::specs::Filling::fill_absolute))]
 fn fill_absolute<'a>(row: &Row, v: &Value<'a>, acc: &mut RowFields<'a>) -> bool
-    ensures { GivesFilledFields result acc.new
+    ensures { GivesFieldsOrFalse result acc.new
         (fill_absolute (row_of row.now) (value_of v.now) (row_fields_of acc.old)) }
 {
     let shape = shape_index(v.shape);
@@ -436,7 +436,7 @@ fn is_within_field_bound(signed: bool, bound: u32, minus: bool, size: u128) -> b
 
 /// Returns true if this row, whose fields an operand is to fill, has this name.
 fn is_row_named(row: &Row, name: &str) -> bool
-    ensures { result ≡ is_named_row (row_of row.now) name.now }
+    ensures { result ≡ is_row_named (row_of row.now) name.now }
 {
     is_same_text(row.name.as_bytes(), name)
 }

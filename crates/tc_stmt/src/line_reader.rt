@@ -2,14 +2,14 @@
 ghost use Rattle.std.specs.Prelude.{◌≡◌, ◌++◌, OnOk, IfOk, ◌≤◌, ◌<◌, ◌+◌, map, length, drop, true, [], ◌∷◌, ◌==◌};
 ghost use Rattle.std.specs.Option.{option_copied};
 ghost use Rattle.tc_lex.specs.Cut.{tokens_of};
-ghost use Rattle.tc_stmt.specs.StatementRow.{statement};
+ghost use Rattle.tc_stmt.specs.StatementRow.{row_of_statement};
 ghost use Rattle.tc_lex.specs.Pieces.{piece_of, token_text};
-ghost use Rattle.tc_lex.specs.Operands.{operand_of, operands as operands_in};
+ghost use Rattle.tc_lex.specs.Operands.{operand_of, operands_of_tokens as operands_in};
 ghost use Rattle.tc_stmt.specs.Items.{item_of, label, section, global, code, reference_if_any};
-ghost use Rattle.tc_stmt.specs.DataValues.{IsDataWidth, space_rule, space_item};
-ghost use Rattle.tc_stmt.specs.Lines.{line_data, named_line, is_unbracketed_name, only_operand_name, space_line, values_line, instruction_size, statement_line, line_from, line_with_label, tokens_line, has_label, label_of, label_before, line_in, code_line};
+ghost use Rattle.tc_stmt.specs.DataValues.{IsDataWidth, rule_broken_by_space, space_item};
+ghost use Rattle.tc_stmt.specs.Lines.{line_data, named_line, is_unbracketed_name, only_operand_name, space_line, values_line, instruction_size, statement_line, line_from, line_with_label, tokens_line, has_label, label_of, label_of_text, line_of_text, code_line};
 ghost use Rattle.tc_stmt.specs.SourceRules.{bad_token};
-ghost use Rattle.tc_stmt.specs.SourceViews.{AddsLine};
+ghost use Rattle.tc_stmt.specs.SourceViews.{GivesRuleAndAddsItems};
 
 use crate::data_values::{add_values, space_item, rule_broken_by_space};
 use crate::item::Item;
@@ -33,10 +33,10 @@ pub(crate) fn read_line<'a>(
     operands: &mut Scratch<Operand<'a>, 65>,
     items: &mut Vec<Item<'a>>,
 ) -> Result<Line, AllocError>
-    ensures rule { IfOk result (λ l. l.rule ≡ (line_in line.now).rule) }
-    ensures count { IfOk result (λ l. l.count ≡ length (line_in line.now).items) }
+    ensures rule { IfOk result (λ l. l.rule ≡ (line_of_text line.now).rule) }
+    ensures count { IfOk result (λ l. l.count ≡ length (line_of_text line.now).items) }
     ensures items { OnOk result
-        (map item_of items.new.items ≡ map item_of items.old.items ++ (line_in line.now).items) }
+        (map item_of items.new.items ≡ map item_of items.old.items ++ (line_of_text line.now).items) }
 {
     if line.is_empty() {
         return Ok(Line {
@@ -59,7 +59,7 @@ fn read_line_items<'a>(
     operands: &mut Scratch<Operand<'a>, 65>,
     items: &mut Vec<Item<'a>>,
 ) -> Result<u8, AllocError>
-    ensures { AddsLine (line_in line.now) result items.old.items items.new.items }
+    ensures { GivesRuleAndAddsItems (line_of_text line.now) result items.old.items items.new.items }
 {
     match tokenize_line(line, pieces) {
         Ok(()) => read_line_of_tokens(pieces.as_slice(), operands, items),
@@ -76,7 +76,7 @@ fn read_line_of_tokens<'a>(
     items: &mut Vec<Item<'a>>,
 ) -> Result<u8, AllocError>
     requires { length ps.now ≤ 64 }
-    ensures { AddsLine (tokens_line (map piece_of ps.now)) result items.old.items items.new.items }
+    ensures { GivesRuleAndAddsItems (tokens_line (map piece_of ps.now)) result items.old.items items.new.items }
 {
     if has_label(ps) {
         read_labelled_line(ps, operands, items)
@@ -93,8 +93,8 @@ fn read_uncut_line<'a>(
     pieces: &mut Scratch<Piece<'a>, 64>,
     items: &mut Vec<Item<'a>>,
 ) -> Result<u8, AllocError>
-    ensures { AddsLine (line_data bad_token
-        (label_before front.now (tokens_of front.now))) result items.old.items items.new.items }
+    ensures { GivesRuleAndAddsItems (line_data bad_token
+        (label_of_text front.now (tokens_of front.now))) result items.old.items items.new.items }
 {
     match tokenize_line(front, pieces) {
         Ok(()) => add_label_before_fault(pieces.as_slice(), items),
@@ -119,7 +119,7 @@ fn read_labelled_line<'a>(
 ) -> Result<u8, AllocError>
     requires few { length ps.now ≤ 64 }
     requires label { 2 ≤ length ps.now }
-    ensures { AddsLine (line_with_label (token_text (map piece_of ps.now) 0)
+    ensures { GivesRuleAndAddsItems (line_with_label (token_text (map piece_of ps.now) 0)
         (line_from (map piece_of ps.now) 2))
         result items.old.items items.new.items }
 {
@@ -137,7 +137,7 @@ fn read_line_from<'a>(
 ) -> Result<u8, AllocError>
     requires few { length ps.now ≤ 64 }
     requires place { at ≤ length ps.now }
-    ensures { AddsLine (line_from (map piece_of ps.now) at) result items.old.items items.new.items }
+    ensures { GivesRuleAndAddsItems (line_from (map piece_of ps.now) at) result items.old.items items.new.items }
 {
     if ps.len() == at {
         rule_without_items(NO_RULE, items)
@@ -159,7 +159,7 @@ fn add_label<'a>(name: &'a [u8], items: &mut Vec<Item<'a>>) -> Result<(), AllocE
 
 // Returns `rule` for a line that adds no items. `items` stay as they are.
 fn rule_without_items(rule: u8, items: &mut Vec<Item<'_>>) -> Result<u8, AllocError>
-    ensures { AddsLine (line_data rule []) result items.old.items items.new.items }
+    ensures { GivesRuleAndAddsItems (line_data rule []) result items.old.items items.new.items }
 {
     Ok(rule)
 }
@@ -173,7 +173,7 @@ fn read_statement_at<'a>(
 ) -> Result<u8, AllocError>
     requires few { length ps.now ≤ 64 }
     requires place { at < length ps.now }
-    ensures { AddsLine (statement_line (token_text (map piece_of ps.now) at)
+    ensures { GivesRuleAndAddsItems (statement_line (token_text (map piece_of ps.now) at)
         (operands_in (drop (at + 1) (map piece_of ps.now))))
         result items.old.items items.new.items }
 {
@@ -197,7 +197,7 @@ fn read_statement_line<'a>(
     os: &[Operand<'a>],
     items: &mut Vec<Item<'a>>,
 ) -> Result<u8, AllocError>
-    ensures { AddsLine (statement_line name.now
+    ensures { GivesRuleAndAddsItems (statement_line name.now
         (map operand_of os.now)) result items.old.items items.new.items }
 {
     if is_same_text(name, ".section") {
@@ -228,7 +228,7 @@ fn tokens_after_name<'p, 'a>(ps: &'p [Piece<'a>], at: usize) -> &'p [Piece<'a>]
 /// Reads the line `.section NAME`: adds its item, and returns its rule.
 #[tactic(auto, unfolding(crate::specs::Lines::named_line))]
 fn read_section_line<'a>(os: &[Operand<'a>], items: &mut Vec<Item<'a>>) -> Result<u8, AllocError>
-    ensures { AddsLine (named_line section
+    ensures { GivesRuleAndAddsItems (named_line section
         (map operand_of os.now)) result items.old.items items.new.items }
 {
     match only_operand_name(os) {
@@ -240,7 +240,7 @@ fn read_section_line<'a>(os: &[Operand<'a>], items: &mut Vec<Item<'a>>) -> Resul
 /// Reads the line `.global NAME`: adds its item, and returns its rule.
 #[tactic(auto, unfolding(crate::specs::Lines::named_line))]
 fn read_global_line<'a>(os: &[Operand<'a>], items: &mut Vec<Item<'a>>) -> Result<u8, AllocError>
-    ensures { AddsLine (named_line global
+    ensures { GivesRuleAndAddsItems (named_line global
         (map operand_of os.now)) result items.old.items items.new.items }
 {
     match only_operand_name(os) {
@@ -258,7 +258,7 @@ fn read_values_line<'a>(
     items: &mut Vec<Item<'a>>,
 ) -> Result<u8, AllocError>
     requires { IsDataWidth width }
-    ensures { AddsLine (values_line width
+    ensures { GivesRuleAndAddsItems (values_line width
         (map operand_of os.now)) result items.old.items items.new.items }
 {
     let rule = add_values(width, os, items)?;
@@ -268,7 +268,7 @@ fn read_values_line<'a>(
 /// Reads a line that is `.space`, with any operands: adds the item of its zeros, and returns the
 /// rule that the line breaks.
 fn read_space_line<'a>(os: &[Operand<'a>], items: &mut Vec<Item<'a>>) -> Result<u8, AllocError>
-    ensures { AddsLine (space_line (map operand_of os.now)) result items.old.items items.new.items }
+    ensures { GivesRuleAndAddsItems (space_line (map operand_of os.now)) result items.old.items items.new.items }
 {
     if os.len() != 1 {
         return add_item(WRONG_OPERANDS, Item::Zeros(0), items);
@@ -283,8 +283,8 @@ fn read_code_line<'a>(
     os: &[Operand<'a>],
     items: &mut Vec<Item<'a>>,
 ) -> Result<u8, AllocError>
-    ensures { AddsLine (code_line name.now
-        (statement name.now (map operand_of os.now))) result items.old.items items.new.items }
+    ensures { GivesRuleAndAddsItems (code_line name.now
+        (row_of_statement name.now (map operand_of os.now))) result items.old.items items.new.items }
 {
     match row_of_statement(name, os) {
         Ok((row, found)) => add_item(NO_RULE, code_item(row, &found), items),
@@ -310,7 +310,7 @@ fn only_operand_name<'a>(os: &[Operand<'a>]) -> Option<&'a [u8]>
 // Adds one item of a line to those of its source, and returns the rule that the line breaks, or no
 // rule.
 fn add_item<'a>(rule: u8, item: Item<'a>, items: &mut Vec<Item<'a>>) -> Result<u8, AllocError>
-    ensures { AddsLine (line_data rule
+    ensures { GivesRuleAndAddsItems (line_data rule
         (item_of item.entry ∷ [])) result items.old.items items.new.items }
 {
     items.push(item)?;
@@ -328,7 +328,7 @@ fn is_unbracketed_name(o: &Operand<'_>) -> bool
 /// Reads a line that is `.space N`, by its one operand: adds the item of its zeros, and returns the
 /// rule that the line breaks.
 fn read_space_operand<'a>(o: &Operand<'a>, items: &mut Vec<Item<'a>>) -> Result<u8, AllocError>
-    ensures { AddsLine (line_data (space_rule (operand_of o.now))
+    ensures { GivesRuleAndAddsItems (line_data (rule_broken_by_space (operand_of o.now))
         (space_item (operand_of o.now) ∷ []))
         result items.old.items items.new.items }
 {
@@ -361,7 +361,7 @@ fn instruction_size(name: &[u8]) -> u32
 // Adds the label that these tokens begin with, if there is one. Their line breaks rule 1.
 #[tactic(auto, unfolding(crate::specs::Lines::label_of))]
 fn add_label_before_fault<'a>(ps: &[Piece<'a>], items: &mut Vec<Item<'a>>) -> Result<u8, AllocError>
-    ensures { AddsLine (line_data bad_token
+    ensures { GivesRuleAndAddsItems (line_data bad_token
         (label_of (map piece_of ps.now))) result items.old.items items.new.items }
 {
     let name = token_text(ps, 0);
@@ -374,7 +374,7 @@ fn add_label_before_fault<'a>(ps: &[Piece<'a>], items: &mut Vec<Item<'a>>) -> Re
 
 // Adds the label of a line that breaks rule 1.
 fn add_label_of_bad_line<'a>(name: &'a [u8], items: &mut Vec<Item<'a>>) -> Result<u8, AllocError>
-    ensures { AddsLine (line_data bad_token
+    ensures { GivesRuleAndAddsItems (line_data bad_token
         (label name.entry.now ∷ [])) result items.old.items items.new.items }
 {
     add_item(BAD_TOKEN, Item::Label(name), items)

@@ -1,6 +1,6 @@
 // Names in a source, and the rule that a symbol as an operand breaks.
 ghost use Rattle.std.specs.Prelude.{◌≡◌, ◌<◌, ◌^◌};
-ghost use Rattle.tc_stmt.specs.Names.{is_source_name, symbol_rule};
+ghost use Rattle.tc_stmt.specs.Names.{is_source_name, rule_broken_by_symbol};
 ghost use Rattle.tc_stmt.specs.SourceRules.{no_rule};
 ghost use Rattle.tc_lex.specs.Operands.{value_of};
 
@@ -22,9 +22,9 @@ pub fn is_source_name(bytes: &[u8]) -> bool
 
 /// Returns the least rule that an operand's symbol breaks in every place, by its name or by a wide
 /// number added to it, or `NO_RULE`.
-#[tactic(auto, unfolding(crate::specs::Names::symbol_rule))]
+#[tactic(auto, unfolding(crate::specs::Names::rule_broken_by_symbol))]
 pub fn rule_broken_by_symbol(v: &Value<'_>) -> u8
-    ensures value { result ≡ symbol_rule (value_of v.now) }
+    ensures value { result ≡ rule_broken_by_symbol (value_of v.now) }
     ensures small { result ≡ no_rule → v.now.size < 2 ^ 32 }
 {
     if v.wide || 0x1_0000_0000 <= v.size {

@@ -1,10 +1,10 @@
 // The fields of a row, as its operands fill them.
 ghost use Rattle.std.specs.Prelude.{◌≡◌, ◌<◌};
 ghost use Rattle.tc_stmt.specs.Items.{reference_of, reference_to};
-ghost use Rattle.tc_stmt.specs.RowFields.{row_fields_of, zero_fields, with_rule, set_field, field_of, with_value};
+ghost use Rattle.tc_stmt.specs.RowFields.{row_fields_of, zero_fields, with_rule, set_field, field_of, with_field_value};
 ghost use Rattle.tc_lex.specs.Operands.{value_of};
-ghost use Rattle.tc_stmt.specs.Filling.{with_symbol, with_misplaced, note_equal_registers};
-ghost use Rattle.tc_stmt.specs.Names.{symbol_rule};
+ghost use Rattle.tc_stmt.specs.Filling.{with_symbol, with_misplaced_symbol, note_equal_registers};
+ghost use Rattle.tc_stmt.specs.Names.{rule_broken_by_symbol};
 ghost use Rattle.tc_isa.specs.Rows.{row_of};
 
 use crate::names::rule_broken_by_symbol;
@@ -109,7 +109,7 @@ pub fn field_of(field: Field, f: &Fields) -> u32
 
 /// Fills one of a row's fields with a value, modulo 256 in all fields but `k`.
 pub(crate) fn fill_field(field: Field, v: u32, acc: &mut RowFields<'_>)
-    ensures { row_fields_of acc.new ≡ with_value field v (row_fields_of acc.old) }
+    ensures { row_fields_of acc.new ≡ with_field_value field v (row_fields_of acc.old) }
 {
     set_field(field, v, &mut acc.fields);
 }
@@ -136,7 +136,7 @@ pub(crate) fn note_symbol<'a>(kind: u8, v: &Value<'a>, acc: &mut RowFields<'a>)
 
 /// Notes among a row's fields that an operand has a symbol in a place that takes none.
 pub(crate) fn note_misplaced_symbol(v: &Value<'_>, acc: &mut RowFields<'_>)
-    ensures { row_fields_of acc.new ≡ with_misplaced (value_of v.now) (row_fields_of acc.old) }
+    ensures { row_fields_of acc.new ≡ with_misplaced_symbol (value_of v.now) (row_fields_of acc.old) }
 {
     note_broken_rule(MISPLACED_SYMBOL.min(rule_broken_by_symbol(v)), acc);
 }

@@ -2,7 +2,7 @@
 // of a name. The tables are printed by tools/rows.py.
 ghost use Rattle.std.specs.Prelude.{◌≡◌, ◌<◌, ◌+◌, ◌-◌, ◌==◌, List, map, length, drop, true, slice_index, find, option_map};
 ghost use Rattle.tc_isa.specs.Rows.{RowData, row_of, table_rows};
-ghost use Rattle.tc_stmt.specs.RowIndex.{name_key, row_of_name, are_rows_without_key, IsFirstRowIndex, IsNextRowIndex};
+ghost use Rattle.tc_stmt.specs.RowIndex.{name_key, row_of_name, are_first_without_key, IsFirstRowIndex, IsNextRowIndex};
 ghost use Rattle.std.specs.Str.{bytes_eq};
 
 use tc_isa::{ROW_COUNT, Row, rows};
@@ -193,7 +193,7 @@ pub(crate) fn next_rows_by_key() -> &'static [u8]
 /// name.
 pub(crate) fn first_row_to_try(first: &[u8], name: &[u8]) -> usize
     ensures { (rows : List RowData) → IsFirstRowIndex rows first.now
-        → are_rows_without_key result (name_key name.now) rows ≡ true }
+        → are_first_without_key result (name_key name.now) rows ≡ true }
 {
     let key = name_key(name);
     if key < first.len() {
@@ -209,7 +209,7 @@ pub(crate) fn next_row_to_try(rows: &[Row], next: &[u8], i: usize, name: &[u8]) 
     requires place { i < length rows.now }
     requires next { IsNextRowIndex (map row_of rows.now) next.now }
     ensures later { i < result }
-    ensures none { are_rows_without_key (result - (i + 1)) (name_key name.now)
+    ensures none { are_first_without_key (result - (i + 1)) (name_key name.now)
         (drop (i + 1) (map row_of rows.now)) ≡ true }
 {
     if i < next.len() && has_same_name_key(&rows[i], name) {

@@ -1,7 +1,7 @@
 // Reads a source line by line.
 ghost use Rattle.std.specs.Prelude.{◌≡◌, ◌≤◌, ◌<◌, ◌+◌, ◌++◌, List, [], ◌∷◌, map, length, position, take, drop, IfOk, OnOk, IfSome, ◌==◌};
 ghost use Rattle.tc_stmt.specs.Items.{item_of};
-ghost use Rattle.tc_stmt.specs.Lines.{LineData, line_in, lines_in, items_in};
+ghost use Rattle.tc_stmt.specs.Lines.{LineData, line_of_text, lines_in, items_in};
 ghost use Rattle.tc_stmt.specs.SourceViews.{source_lines, AreReadLines};
 
 use crate::item::Item;
@@ -80,7 +80,7 @@ fn add_source_line<'a>(
     items: &mut Vec<Item<'a>>,
 ) -> Result<(), AllocError>
     ensures { OnOk result ((ls : List LineData) → AreReadLines lines.old.items items.old.items ls
-        → AreReadLines lines.new.items items.new.items (ls ++ line_in line.now ∷ [])) }
+        → AreReadLines lines.new.items items.new.items (ls ++ line_of_text line.now ∷ [])) }
 {
     lines.push(read_line(line, pieces, operands, items)?)?;
     Ok(())

@@ -5,8 +5,8 @@ ghost use Rattle.tc_isa.specs.Rows.{row_of};
 ghost use Rattle.tc_stmt.specs.Wants.{wants_of, row_wants_now};
 ghost use Rattle.tc_lex.specs.Operands.{operand_of};
 ghost use Rattle.tc_stmt.specs.RowFields.{zero_fields};
-ghost use Rattle.tc_stmt.specs.Filling.{GivesFilledFields, fill_operands, note_equal_registers, fields_of_row};
-ghost use Rattle.tc_stmt.specs.StatementRow.{row_outcome, first_fitting_row, GivesRowOutcome, GivesStatementOutcome, statement, tally_rule};
+ghost use Rattle.tc_stmt.specs.Filling.{GivesFieldsOrFalse, fill_operands, note_equal_registers, fields_of_row};
+ghost use Rattle.tc_stmt.specs.StatementRow.{row_outcome, first_fitting_row, GivesRowOutcome, GivesStatementOutcome, row_of_statement, rule_broken_by_statement};
 ghost use Rattle.tc_stmt.specs.RowIndex.{IsFirstRowIndex, IsNextRowIndex};
 
 use crate::fill_fields::fill_operands;
@@ -22,7 +22,7 @@ use tc_lex::{Operand, are_same_bytes};
 /// Returns the number of the first row that the statement fits, with its fields, or the least rule
 /// that the statement breaks.
 pub fn row_of_statement<'a>(name: &[u8], os: &[Operand<'a>]) -> Result<(u8, RowFields<'a>), u8>
-    ensures { GivesStatementOutcome result (statement name.now (map operand_of os.now)) }
+    ensures { GivesStatementOutcome result (row_of_statement name.now (map operand_of os.now)) }
 {
     search_statement_row(rows(), wants(), first_rows_by_key(), next_rows_by_key(), name, os)
 }
@@ -125,7 +125,7 @@ fn fill_statement_row<'a>(
     os: &[Operand<'a>],
     found: &mut RowFields<'a>,
 ) -> bool
-    ensures { GivesFilledFields result found.new
+    ensures { GivesFieldsOrFalse result found.new
         (fields_of_row (row_of row.now) wants.now (map operand_of os.now)) }
 {
     *found = zero_fields();

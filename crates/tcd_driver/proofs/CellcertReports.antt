@@ -11,7 +11,7 @@ use Rattle.depth_check.proofs.Held as held
 use Rattle.depth_maker.specs.LeastCertMade.{IsLeastCert}
 use Rattle.value_cells.specs.declared.cells.Cell.{Cell}
 use Rattle.value_cells.specs.Cells.{with_cells, AreCells}
-use Rattle.value_cells.specs.Keeping.{CertKeepsCells, FailsRule16At, IsFirstRule16Fault}
+use Rattle.value_cells.specs.Keeping.{CertKeepsCellBounds, FailsRule16At, IsFirstRule16Fault}
 use Rattle.value_cells.proofs.CellPlan.{IsPlan-with_cells}
 use Rattle.value_cells.proofs.CellSafe.{cells_keep}
 use Rattle.value_cells.proofs.GrowthLaws.{cell_faults_grow, cell_faults_refute}
@@ -38,7 +38,7 @@ module _ (name : List ℕ) (i : ImageData) (fields p : PlanData) (cells : List C
       broken c key addr (none_keeps i p cells c key addr (IsPlan-with_cells (subst IsPlan same is_plan) cells are) least.is_cert least.made first.breaks) least.is_cert least.made first is
 
   -- the report if the certificate keeps the cells, and is written
-  pub kept_report : (bytes : List ℕ) (count : ℕ) (r : Report) → bytes ≡ bytes_of_cert c → CertKeepsCells i (with_cells p cells) cells c → count ≡ length cells
+  pub kept_report : (bytes : List ℕ) (count : ℕ) (r : Report) → bytes ≡ bytes_of_cert c → CertKeepsCellBounds i (with_cells p cells) cells c → count ≡ length cells
       → r ≡ report_with_file name bytes (certified_cells_line need (fields.areas - fields.reserve) count) → IsCellcertReport name i p cells r
   kept_report bytes count r spell keeps many told =
       let ok = subst IsPlan same is_plan in
@@ -50,7 +50,7 @@ module _ (name : List ℕ) (i : ImageData) (fields p : PlanData) (cells : List C
 
 -- ---- reports are alike
 pub cellcert_side : (name : List ℕ) (i : ImageData) (p : PlanData) (cells : List Cell) (r : Report) → IsCellcertReport name i p cells r
-    → IsSide ((c : CertData) × IsCert c × IsLeastCert i (with_cells p cells) 2 c × CertKeepsCells i (with_cells p cells) cells c) Refused r
+    → IsSide ((c : CertData) × IsCert c × IsLeastCert i (with_cells p cells) 2 c × CertKeepsCellBounds i (with_cells p cells) cells c) Refused r
 cellcert_side name i p cells r (refused rule key addr none why e) = against _ e (λ w. none w.0 w.1 (w.2).of_version (w.2).accepted)
 cellcert_side name i p cells r (broken c key addr none is made first e) = against _ e (λ w. none w.0 w.1 (w.2).of_version (w.2).accepted w.3)
 cellcert_side name i p cells r (certified c is made keeps safe e) = well _ e refl (c, is, made, keeps)

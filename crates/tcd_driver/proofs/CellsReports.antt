@@ -9,7 +9,7 @@ use Rattle.cfg_recover.proofs.FaultLaws.{fails_refutes}
 use Rattle.depth_check.proofs.Held as held
 use Rattle.value_cells.specs.declared.cells.Cell.{Cell}
 use Rattle.value_cells.specs.Cells.{with_cells, AreCells}
-use Rattle.value_cells.specs.Keeping.{CertKeepsCells}
+use Rattle.value_cells.specs.Keeping.{CertKeepsCellBounds}
 use Rattle.value_cells.proofs.CellPlan.{IsPlan-with_cells}
 use Rattle.value_cells.proofs.CellSafe.{cells_keep}
 use Rattle.value_cells.proofs.GrowthLaws.{cell_faults_refute}
@@ -29,14 +29,14 @@ cells_lawful p = record {
   apart = λ b t x h k. let e = reads_one p b (Ok x) (Err k.0) h k.1 in cc;
 }
 
-pub cells_side : (i : ImageData) (p : PlanData) (cells : List Cell) (c : CertData) (r : Report) → IsCellsVerdict i p cells c r → IsSide (Accepts i (with_cells p cells) c × CertKeepsCells i (with_cells p cells) cells c) Refused r
+pub cells_side : (i : ImageData) (p : PlanData) (cells : List Cell) (c : CertData) (r : Report) → IsCellsVerdict i p cells c r → IsSide (Accepts i (with_cells p cells) c × CertKeepsCellBounds i (with_cells p cells) cells c) Refused r
 cells_side i p cells c r (refused rule key addr first e) = against _ e (λ w. fails_refutes i (with_cells p cells) c rule key addr first.fails w.0)
 cells_side i p cells c r (broken key addr accepted breaks e) = against _ e (λ w. cell_faults_refute i (with_cells p cells) cells c key addr breaks.breaks w.1)
 cells_side i p cells c r (certified accepted keeps safe e) = well _ e refl (accepted, keeps)
 
 -- the report on a certificate that is accepted and keeps the cells
 pub cells_report : (i : ImageData) (fields p : PlanData) (cells : List Cell) (parts c : CertData) (need count : ℕ) (r : Report) → fields ≡ p → IsPlan fields → AreCells p cells → parts ≡ c → IsCert parts
-    → Accepts i (with_cells p cells) c → need ≡ certified_need i (with_cells p cells) c → Safe i (with_cells p cells) need → CertKeepsCells i (with_cells p cells) cells c → count ≡ length cells
+    → Accepts i (with_cells p cells) c → need ≡ certified_need i (with_cells p cells) c → Safe i (with_cells p cells) need → CertKeepsCellBounds i (with_cells p cells) cells c → count ≡ length cells
     → r ≡ text_report Done (certified_cells_line need (fields.areas - fields.reserve) count) → IsCellsVerdict i p cells c r
 cells_report i fields p cells parts c need count r same is_plan are cert is_cert accepted is safe keeps many e =
     let ok = subst IsPlan same is_plan in

@@ -9,7 +9,7 @@ use Rattle.tcd_report.specs.Generated.{generated_image}
 use Rattle.tcd_report.specs.Generated.Planned.{generated_plan_text, generated_plan}
 use Rattle.tcd_reading.specs.Outcomes.{Outcome, IsReportOutcome, IsCommandOutcome}
 use Rattle.tcd_reading.proofs.Told.{comes_told}
-use Rattle.tcd_driver.specs.Commands.{command_of_value, reading_of}
+use Rattle.tcd_driver.specs.Commands.{plain_command, reading_of}
 use Rattle.tcd_driver.specs.declared.command.Command.{Command as Words}
 use Rattle.tcd_driver.specs.declared.command.Command.TheVariants as held
 use Rattle.tcd_report.proofs.ImageLemmas.PlanText.{text_tells}
@@ -43,5 +43,5 @@ pub text_most : (lent text : List ℕ) → lent ≡ text → text ≡ generated_
 text_most lent text same is = subst (λ (b : List ℕ). length b ≤ 2 ^ 30) (sym (same ∙ is)) (omega arith)
 
 -- ---- the command as a value of the program
-pub comes_generated : (command words : Words) (n : ℕ) (files : FilesSeen) (o : Outcome) → words ≡ held.Gen n → command ≡ words → IsReportOutcome (IsGenReport n (generated_image n) generated_plan) ⊥ o → IsCommandOutcome (reading_of (command_of_value command)) files files o
-comes_generated command words n files o is same h = subst (λ (w : Words). IsCommandOutcome (reading_of (command_of_value w)) files files o) (sym (same ∙ is)) (comes_told (IsGenReport n (generated_image n) generated_plan) files o h)
+pub comes_generated : (command words : Words) (n : ℕ) (files : FilesSeen) (o : Outcome) → words ≡ held.Gen n → command ≡ words → IsReportOutcome (IsGenReport n (generated_image n) generated_plan) ⊥ o → IsCommandOutcome (reading_of (plain_command command)) files files o
+comes_generated command words n files o is same h = subst (λ (w : Words). IsCommandOutcome (reading_of (plain_command w)) files files o) (sym (same ∙ is)) (comes_told (IsGenReport n (generated_image n) generated_plan) files o h)

@@ -43,7 +43,7 @@ use Rattle.tcd_driver.specs.Check.{CheckArgs, IsCheckVerdict}
 use Rattle.tcd_driver.specs.Cert as certifying
 use Rattle.tcd_driver.specs.Cert.{CertArgs, IsCertReport}
 use Rattle.tcd_driver.specs.BestCert as made
-use Rattle.tcd_driver.specs.BestCert.{IsBestCert, IsAcceptedBestCert, HasNoBestCert, IsLeastOfItsFormat, NoCertIsAccepted}
+use Rattle.tcd_driver.specs.BestCert.{IsBestCert, IsAcceptedBestCert, HasNoAcceptedCert, IsLeastOfItsFormat, NoCertIsAccepted}
 use Rattle.tcd_driver.specs.Ship as shipping
 use Rattle.tcd_driver.specs.Ship.{ShipArgs, IsShipReportOnImage, IsShipReport, IsImageOfSources}
 use Rattle.tcd_driver.specs.Run as runs
@@ -116,7 +116,7 @@ best_of i p c is = by is.best
 each_refused : (i : ImageData) (p : PlanData) → IsNoCertAccepted i p 1 → IsNoCertAccepted i p 2 → (c : CertData) → IsCert c → Accepts i p c → ⊥
 each_refused i p one two c is accepted = elim is.version [ inl v ↦ one c is v accepted | inr v ↦ two c is v accepted ]
 
-pub none_of : (i : ImageData) (p : PlanData) (rule : ℕ) (key : Key) (addr : ℕ) → HasNoBestCert i p rule key addr → NoCertIsAccepted i p rule key addr
+pub none_of : (i : ImageData) (p : PlanData) (rule : ℕ) (key : Key) (addr : ℕ) → HasNoAcceptedCert i p rule key addr → NoCertIsAccepted i p rule key addr
 none_of i p rule key addr none = record { each = each_refused i p none.first none.second; why = none.why }
 
 -- ---- lines
@@ -167,7 +167,7 @@ check_means names m i p c r files (verdict.certified accepted safe e) = means_as
 }))
 
 -- ---- cert
-pub refusal_by_cert : {elf plan : List ℕ} {m : FileMap} {i : ImageData} {p : PlanData} → AreFirmwareFiles m elf plan i p → (rule : ℕ) (key : Key) (addr : ℕ) → HasNoBestCert i p rule key addr → RefusalByCert elf plan m m (refused_line rule key addr)
+pub refusal_by_cert : {elf plan : List ℕ} {m : FileMap} {i : ImageData} {p : PlanData} → AreFirmwareFiles m elf plan i p → (rule : ℕ) (key : Key) (addr : ℕ) → HasNoAcceptedCert i p rule key addr → RefusalByCert elf plan m m (refused_line rule key addr)
 refusal_by_cert {elf} {plan} {m} {i} {p} files rule key addr none = record {
   image = i;
   plan = p;

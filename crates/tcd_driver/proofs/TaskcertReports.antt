@@ -25,7 +25,7 @@ use Rattle.depth_maker.specs.declared.answering.MakeErr.TheVariants as make_err
 use Rattle.depth_maker.proofs.Accepted.{find_agrees}
 use Rattle.task_chains.specs.Tasks.{TasksData, AreTasks, count}
 use Rattle.task_chains.specs.SwitchRoutine.{HasRoutine}
-use Rattle.task_chains.specs.Views.{FitPlan, view_image_of, view_plan_of}
+use Rattle.task_chains.specs.Views.{TasksFitPlan, view_image_of, view_plan_of}
 use Rattle.task_chains.specs.Rule17.{KeepsRule17, BreaksRule17, IsRule17Fault}
 use Rattle.task_chains.proofs.GrowthLaws.{task_faults_grow, task_faults_refute}
 use Rattle.task_chains.proofs.Together.{tasks_are_safe}
@@ -63,7 +63,7 @@ unmade_view v b t make_err.NoMemory why = tt
 
 -- ---- the certificate of a task
 -- the same by the task's number
-pub task_made : (i : ImageData) (fields p : PlanData) (parts t : TasksData) (u : ℕ) (c : CertData) (need : ℕ) (v : ImageData) (b : PlanData) → fields ≡ p → IsPlan fields → parts ≡ t → AreTasks parts → FitPlan p t → u < count t
+pub task_made : (i : ImageData) (fields p : PlanData) (parts t : TasksData) (u : ℕ) (c : CertData) (need : ℕ) (v : ImageData) (b : PlanData) → fields ≡ p → IsPlan fields → parts ≡ t → AreTasks parts → TasksFitPlan p t → u < count t
     → v ≡ view_image_of i t u → b ≡ view_plan_of p t u → IsLeastWithNeed v b 2 c need → KeepsRule17 v b t c → IsTaskCertWithNeed i p t u c need
 task_made i fields p parts t u c need v b same is_plan same_t are fit lt seen planned s apart =
     let judged = judged_well i fields p parts t c c u need v b same is_plan same_t are refl s.is_cert fit lt seen planned (s.made).accepted s.need_is s.safe apart in
@@ -81,7 +81,7 @@ task_uncertified i p t u rule k x v b seen planned h =
     subst (λ (q : PlanData). HasNoTaskCert (view_image_of i t u) q t rule k x) planned (subst (λ (w : ImageData). HasNoTaskCert w b t rule k x) seen h)
 
 -- the result of making a certificate for the task's view
-pub makes_task : (i : ImageData) (fields p : PlanData) (parts t : TasksData) (u : ℕ) (v : ImageData) (b : PlanData) (m : Result (CertData × ℕ) MakeErr) → fields ≡ p → IsPlan fields → parts ≡ t → AreTasks parts → FitPlan p t → u < count t
+pub makes_task : (i : ImageData) (fields p : PlanData) (parts t : TasksData) (u : ℕ) (v : ImageData) (b : PlanData) (m : Result (CertData × ℕ) MakeErr) → fields ≡ p → IsPlan fields → parts ≡ t → AreTasks parts → TasksFitPlan p t → u < count t
     → v ≡ view_image_of i t u → b ≡ view_plan_of p t u → IsTaskViewCertOrErr v b t m → IsTaskCertOrErr i p t u m
 makes_task i fields p parts t u v b (Ok made) same is_plan same_t are fit lt seen planned h = task_made i fields p parts t u made.0 made.1 v b same is_plan same_t are fit lt seen planned h.0 h.1
 makes_task i fields p parts t u v b (Err (make_err.Refused rule key addr)) same is_plan same_t are fit lt seen planned h = task_uncertified i p t u rule key addr v b seen planned h
@@ -250,7 +250,7 @@ all_made names i p t n writes sum e so_far = record {
 judged_all : (i : ImageData) (p : PlanData) (t : TasksData) (certs : List CertData) → length certs ≡ count t → AreLeastTaskCerts i p t certs → AreFirstTaskCertsAccepted i p t certs (count t)
 judged_all i p t certs many made u lt = (made u (omega arith)).judged
 
-pub written_tasks : (names : List (List ℕ)) (i : ImageData) (fields p : PlanData) (parts t : TasksData) (writes : List ReportFile) (sum n : ℕ) (r : Report) → fields ≡ p → IsPlan fields → parts ≡ t → AreTasks parts → FitPlan p t → HasRoutine i p t
+pub written_tasks : (names : List (List ℕ)) (i : ImageData) (fields p : PlanData) (parts t : TasksData) (writes : List ReportFile) (sum n : ℕ) (r : Report) → fields ≡ p → IsPlan fields → parts ≡ t → AreTasks parts → TasksFitPlan p t → HasRoutine i p t
     → AreTaskCertFiles names i p t writes sum → sum ≤ fields.areas - fields.reserve → n ≡ count t
     → r ≡ report_with_files writes (certified_tasks_line sum (fields.areas - fields.reserve) n) → IsTaskcertReport names i p t r
 written_tasks names i fields p parts t writes sum n r same is_plan same_t are fit has f within many e =

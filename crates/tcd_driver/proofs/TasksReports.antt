@@ -16,7 +16,7 @@ use Rattle.cfg_recover.proofs.FaultLaws.{fails_refutes}
 use Rattle.depth_check.proofs.Held as held
 use Rattle.task_chains.specs.Tasks.{TasksData, AreTasks, count}
 use Rattle.task_chains.specs.SwitchRoutine.{HasRoutine}
-use Rattle.task_chains.specs.Views.{FitPlan, view_image_of, view_plan_of}
+use Rattle.task_chains.specs.Views.{TasksFitPlan, view_image_of, view_plan_of}
 use Rattle.task_chains.specs.Rule17.{KeepsRule17, IsRule17Fault}
 use Rattle.task_chains.specs.SafeTasks.{IsSoundTaskCert}
 use Rattle.task_chains.proofs.GrowthLaws.{task_faults_refute}
@@ -61,7 +61,7 @@ fault_there i p t c u k x view board seen planned accepted fault =
     (subst (λ (q : PlanData). IsRule17Fault (view_image_of i t u) q t c k x) planned (subst (λ (v : ImageData). IsRule17Fault v board t c k x) seen fault))
 
 -- a certificate that is judged well, with equal images and plans
-pub judged_well : (i : ImageData) (fields p : PlanData) (parts t : TasksData) (all c : CertData) (u need : ℕ) (view : ImageData) (board : PlanData) → fields ≡ p → IsPlan fields → parts ≡ t → AreTasks parts → all ≡ c → IsCert all → FitPlan p t → u < count t
+pub judged_well : (i : ImageData) (fields p : PlanData) (parts t : TasksData) (all c : CertData) (u need : ℕ) (view : ImageData) (board : PlanData) → fields ≡ p → IsPlan fields → parts ≡ t → AreTasks parts → all ≡ c → IsCert all → TasksFitPlan p t → u < count t
     → view ≡ view_image_of i t u → board ≡ view_plan_of p t u → Accepts view board c → need ≡ certified_need view board c → Safe view board need → KeepsRule17 view board t c
     → IsSoundTaskCert i p t c u × (need ≡ certified_need (view_image_of i t u) (view_plan_of p t u) c)
 judged_well i fields p parts t all c u need view board same is_plan same_t are same_c is_cert fit lt seen planned accepted is safe apart =
@@ -129,7 +129,7 @@ pub record AreTallied (image : ImageData) (plan : PlanData) (tasks : TasksData) 
   pub sum : total ≡ sum_of_first n (counted_needs_of_tasks image plan tasks certs)
   pub few : total ≤ n * 2 ^ 32
 
-pub certified_tasks : (i : ImageData) (fields p : PlanData) (parts t : TasksData) (certs : List CertData) (sum n : ℕ) (r : Report) → fields ≡ p → IsPlan fields → parts ≡ t → AreTasks parts → FitPlan p t → HasRoutine i p t
+pub certified_tasks : (i : ImageData) (fields p : PlanData) (parts t : TasksData) (certs : List CertData) (sum n : ℕ) (r : Report) → fields ≡ p → IsPlan fields → parts ≡ t → AreTasks parts → TasksFitPlan p t → HasRoutine i p t
     → AreFirstTaskCertsAccepted i p t certs (count t) → sum ≡ sum_of_needs i p t certs → sum ≤ fields.areas - fields.reserve → n ≡ count t → r ≡ text_report Done (certified_tasks_line sum (fields.areas - fields.reserve) n) → IsTasksVerdict i p t certs r
 certified_tasks i fields p parts t certs sum n r same is_plan same_t are fit has judged is within many e =
     let room : sum_of_needs i p t certs ≤ p.areas - p.reserve = subst (λ (s : ℕ). s ≤ p.areas - p.reserve) is (subst (λ (q : PlanData). sum ≤ q.areas - q.reserve) same within) in

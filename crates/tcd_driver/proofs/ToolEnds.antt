@@ -19,7 +19,7 @@ use Rattle.tc_boot.specs.Judging.{HasBoot}
 use Rattle.tc_boot.proofs.JudgeOne.{not_both}
 use Rattle.value_cells.specs.declared.cells.Cell.{Cell}
 use Rattle.value_cells.specs.Cells.{with_cells}
-use Rattle.value_cells.specs.Keeping.{CertKeepsCells}
+use Rattle.value_cells.specs.Keeping.{CertKeepsCellBounds}
 use Rattle.value_cells.proofs.GrowthLaws.{cell_faults_refute}
 use Rattle.task_chains.specs.Tasks.{TasksData, count}
 use Rattle.task_chains.specs.Views.{view_image_of, view_plan_of}
@@ -245,7 +245,7 @@ list_as {A} {m} {elf} {plan} {i} {j} {p} {q} {x} {y} Held one Holds h k here the
 -- the certificate is accepted under the plan with the cells, and keeps them
 record AreKept (c : CertData) (i : ImageData) (p : PlanData) (cs : List Cell) : Type 0 where
   accepted : Accepts i (with_cells p cs) c
-  keeps : CertKeepsCells i (with_cells p cs) cs c
+  keeps : CertKeepsCellBounds i (with_cells p cs) cs c
 
 pub cells_ends : (names : CellsArgs) → Answers (asked.cells names) (is_elf names.elf ∷ is_plan names.plan ∷ are_cells names.plan names.cells ∷ is_cert names.cert ∷ [])
     (HeadlineOfCells names.elf names.plan names.cells names.cert) (RefusalByCells names.elf names.plan names.cells names.cert)

@@ -24,7 +24,7 @@ use Rattle.tcd_text.specs.Lines.{text_lines}
 use Rattle.value_cells.specs.CellListText as cells
 use Rattle.task_chains.specs.TaskListText as tasks
 use Rattle.tc_stmt.specs.Lines.{lines_in}
-use Rattle.tc_asm.specs.Rules.{IsFirstBrokenLine}
+use Rattle.tc_asm.specs.Rules.{IsFirstBadLine}
 
 -- the driver's line `bad words`, for arguments that are no command
 unfoldable pub bad_words_line : List ℕ
@@ -91,4 +91,4 @@ bad_source_line_text rule place line = codes "bad source " ++ (decimal rule ++ (
 -- a line of the source breaks a rule, and this bad-input line has the source's place, the first
 -- such line, and its least rule
 abbrev pub SourceBreaksRule : ℕ → List ℕ → List ℕ → Type 0
-SourceBreaksRule place bytes printed = (line : ℕ) × (rule : ℕ) × IsFirstBrokenLine (lines_in bytes) line rule × (printed ≡ bad_source_line_text rule place line)
+SourceBreaksRule place bytes printed = (line : ℕ) × (rule : ℕ) × IsFirstBadLine (lines_in bytes) line rule × (printed ≡ bad_source_line_text rule place line)

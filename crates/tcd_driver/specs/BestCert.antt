@@ -31,7 +31,7 @@ pub record IsAcceptedBestCert (image : ImageData) (plan : PlanData) (cert : Cert
   pub safe : Safe image plan (certified_need image plan cert)
 
 -- no certificate of either format is accepted, and this is why none of format 2 is
-pub record HasNoBestCert (image : ImageData) (plan : PlanData) (rule : ℕ) (key : Key) (addr : ℕ) : Type 0 where
+pub record HasNoAcceptedCert (image : ImageData) (plan : PlanData) (rule : ℕ) (key : Key) (addr : ℕ) : Type 0 where
   pub first : IsNoCertAccepted image plan 1
   pub second : IsNoCertAccepted image plan 2
   pub why : IsRefusal image plan 2 rule key addr
@@ -67,7 +67,7 @@ IsLeastCertOrErr image plan version (Err e) = IsRightMakeErr image plan version 
 -- accepted
 abbrev pub IsBestCertOrErr : ImageData → PlanData → Result (CertData × ℕ) MakeErr → Type 0
 IsBestCertOrErr image plan (Ok made) = IsAcceptedBestCert image plan made.0 × (made.1 ≡ certified_need image plan made.0)
-IsBestCertOrErr image plan (Err (make_err.Refused rule key addr)) = HasNoBestCert image plan rule key addr
+IsBestCertOrErr image plan (Err (make_err.Refused rule key addr)) = HasNoAcceptedCert image plan rule key addr
 IsBestCertOrErr image plan (Err make_err.NoMemory) = Unit {0}
 
 -- a command's report that no certificate is made: the rule that fails, with its address and frame

@@ -9,7 +9,7 @@ use Rattle.tc_disasm.specs.Listing.{listing_of}
 use Rattle.tc_boot.specs.declared.judging.BootErr.{BootErr}
 use Rattle.tc_boot.specs.Sequence.{boot_events, boot_image_of}
 use Rattle.tc_boot.specs.Reset.{BootsSafely}
-use Rattle.tc_boot.specs.Judging.{HasBoot, IsResultOfBootTest}
+use Rattle.tc_boot.specs.Judging.{HasBoot, IsBootEventCountOrFirstFault}
 use Rattle.tcd_reading.specs.Reports.{Report, text_report, report_with_file}
 use Rattle.tcd_reading.specs.Inputs.{Reading, input, answer}
 use Rattle.tcd_forms.specs.Forms.{elf_form, plan_form, cert_form}
@@ -42,7 +42,7 @@ pub data IsBootVerdict (image : ImageData) (plan : PlanData) (cert : CertData) (
       (rule : ℕ) (key : Key) (addr : ℕ) → IsFirstFault image plan cert rule key addr → report ≡ text_report Refused (refused_line rule key addr)
       → IsBootVerdict image plan cert at report
   unbooted :
-      (e : BootErr) → Accepts image plan cert → IsResultOfBootTest image plan at (Err e) → report ≡ text_report Refused (refused_boot_line e)
+      (e : BootErr) → Accepts image plan cert → IsBootEventCountOrFirstFault image plan at (Err e) → report ≡ text_report Refused (refused_boot_line e)
       → IsBootVerdict image plan cert at report
   boots :
       Accepts image plan cert → HasBoot image plan at → BootsSafely image plan at (certified_need image plan cert)

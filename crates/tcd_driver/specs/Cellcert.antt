@@ -11,7 +11,7 @@ use Rattle.depth_maker.specs.LeastCertMade.{IsLeastCert}
 use Rattle.depth_maker.specs.Answers.{IsNoCertAccepted}
 use Rattle.value_cells.specs.declared.cells.Cell.{Cell}
 use Rattle.value_cells.specs.Cells.{with_cells}
-use Rattle.value_cells.specs.Keeping.{CertKeepsCells, IsFirstRule16Fault}
+use Rattle.value_cells.specs.Keeping.{CertKeepsCellBounds, IsFirstRule16Fault}
 use Rattle.value_cells.specs.Safe.{SafeWithCells}
 use Rattle.tcd_reading.specs.Reports.{Report, text_report, report_with_file}
 use Rattle.tcd_reading.specs.Inputs.{Reading, input, answer}
@@ -31,7 +31,7 @@ pub record CellcertArgs : Type 0 where
 -- plan with cells breaks K16
 abbrev pub NoneKeepsCells : ImageData → PlanData → List Cell → Type 0
 NoneKeepsCells image plan cells =
-    (cert : CertData) → IsCert cert → cert.version ≡ 2 → Accepts image (with_cells plan cells) cert → CertKeepsCells image (with_cells plan cells) cells cert → ⊥
+    (cert : CertData) → IsCert cert → cert.version ≡ 2 → Accepts image (with_cells plan cells) cert → CertKeepsCellBounds image (with_cells plan cells) cells cert → ⊥
 
 -- The report on an image, a plan and its cells, under the plan with cells. If no certificate of
 -- format 2 is accepted, the reason is printed. If each one that is accepted breaks K16, the first
@@ -47,7 +47,7 @@ pub data IsCellcertReport (name : List ℕ) (image : ImageData) (plan : PlanData
       → IsFirstRule16Fault image (with_cells plan cells) cells cert key addr → report ≡ text_report Refused (refused_line 16 key addr)
       → IsCellcertReport name image plan cells report
   certified :
-      (cert : CertData) → IsCert cert → IsLeastCert image (with_cells plan cells) 2 cert → CertKeepsCells image (with_cells plan cells) cells cert
+      (cert : CertData) → IsCert cert → IsLeastCert image (with_cells plan cells) 2 cert → CertKeepsCellBounds image (with_cells plan cells) cells cert
       → SafeWithCells image plan cells (certified_need image (with_cells plan cells) cert)
       → report
       ≡ report_with_file name (bytes_of_cert cert) (certified_cells_line (certified_need image (with_cells plan cells) cert) (plan.areas - plan.reserve) (length cells))

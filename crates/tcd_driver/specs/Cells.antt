@@ -7,7 +7,7 @@ use Rattle.depth_cert.specs.declared.keys.Key.{Key}
 use Rattle.cfg_recover.specs.RulesHoldOrFail.{Accepts, IsFirstFault, certified_need}
 use Rattle.value_cells.specs.declared.cells.Cell.{Cell}
 use Rattle.value_cells.specs.Cells.{with_cells}
-use Rattle.value_cells.specs.Keeping.{CertKeepsCells, IsFirstRule16Fault}
+use Rattle.value_cells.specs.Keeping.{CertKeepsCellBounds, IsFirstRule16Fault}
 use Rattle.value_cells.specs.Safe.{SafeWithCells}
 use Rattle.tcd_reading.specs.Reports.{Report, text_report}
 use Rattle.tcd_reading.specs.Inputs.{Reading, input, answer}
@@ -35,7 +35,7 @@ pub data IsCellsVerdict (image : ImageData) (plan : PlanData) (cells : List Cell
       (key : Key) (addr : ℕ) → Accepts image (with_cells plan cells) cert → IsFirstRule16Fault image (with_cells plan cells) cells cert key addr
       → report ≡ text_report Refused (refused_line 16 key addr) → IsCellsVerdict image plan cells cert report
   certified :
-      Accepts image (with_cells plan cells) cert → CertKeepsCells image (with_cells plan cells) cells cert
+      Accepts image (with_cells plan cells) cert → CertKeepsCellBounds image (with_cells plan cells) cells cert
       → SafeWithCells image plan cells (certified_need image (with_cells plan cells) cert)
       → report ≡ text_report Done (certified_cells_line (certified_need image (with_cells plan cells) cert) (plan.areas - plan.reserve) (length cells))
       → IsCellsVerdict image plan cells cert report

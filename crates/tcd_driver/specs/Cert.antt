@@ -10,7 +10,7 @@ use Rattle.tcd_reading.specs.Reports.{Report, text_report, report_with_file}
 use Rattle.tcd_reading.specs.Inputs.{Reading, input, answer}
 use Rattle.tcd_forms.specs.Forms.{elf_form, plan_form}
 use Rattle.tcd_forms.specs.Lines.{refused_line, certified_line}
-use Rattle.tcd_driver.specs.BestCert.{IsAcceptedBestCert, HasNoBestCert}
+use Rattle.tcd_driver.specs.BestCert.{IsAcceptedBestCert, HasNoAcceptedCert}
 use Rattle.tcd_reading.specs.declared.status.Status.TheVariants.{Refused}
 
 -- the names of the files that `cert` reads, and of the certificate that it writes
@@ -23,7 +23,7 @@ pub record CertArgs : Type 0 where
 -- why. Or the best one is written under this name, and every run is safe with its need.
 pub data IsCertReport (name : List ℕ) (image : ImageData) (plan : PlanData) (report : Report) : Type 0 where
   refused :
-      (rule : ℕ) (key : Key) (addr : ℕ) → HasNoBestCert image plan rule key addr → report ≡ text_report Refused (refused_line rule key addr)
+      (rule : ℕ) (key : Key) (addr : ℕ) → HasNoAcceptedCert image plan rule key addr → report ≡ text_report Refused (refused_line rule key addr)
       → IsCertReport name image plan report
   certified :
       (cert : CertData) → IsAcceptedBestCert image plan cert

@@ -10,7 +10,7 @@ use Rattle.tcd_reading.specs.Reports.{Report, text_report}
 use Rattle.tcd_reading.specs.Inputs.{Reading, input, answer}
 use Rattle.tcd_forms.specs.Forms.{elf_form, plan_form}
 use Rattle.tcd_forms.specs.Lines.{refused_line}
-use Rattle.tcd_driver.specs.BestCert.{IsAcceptedBestCert, HasNoBestCert}
+use Rattle.tcd_driver.specs.BestCert.{IsAcceptedBestCert, HasNoAcceptedCert}
 use Rattle.tcd_reading.specs.declared.status.Status.TheVariants.{Done, Refused}
 
 -- the names of the files that `cfg` reads
@@ -29,7 +29,7 @@ pub record IsCfgText (image : ImageData) (plan : PlanData) (text : List ℕ) : T
 -- the report of `cfg`: no certificate is accepted, and the line says why; or the text is the graph
 -- of the best one
 pub data IsCfgReport (image : ImageData) (plan : PlanData) (told : Report) : Type 0 where
-  refused : (rule : ℕ) (key : Key) (addr : ℕ) → HasNoBestCert image plan rule key addr → told ≡ text_report Refused (refused_line rule key addr) → IsCfgReport image plan told
+  refused : (rule : ℕ) (key : Key) (addr : ℕ) → HasNoAcceptedCert image plan rule key addr → told ≡ text_report Refused (refused_line rule key addr) → IsCfgReport image plan told
   drawn : (text : List ℕ) → IsCfgText image plan text → told ≡ text_report Done text → IsCfgReport image plan told
 
 -- an executable and a plan are read; then the graph is reported

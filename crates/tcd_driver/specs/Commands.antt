@@ -92,22 +92,22 @@ abbrev pub boot_command_of : List ℕ → List ℕ → List ℕ → List ℕ →
 boot_command_of elf plan cert at = option_map (λ x. boot (record { elf = elf; plan = plan; cert = cert; at = x })) (hex_number_of at)
 
 -- the command with one argument after its verb, `dis` or `gen`; None for others, or a bad number
-abbrev pub command_of_one : List ℕ → List ℕ → Option Command
-command_of_one verb word =
+abbrev pub one_arg_command : List ℕ → List ℕ → Option Command
+one_arg_command verb word =
     if bytes_eq verb (codes "dis") then Some (dis word)
     else if bytes_eq verb (codes "gen") then option_map generate (gen_function_count word)
     else None
 
 -- the command that has two arguments after its verb, `asm` or `cfg`; None for other verbs
-abbrev pub command_of_two : List ℕ → List ℕ → List ℕ → Option Command
-command_of_two verb first second =
+abbrev pub two_arg_command : List ℕ → List ℕ → List ℕ → Option Command
+two_arg_command verb first second =
     if bytes_eq verb (codes "asm") then Some (asm (record { source = first; object = second }))
     else if bytes_eq verb (codes "cfg") then Some (cfg (record { elf = first; plan = second }))
     else None
 
 -- the command with three arguments, `check`, `cert`, `report` or `run`; None for other verbs
-abbrev pub command_of_three : List ℕ → List ℕ → List ℕ → List ℕ → Option Command
-command_of_three verb elf plan third =
+abbrev pub three_arg_command : List ℕ → List ℕ → List ℕ → List ℕ → Option Command
+three_arg_command verb elf plan third =
     if bytes_eq verb (codes "check") then Some (check (record { elf = elf; plan = plan; cert = third }))
     else if bytes_eq verb (codes "cert") then Some (certify (record { elf = elf; plan = plan; cert = third }))
     else if bytes_eq verb (codes "report") then Some (report (record { elf = elf; plan = plan; cert = third }))
@@ -115,8 +115,8 @@ command_of_three verb elf plan third =
     else None
 
 -- the command with four arguments after its verb; None for other verbs, or a bad address
-abbrev pub command_of_four : List ℕ → List ℕ → List ℕ → List ℕ → List ℕ → Option Command
-command_of_four verb first second third fourth =
+abbrev pub four_arg_command : List ℕ → List ℕ → List ℕ → List ℕ → List ℕ → Option Command
+four_arg_command verb first second third fourth =
     if bytes_eq verb (codes "cells") then Some (cells (record { elf = first; plan = second; cells = third; cert = fourth }))
     else if bytes_eq verb (codes "cellcert") then Some (cellcert (record { elf = first; plan = second; cells = third; cert = fourth }))
     else if bytes_eq verb (codes "boot") then boot_command_of first second third fourth
@@ -125,10 +125,10 @@ command_of_four verb first second third fourth =
 
 -- the command that has one to four arguments after its verb; None for other arguments
 abbrev pub fixed_arity_command_of : List (List ℕ) → Option Command
-fixed_arity_command_of (verb ∷ first ∷ []) = command_of_one verb first
-fixed_arity_command_of (verb ∷ first ∷ second ∷ []) = command_of_two verb first second
-fixed_arity_command_of (verb ∷ first ∷ second ∷ third ∷ []) = command_of_three verb first second third
-fixed_arity_command_of (verb ∷ first ∷ second ∷ third ∷ fourth ∷ []) = command_of_four verb first second third fourth
+fixed_arity_command_of (verb ∷ first ∷ []) = one_arg_command verb first
+fixed_arity_command_of (verb ∷ first ∷ second ∷ []) = two_arg_command verb first second
+fixed_arity_command_of (verb ∷ first ∷ second ∷ third ∷ []) = three_arg_command verb first second third
+fixed_arity_command_of (verb ∷ first ∷ second ∷ third ∷ fourth ∷ []) = four_arg_command verb first second third fourth
 fixed_arity_command_of words = None
 
 -- the command that these arguments of the program ask for; None if they are no command
@@ -157,23 +157,23 @@ reading_of (taskcert names) = taskcert_reading names
 
 -- ---- the command as a value of the program
 -- the plain data of a command in the code: its file names as bytes, and its numbers
-abbrev pub command_of_value : Words → Command
-command_of_value (words.Check elf plan cert) = check (record { elf = elf.now; plan = plan.now; cert = cert.now })
-command_of_value (words.Cert elf plan cert) = certify (record { elf = elf.now; plan = plan.now; cert = cert.now })
-command_of_value (words.Cfg elf plan) = cfg (record { elf = elf.now; plan = plan.now })
-command_of_value (words.Report elf plan cert) = report (record { elf = elf.now; plan = plan.now; cert = cert.now })
-command_of_value (words.Run elf plan script) = run (record { elf = elf.now; plan = plan.now; script = script.now })
-command_of_value (words.Dis elf) = dis elf.now
-command_of_value (words.Asm source object) = asm (record { source = source.now; object = object.now })
-command_of_value (words.Link layout image objects) = link (record { layout = layout.now; image = image.now; objects = map string_bytes objects.now })
-command_of_value (words.Ship names) = ship (ship_args names)
-command_of_value (words.Boot elf plan cert at) = boot (record { elf = elf.now; plan = plan.now; cert = cert.now; at = at })
-command_of_value (words.Bootgen plan entry at source) = bootgen (record { plan = plan.now; entry = entry; at = at; source = source.now })
-command_of_value (words.Cells elf plan cells' cert) = cells (record { elf = elf.now; plan = plan.now; cells = cells'.now; cert = cert.now })
-command_of_value (words.Cellcert elf plan cells' cert) = cellcert (record { elf = elf.now; plan = plan.now; cells = cells'.now; cert = cert.now })
-command_of_value (words.Taskcert elf plan list certs) = taskcert (record { elf = elf.now; plan = plan.now; tasks = list.now; certs = map string_bytes certs.now })
-command_of_value (words.Tasks elf plan list certs) = tasks (record { elf = elf.now; plan = plan.now; tasks = list.now; certs = map string_bytes certs.now })
-command_of_value (words.Gen functions) = generate functions
+abbrev pub plain_command : Words → Command
+plain_command (words.Check elf plan cert) = check (record { elf = elf.now; plan = plan.now; cert = cert.now })
+plain_command (words.Cert elf plan cert) = certify (record { elf = elf.now; plan = plan.now; cert = cert.now })
+plain_command (words.Cfg elf plan) = cfg (record { elf = elf.now; plan = plan.now })
+plain_command (words.Report elf plan cert) = report (record { elf = elf.now; plan = plan.now; cert = cert.now })
+plain_command (words.Run elf plan script) = run (record { elf = elf.now; plan = plan.now; script = script.now })
+plain_command (words.Dis elf) = dis elf.now
+plain_command (words.Asm source object) = asm (record { source = source.now; object = object.now })
+plain_command (words.Link layout image objects) = link (record { layout = layout.now; image = image.now; objects = map string_bytes objects.now })
+plain_command (words.Ship names) = ship (ship_args names)
+plain_command (words.Boot elf plan cert at) = boot (record { elf = elf.now; plan = plan.now; cert = cert.now; at = at })
+plain_command (words.Bootgen plan entry at source) = bootgen (record { plan = plan.now; entry = entry; at = at; source = source.now })
+plain_command (words.Cells elf plan cells' cert) = cells (record { elf = elf.now; plan = plan.now; cells = cells'.now; cert = cert.now })
+plain_command (words.Cellcert elf plan cells' cert) = cellcert (record { elf = elf.now; plan = plan.now; cells = cells'.now; cert = cert.now })
+plain_command (words.Taskcert elf plan list certs) = taskcert (record { elf = elf.now; plan = plan.now; tasks = list.now; certs = map string_bytes certs.now })
+plain_command (words.Tasks elf plan list certs) = tasks (record { elf = elf.now; plan = plan.now; tasks = list.now; certs = map string_bytes certs.now })
+plain_command (words.Gen functions) = generate functions
 
 -- a command that arguments ask for is within limits: at most 65,535 objects or sources, and to
 -- generate a boot sequence that doesn't pass 2^32, or 1 to 500 functions

@@ -18,7 +18,7 @@ use Rattle.tc_machine.specs.declared.events.Event.{Event}
 use Rattle.tc_machine.specs.declared.state.Machine.{Machine}
 use Rattle.tc_machine.specs.Stepping.{run}
 use Rattle.tc_machine.specs.Safe.{AllFit, Safe}
-use Rattle.tc_machine.specs.Starting.{Starts, StartsInZeros}
+use Rattle.tc_machine.specs.Starting.{Starts, IsZeroFilledStart}
 use Rattle.tc_script.specs.ScriptData.{ScriptData}
 use Rattle.tc_script.specs.ScriptText.{script_of}
 use Rattle.tc_script.specs.DrivenRuns.{driven_peak}
@@ -197,7 +197,7 @@ pub record HeadlineOfRun (elf_name plan_name script_name : List ℕ) (before aft
   pub files : AreFirmwareFiles before elf_name plan_name image plan
   pub script_file : HoldsFile before script_name (2 ^ 24) (λ bytes. script_of plan bytes ≡ Ok script)
   pub starts : Starts image plan start
-  pub in_zeros : StartsInZeros image plan start
+  pub in_zeros : IsZeroFilledStart image plan start
   pub events_are : events ≡ script_events plan script start
   pub fits : AllFit plan start events
   pub last_is : last ≡ run start events

@@ -3,7 +3,7 @@ use Rattle.std.specs.Prelude.{◌≡◌, ℕ, List, length}
 use Rattle.elf_image.specs.Images.{ImageData}
 use Rattle.tcd_plan.specs.PlanData.{PlanData}
 use Rattle.tc_machine.specs.declared.state.Machine.{Machine}
-use Rattle.tc_machine.specs.Starting.{StartsInZeros}
+use Rattle.tc_machine.specs.Starting.{IsZeroFilledStart}
 use Rattle.tc_machine.specs.Stepping as stepping
 use Rattle.tc_machine.specs.Safe.{AllFit}
 use Rattle.tc_script.specs.ScriptData.{ScriptData}
@@ -30,7 +30,7 @@ script_run_line plan script m =
 -- script's events, which fit the plan
 pub data IsRunReport (image : ImageData) (plan : PlanData) (script : ScriptData) (report : Report) : Type 0 where
   ran :
-      (m : Machine) → StartsInZeros image plan m → AllFit plan m (script_events plan script m) → report ≡ text_report Done (script_run_line plan script m)
+      (m : Machine) → IsZeroFilledStart image plan m → AllFit plan m (script_events plan script m) → report ≡ text_report Done (script_run_line plan script m)
       → IsRunReport image plan script report
 
 -- an executable, a plan and a turn script for the plan are read; then the run is reported

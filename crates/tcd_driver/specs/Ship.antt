@@ -18,7 +18,7 @@ use Rattle.tcd_reading.specs.Reports.{Report, ReportFile, text_report, report_wi
 use Rattle.tcd_reading.specs.Inputs.{Reading, input, input_files, answer}
 use Rattle.tcd_forms.specs.Forms.{SourceData, plan_form, layout_form, numbered_source_form}
 use Rattle.tcd_forms.specs.Lines.{bad_link_line, refused_line, certified_line}
-use Rattle.tcd_driver.specs.BestCert.{IsAcceptedBestCert, HasNoBestCert}
+use Rattle.tcd_driver.specs.BestCert.{IsAcceptedBestCert, HasNoAcceptedCert}
 use Rattle.tcd_driver.specs.declared.commands.ship.Shipment.{Shipment}
 use Rattle.tcd_reading.specs.declared.status.Status.TheVariants.{Refused, BadInput}
 
@@ -49,7 +49,7 @@ pub record IsImageOfSources (layout : LayoutData) (sources : List SourceData) (i
 -- and every run is safe with its need.
 pub data IsShipReportOnImage (elf cert : List ℕ) (plan : PlanData) (image : ImageData) (report : Report) : Type 0 where
   refused :
-      (rule : ℕ) (key : Key) (addr : ℕ) → HasNoBestCert image plan rule key addr → report ≡ text_report Refused (refused_line rule key addr)
+      (rule : ℕ) (key : Key) (addr : ℕ) → HasNoAcceptedCert image plan rule key addr → report ≡ text_report Refused (refused_line rule key addr)
       → IsShipReportOnImage elf cert plan image report
   shipped :
       (c : CertData) → IsAcceptedBestCert image plan c → image_of_file (elf_file image) ≡ Ok image

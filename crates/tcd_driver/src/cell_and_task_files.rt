@@ -52,14 +52,14 @@ pub(crate) struct TasksFile<'a> {
 }
 
 impl<'a> Form for TasksFile<'a> {
-    ghost use Rattle.task_chains.specs.Views.{FitPlan};
+    ghost use Rattle.task_chains.specs.Views.{TasksFitPlan};
     ghost use Rattle.tcd_driver.specs.CellAndTaskForms.{tasks_form};
 
     type Out = Tasks;
 
     ghost form = { λ f. tasks_form f.plan.now };
 
-    ghost Fits = { λ f tasks. FitPlan f.plan.now tasks };
+    ghost Fits = { λ f tasks. TasksFitPlan f.plan.now tasks };
 
     /// The most bytes of a file of tasks.
     fn limit(&self) -> u32 {

@@ -2,7 +2,7 @@
 ghost use Rattle.std.specs.Prelude.{◌≡◌, ◌≤◌, ◌&&◌, nat_le, map, string_bytes, IfSome};
 ghost use Rattle.std.specs.Bool.{then_some};
 ghost use Rattle.std.specs.Option.{option_map};
-ghost use Rattle.tcd_driver.specs.Commands.{command, link_command_of, is_link, ship_command_of, is_ship, tasks_command_of, is_tasks, is_taskcert, fixed_arity_command_of, command_of_one, command_of_two, command_of_three, command_of_four, boot_command_of, bootgen_command_of, command_of_value, generate, reading_of, CommandKeepsLimits};
+ghost use Rattle.tcd_driver.specs.Commands.{command, link_command_of, is_link, ship_command_of, is_ship, tasks_command_of, is_tasks, is_taskcert, fixed_arity_command_of, one_arg_command, two_arg_command, three_arg_command, four_arg_command, boot_command_of, bootgen_command_of, plain_command, generate, reading_of, CommandKeepsLimits};
 ghost use Rattle.tcd_driver.specs.Gen.{gen_function_count};
 ghost use Rattle.tcd_reading.specs.Outcomes.{IsCommandOutcome};
 
@@ -126,7 +126,7 @@ pub(crate) enum Command<'a> {
 
 /// Returns the command that the program's arguments ask for, or `None` if they are no command.
 pub(crate) fn parse_command(alloc: Global, words: &[String]) -> Option<Command<'_>>
-    ensures is { option_map command_of_value result ≡ command (map string_bytes words.now) }
+    ensures is { option_map plain_command result ≡ command (map string_bytes words.now) }
     ensures limits { IfSome result CommandKeepsLimits }
 {
     match link_command(words) {
@@ -144,7 +144,7 @@ pub(crate) fn parse_command(alloc: Global, words: &[String]) -> Option<Command<'
 // Returns the command `link` if the program's arguments ask for it: a layout, the image, and 1 to
 // 65,532 objects.
 fn link_command(words: &[String]) -> Option<Command<'_>>
-    ensures is { option_map command_of_value result ≡ link_command_of (map string_bytes words.now) }
+    ensures is { option_map plain_command result ≡ link_command_of (map string_bytes words.now) }
     ensures limits { IfSome result CommandKeepsLimits }
 {
     match words {
@@ -162,7 +162,7 @@ fn link_command(words: &[String]) -> Option<Command<'_>>
 // Returns the command `ship` if the program's arguments ask for it: a plan, a layout, the image,
 // its certificate, and 1 to 65,530 sources.
 fn ship_command(words: &[String]) -> Option<Command<'_>>
-    ensures is { option_map command_of_value result ≡ ship_command_of (map string_bytes words.now) }
+    ensures is { option_map plain_command result ≡ ship_command_of (map string_bytes words.now) }
     ensures limits { IfSome result CommandKeepsLimits }
 {
     match words {
@@ -183,7 +183,7 @@ fn ship_command(words: &[String]) -> Option<Command<'_>>
 // Returns the command `tasks` or `taskcert` if the program's arguments ask for one: an image, a
 // plan, its tasks, and certificates.
 fn tasks_command(alloc: Global, words: &[String]) -> Option<Command<'_>>
-    ensures is { option_map command_of_value result
+    ensures is { option_map plain_command result
         ≡ tasks_command_of (map string_bytes words.now) }
     ensures limits { IfSome result CommandKeepsLimits }
 {
@@ -211,7 +211,7 @@ fn tasks_command(alloc: Global, words: &[String]) -> Option<Command<'_>>
 // Returns the command with one to four arguments after its verb that the program's arguments ask
 // for, or `None`.
 fn fixed_arity_command(words: &[String]) -> Option<Command<'_>>
-    ensures is { option_map command_of_value result
+    ensures is { option_map plain_command result
         ≡ fixed_arity_command_of (map string_bytes words.now) }
     ensures limits { IfSome result CommandKeepsLimits }
 {
@@ -274,7 +274,7 @@ fn is_taskcert(alloc: Global, verb: &str, certs: &[String]) -> bool
 // Returns the command that has one argument after its verb, `dis` or `gen`. `None` for other verbs
 // and bad numbers of functions.
 fn one_arg_command<'a>(verb: &str, word: &'a str) -> Option<Command<'a>>
-    ensures is { option_map command_of_value result ≡ command_of_one verb.now word.now }
+    ensures is { option_map plain_command result ≡ one_arg_command verb.now word.now }
     ensures limits { IfSome result CommandKeepsLimits }
 {
     if verb == "dis" {
@@ -289,8 +289,8 @@ fn one_arg_command<'a>(verb: &str, word: &'a str) -> Option<Command<'a>>
 // Returns the command that has two arguments after its verb, `asm` or `cfg`, or `None` for other
 // verbs.
 fn two_arg_command<'a>(verb: &str, first: &'a str, second: &'a str) -> Option<Command<'a>>
-    ensures is { option_map command_of_value result
-        ≡ command_of_two verb.now first.now second.now }
+    ensures is { option_map plain_command result
+        ≡ two_arg_command verb.now first.now second.now }
     ensures limits { IfSome result CommandKeepsLimits }
 {
     if verb == "asm" {
@@ -316,8 +316,8 @@ fn three_arg_command<'a>(
     plan: &'a str,
     third: &'a str,
 ) -> Option<Command<'a>>
-    ensures is { option_map command_of_value result
-        ≡ command_of_three verb.now elf.now plan.now third.now }
+    ensures is { option_map plain_command result
+        ≡ three_arg_command verb.now elf.now plan.now third.now }
     ensures limits { IfSome result CommandKeepsLimits }
 {
     if verb == "check" {
@@ -358,8 +358,8 @@ fn four_arg_command<'a>(
     third: &'a str,
     fourth: &'a str,
 ) -> Option<Command<'a>>
-    ensures is { option_map command_of_value result ≡
-        command_of_four verb.now first.now second.now third.now fourth.now }
+    ensures is { option_map plain_command result ≡
+        four_arg_command verb.now first.now second.now third.now fourth.now }
     ensures limits { IfSome result CommandKeepsLimits }
 {
     if verb == "cells" {
@@ -387,7 +387,7 @@ fn four_arg_command<'a>(
 
 // Returns the command `gen`, or `None` if its argument isn't a number of functions from 1 to 500.
 fn gen_command<'a>(word: &str) -> Option<Command<'a>>
-    ensures is { option_map command_of_value result
+    ensures is { option_map plain_command result
         ≡ option_map generate (gen_function_count word.now) }
     ensures limits { IfSome result CommandKeepsLimits }
 {
@@ -410,7 +410,7 @@ fn gen_count_in_range(n: u32) -> Option<u32>
 // Returns the command `boot` with these arguments, or `None` if the address isn't eight upper-case
 // hex digits.
 fn boot_command<'a>(elf: &'a str, plan: &'a str, cert: &'a str, at: &str) -> Option<Command<'a>>
-    ensures is { option_map command_of_value result
+    ensures is { option_map plain_command result
         ≡ boot_command_of elf.now plan.now cert.now at.now }
     ensures limits { IfSome result CommandKeepsLimits }
 {
@@ -426,7 +426,7 @@ fn boot_command<'a>(elf: &'a str, plan: &'a str, cert: &'a str, at: &str) -> Opt
 // Returns the command `bootgen` for a boot sequence at `at` that jumps to `entry`. `None` for a bad
 // number, or a sequence that passes 2^32.
 fn bootgen_command<'a>(plan: &'a str, entry: &str, at: &str, source: &'a str) -> Option<Command<'a>>
-    ensures is { option_map command_of_value result
+    ensures is { option_map plain_command result
         ≡ bootgen_command_of plan.now entry.now at.now source.now }
     ensures limits { IfSome result CommandKeepsLimits }
 {
@@ -449,7 +449,7 @@ impl<'a> Command<'a> {
     /// command is inlined here, so that the stack has the locals of one command only.
     pub(crate) fn outcome<F: Files>(self, alloc: Global, files: &mut F) -> Outcome
         requires { CommandKeepsLimits self }
-        ensures { IsCommandOutcome (reading_of (command_of_value self.entry)) (F.seen files.old)
+        ensures { IsCommandOutcome (reading_of (plain_command self.entry)) (F.seen files.old)
             (F.seen files.new)
             result }
     {

@@ -11,7 +11,7 @@ use Rattle.depth_cert.specs.Grammar.{certificate_of}
 use Rattle.tc_script.specs.ScriptText.{script_of}
 use Rattle.tc_object.specs.Grammar as grammar
 use Rattle.tc_stmt.specs.Lines.{LineData, lines_in}
-use Rattle.tc_asm.specs.Rules.{LinesKeepRules, IsFirstBrokenLine}
+use Rattle.tc_asm.specs.Rules.{LinesKeepRules, IsFirstBadLine}
 use Rattle.tc_link.specs.LayoutFaults.{layout_of}
 use Rattle.tcd_forms.specs.Forms.{elf_form, plan_form, cert_form, script_form, source_form, numbered_source_form, layout_form, object_form}
 use Rattle.tcd_reading.proofs.Decided.{IsLawful}
@@ -42,7 +42,7 @@ not_refused bytes p plan.NoMemory h k some = some refl
 not_refused bytes p _ h k some = plan_err bytes p _ h k
 
 -- ---- no source both keeps the rules and breaks one
-no_least : (lines : List LineData) (line rule : ℕ) (d : LineData) → LinesKeepRules lines (length lines) → IsFirstBrokenLine lines line rule → ⊥
+no_least : (lines : List LineData) (line rule : ℕ) (d : LineData) → LinesKeepRules lines (length lines) → IsFirstBadLine lines line rule → ⊥
 no_least lines line rule d keeps least = least.some (sym (least.broken d) ∙ keeps least.place d least.within)
 
 a_line : LineData

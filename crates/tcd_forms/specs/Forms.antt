@@ -18,7 +18,7 @@ use Rattle.tc_object.specs.Grammar as grammar
 use Rattle.tc_stmt.specs.Lines.{lines_in}
 use Rattle.tc_asm.specs.Objects.{object_of_draft}
 use Rattle.tc_asm.specs.DraftedSources.{draft_in}
-use Rattle.tc_asm.specs.Rules.{AllLinesKeepRules, IsFirstBrokenLine}
+use Rattle.tc_asm.specs.Rules.{AllLinesKeepRules, IsFirstBadLine}
 use Rattle.tc_link.specs.Layouts.{LayoutData}
 use Rattle.tc_link.specs.LayoutFaults.{layout_of}
 use Rattle.tc_link.specs.declared.layout_errors.LayoutErr.{LayoutErr}
@@ -77,7 +77,7 @@ source_form = record {
   limit = 2 ^ 24;
   too_long_line = source_too_long_line 0;
   Is = λ bytes object. IsSource bytes object;
-  IsBad = λ bytes text. (line : ℕ) × (rule : ℕ) × IsFirstBrokenLine (lines_in bytes) line rule × (text ≡ bad_source_line 0 rule line);
+  IsBad = λ bytes text. (line : ℕ) × (rule : ℕ) × IsFirstBadLine (lines_in bytes) line rule × (text ≡ bad_source_line 0 rule line);
 }
 
 -- the text of a source file, and the object that it is assembled to
@@ -92,7 +92,7 @@ numbered_source_form place = record {
   limit = 2 ^ 24;
   too_long_line = source_too_long_line place;
   Is = λ bytes source. (source.text ≡ bytes) × IsSource bytes source.object;
-  IsBad = λ bytes text. (line : ℕ) × (rule : ℕ) × IsFirstBrokenLine (lines_in bytes) line rule × (text ≡ bad_source_line place rule line);
+  IsBad = λ bytes text. (line : ℕ) × (rule : ℕ) × IsFirstBadLine (lines_in bytes) line rule × (text ≡ bad_source_line place rule line);
 }
 
 -- the form of layout files: the limit in bytes, the layout that the bytes are, and the lines on bad

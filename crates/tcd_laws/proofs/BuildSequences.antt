@@ -21,9 +21,9 @@ use Rattle.tcd_forms.specs.Forms.{source_form, object_form, layout_form, elf_for
 use Rattle.tcd_driver.specs.Commands.{Command, link, dis}
 use Rattle.tcd_driver.specs.DistinctNames.{are_distinct_names}
 use Rattle.tcd_laws.specs.LimitsKept.{IsObjectOfBytes}
-use Rattle.tcd_laws.specs.Sequences.{AreSureInSequence}
-use Rattle.tcd_laws.specs.HandedFiles.{HoldEachHanded}
-use Rattle.tcd_laws.specs.BuildSequences.{BuildPartData, BuildData, object_names, objects_of_parts, asm_command, asm_report, build_commands, build_reports, IsPart, IsBuild, BuildsReport, BuildsEnd}
+use Rattle.tcd_laws.specs.Sequences.{ReportSurelyInSequence}
+use Rattle.tcd_laws.specs.HandedFiles.{HoldEachInput}
+use Rattle.tcd_laws.specs.BuildSequences.{BuildPartData, BuildData, object_names, objects_of_parts, asm_command, asm_report, build_commands, build_reports, IsBuildPart, IsBuild, BuildCommandsReportSurely, BuildsEndWithoutFault}
 use Rattle.tcd_laws.proofs.LinkedImages.{links_give_images}
 use Rattle.tcd_laws.proofs.LayoutTexts.{texts_give_layouts}
 use Rattle.tcd_laws.proofs.HeldFiles.{nothing_told, input_same, input_other}
@@ -59,10 +59,10 @@ input_kept form (p ∷ ps) m name x other h =
 -- ---- asm of each source
 module _ (q : BuildPartData) where
   -- a part that another's object leaves
-  part_after : (m : FileMap) (p : BuildPartData) → name_of q ≢ source_of p → IsPart (Some m) p → IsPart (Some (with_object m q)) p
+  part_after : (m : FileMap) (p : BuildPartData) → name_of q ≢ source_of p → IsBuildPart (Some m) p → IsBuildPart (Some (with_object m q)) p
   part_after m p other h = record { source = input_other source_form m (name_of q) (bytes_of_object q.object) (source_of p) p.object (λ e. other (sym e)) h.source; short = h.short }
 
-  parts_after : (m : FileMap) (ps : List BuildPartData) → All (λ p. name_of q ≢ source_of p) ps → All (IsPart (Some m)) ps → All (IsPart (Some (with_object m q))) ps
+  parts_after : (m : FileMap) (ps : List BuildPartData) → All (λ p. name_of q ≢ source_of p) ps → All (IsBuildPart (Some m)) ps → All (IsBuildPart (Some (with_object m q))) ps
   parts_after m ps other h k d less = part_after m (get_or ps k d) (other k d less) (h k d less)
 
 abbrev MissesSources : List BuildPartData → BuildPartData → Type 0
@@ -71,15 +71,15 @@ MissesSources ps p = All (λ q. name_of p ≢ source_of q) ps
 later_sources : (p : BuildPartData) (ps : List BuildPartData) → All (MissesSources (p ∷ ps)) (p ∷ ps) → All (MissesSources ps) ps
 later_sources p ps h k d less = All-tail (λ q. name_of (get_or ps k d) ≢ source_of q) p ps (All-tail (MissesSources (p ∷ ps)) p ps h k d less)
 
-sure_parts : (ps : List BuildPartData) (m : FileMap) (cs : List Command) (qs : List Report) → All (IsPart (Some m)) ps → All (MissesSources ps) ps → AreSureInSequence cs (Some (with_objects m ps)) qs →
-    AreSureInSequence (map asm_command ps ++ cs) (Some m) (map asm_report ps ++ qs)
+sure_parts : (ps : List BuildPartData) (m : FileMap) (cs : List Command) (qs : List Report) → All (IsBuildPart (Some m)) ps → All (MissesSources ps) ps → ReportSurelyInSequence cs (Some (with_objects m ps)) qs →
+    ReportSurelyInSequence (map asm_command ps ++ cs) (Some m) (map asm_report ps ++ qs)
 unfolding with_objects
 sure_parts [] m cs qs parts apart rest = rest
 sure_parts (p ∷ ps) m cs qs parts apart rest =
     let mine = All-head (MissesSources (p ∷ ps)) p ps apart in
     let others = All-tail (λ q. name_of p ≢ source_of q) p ps mine in (
-      sure_asm m p.names p.object (All-head (IsPart (Some m)) p ps parts).source,
-      sure_parts ps (with_object m p) cs qs (parts_after p m ps others (All-tail (IsPart (Some m)) p ps parts)) (later_sources p ps apart) rest,
+      sure_asm m p.names p.object (All-head (IsBuildPart (Some m)) p ps parts).source,
+      sure_parts ps (with_object m p) cs qs (parts_after p m ps others (All-tail (IsBuildPart (Some m)) p ps parts)) (later_sources p ps apart) rest,
     )
 
 -- ---- link of their objects
@@ -101,27 +101,27 @@ others_of name (p ∷ ps) e =
     let f = either_false (bytes_eq name (name_of p)) (list_any (bytes_eq name) (object_names ps)) e in
     All-cons (IsOther name) p ps (λ same. equal_names name (name_of p) f.0 (sym same)) (others_of name ps f.1)
 
-objects_held : (ps : List BuildPartData) (place : ℕ) (m : FileMap) → All (IsPart (Some m)) ps → All (MissesSources ps) ps → are_distinct_names (object_names ps) ≡ true → HoldEachHanded object_form place (Some (with_objects m ps)) (object_names ps) (objects_of_parts ps)
+objects_held : (ps : List BuildPartData) (place : ℕ) (m : FileMap) → All (IsBuildPart (Some m)) ps → All (MissesSources ps) ps → are_distinct_names (object_names ps) ≡ true → HoldEachInput object_form place (Some (with_objects m ps)) (object_names ps) (objects_of_parts ps)
 unfolding with_objects
 objects_held [] place m parts apart different = tt
 objects_held (p ∷ ps) place m parts apart different =
     let d = and_parts _ _ different in
-    let here = All-head (IsPart (Some m)) p ps parts in
+    let here = All-head (IsBuildPart (Some m)) p ps parts in
     let others = All-tail (λ q. name_of p ≢ source_of q) p ps (All-head (MissesSources (p ∷ ps)) p ps apart) in
     let good = source_object (here.source).0 p.object (here.source).3 in
     let mine = input_same (object_form place) m (name_of p) (bytes_of_object p.object) p.object here.short (object_of-bytes_of p.object good.object) in (
       input_kept (object_form place) ps (with_object m p) (name_of p) p.object (others_of (name_of p) ps (not_true _ d.0)) mine,
-      objects_held ps (place + 1) (with_object m p) (parts_after p m ps others (All-tail (IsPart (Some m)) p ps parts)) (later_sources p ps apart) d.1,
+      objects_held ps (place + 1) (with_object m p) (parts_after p m ps others (All-tail (IsBuildPart (Some m)) p ps parts)) (later_sources p ps apart) d.1,
     )
 
-objects_good : (m : FileMap) (ps : List BuildPartData) → All (IsPart (Some m)) ps → All IsObjectOfBytes (objects_of_parts ps)
+objects_good : (m : FileMap) (ps : List BuildPartData) → All (IsBuildPart (Some m)) ps → All IsObjectOfBytes (objects_of_parts ps)
 objects_good m [] parts = All-nil IsObjectOfBytes
 objects_good m (p ∷ ps) parts =
-    let here = All-head (IsPart (Some m)) p ps parts in
-    All-cons IsObjectOfBytes p.object (objects_of_parts ps) (source_object (here.source).0 p.object (here.source).3) (objects_good m ps (All-tail (IsPart (Some m)) p ps parts))
+    let here = All-head (IsBuildPart (Some m)) p ps parts in
+    All-cons IsObjectOfBytes p.object (objects_of_parts ps) (source_object (here.source).0 p.object (here.source).3) (objects_good m ps (All-tail (IsBuildPart (Some m)) p ps parts))
 
 -- ---- the build
-build_in : (b : BuildData) (m : FileMap) → IsBuild (Some m) b → AreSureInSequence (build_commands b) (Some m) (build_reports b)
+build_in : (b : BuildData) (m : FileMap) → IsBuild (Some m) b → ReportSurelyInSequence (build_commands b) (Some m) (build_reports b)
 build_in b m h =
     let all : FileMap = with_objects m b.parts in
     let layout = input_kept layout_form b.parts m b.layout b.rules (h.apart).layout h.layout in
@@ -135,9 +135,9 @@ build_in b m h =
       (sure_dis (insert all b.elf (elf_file b.image)) b.elf b.image executable, tt),
     )
 
-pub builds_report : BuildsReport
+pub builds_report : BuildCommandsReportSurely
 builds_report b None some h = absurd (nothing_told some)
 builds_report b (Some m) some h = build_in b m h
 
-pub builds_end : BuildsEnd
+pub builds_end : BuildsEndWithoutFault
 builds_end b files files' sink sink' result steady some h room ended = sure_sequences_end (build_commands b) (build_reports b) files files' sink sink' result steady (builds_report b files.held some h) room ended

@@ -21,10 +21,10 @@ use Rattle.depth_check.proofs.Sound.{accepted_is_safe}
 use Rattle.depth_check.proofs.Held.{edges_are_owed}
 use Rattle.tcd_text.specs.HexNumbers.{hex_digit, hex_byte, hex_word}
 use Rattle.tcd_report.specs.Texts.{key_kind_text, frame_name}
-use Rattle.tcd_report.specs.Graphs.{Arrow, goes, back, key_front, line_front, line_end_to, way_end, arrow_end, graph_line, ArePointLines, AreLineParts, AreJoinedLines, AreNodeLines, AreGraphLines}
+use Rattle.tcd_report.specs.Graphs.{Arrow, goes, back, node_line_prefix, point_line_prefix, line_end_to, way_end, arrow_end, graph_line, ArePointLines, AreLineParts, AreJoinedLines, AreNodeLines, AreGraphLines}
 use Rattle.tcd_report.specs.Graphs.EdgeLaws.{LinesHaveAllEdges}
 use Rattle.tcd_report.proofs.GraphLemmas.EdgeProofs.{edges_stand}
-use Rattle.tcd_laws.specs.EdgesOnLines.{printed_graph_lines, AcceptedEdgesStand}
+use Rattle.tcd_laws.specs.EdgesOnLines.{printed_graph_lines, PrintedGraphsHaveAllEdges}
 
 -- ---- texts without a line feed
 abbrev passes : ℕ → Bool
@@ -85,9 +85,9 @@ key_passes key small =
     (joined (codes " prio ") (decimal key.prio ++ (codes " is " ++ (cond key.is 49 48 ∷ []))) (record { none = refl })
     (joined (decimal key.prio) (codes " is " ++ (cond key.is 49 48 ∷ [])) (decimal_passes key.prio small) (joined (codes " is ") (cond key.is 49 48 ∷ []) (record { none = refl }) (flag_passes key.is)))))
 
-front_passes : (key : Key) (p : ℕ) → key.prio < 2 ^ 8 → NoFeed (line_front key p)
+front_passes : (key : Key) (p : ℕ) → key.prio < 2 ^ 8 → NoFeed (point_line_prefix key p)
 front_passes key p small =
-    joined (key_front key) (hex_word p ++ 32 ∷ []) (joined (frame_name key) (codes ": ") (key_passes key small) (record { none = refl }))
+    joined (node_line_prefix key) (hex_word p ++ 32 ∷ []) (joined (frame_name key) (codes ": ") (key_passes key small) (record { none = refl }))
     (joined (hex_word p) (32 ∷ []) (word_passes p) (record { none = refl }))
 
 -- ---- lines
@@ -117,9 +117,9 @@ text_line : (key : Key) (p : ℕ) (a : Arrow) → key.prio < 2 ^ 8 → IsLine (g
 text_line key p a small =
     let e = arrow_line a in
     record {
-      body = line_front key p ++ e.body;
-      are = ap (λ (bs : List ℕ). line_front key p ++ bs) e.are ∙ sym (append_assoc (line_front key p) e.body (10 ∷ []));
-      plain = joined (line_front key p) e.body (front_passes key p small) e.plain;
+      body = point_line_prefix key p ++ e.body;
+      are = ap (λ (bs : List ℕ). point_line_prefix key p ++ bs) e.are ∙ sym (append_assoc (point_line_prefix key p) e.body (10 ∷ []));
+      plain = joined (point_line_prefix key p) e.body (front_passes key p small) e.plain;
     }
 
 -- each of them
@@ -184,7 +184,7 @@ printed_all [] h = refl
 printed_all (l ∷ ls) h = printed_front l (flat_map (λ l. l) ls) h.0 ∙ ap (λ (xs : List (List ℕ)). l ∷ xs) (printed_all ls h.1)
 
 -- ---- the law
-pub accepted_edges_stand : AcceptedEdgesStand
+pub accepted_edges_stand : PrintedGraphsHaveAllEdges
 accepted_edges_stand image plan cert text entry ok is_cert accepted g =
     let same : printed_graph_lines text ≡ g.lines = ap printed_graph_lines g.text_is ∙ printed_all g.lines (graph_lines image plan cert g.lines is_cert g.are) in
     subst (LinesHaveAllEdges image plan cert) (sym same)

@@ -27,7 +27,7 @@ use Rattle.tcd_forms.proofs.FormLaws.{object_lawful, elf_lawful}
 use Rattle.tcd_driver.specs.Asm.{AsmArgs, asm_reading}
 use Rattle.tcd_driver.specs.Link.{LinkArgs, IsLinkReport, refused, image, link_reading}
 use Rattle.tcd_laws.specs.LimitsKept.{IsByte, SectionHoldsBytes, IsObjectOfBytes}
-use Rattle.tcd_laws.specs.HandedFiles.{IsHandedExactly, HoldEachHanded, HandedFilesHoldBytes, IsObjectHandedOver, AsmHandsOver, IsImageHandedOver, LinkHandsOver}
+use Rattle.tcd_laws.specs.HandedFiles.{ReadsBackAs, HoldEachInput, FilesHoldBytes, IsObjectReadBack, AssembledObjectsReadBack, IsImageReadBack, LinkedImagesReadBack}
 use Rattle.tcd_laws.proofs.SourceBytes.{sources_give_objects}
 use Rattle.tcd_laws.proofs.LinkedImages.{links_give_images}
 use Rattle.tcd_laws.proofs.LayoutTexts.{texts_give_layouts}
@@ -69,12 +69,12 @@ module _ (reading : Reading) (files files' : FilesSeen) (sink sink' : SinkSeen) 
 pub source_object : (bytes : List ℕ) (o : ObjectData) → IsSource bytes o → IsObjectOfBytes o
 source_object bytes o s = subst IsObjectOfBytes (sym s.is) (sources_give_objects bytes s.keeps)
 
-bytes_held : (m : FileMap) (name bytes : List ℕ) → All IsByte bytes → HandedFilesHoldBytes (Some (insert m name bytes)) (name ∷ [])
+bytes_held : (m : FileMap) (name bytes : List ℕ) → All IsByte bytes → FilesHoldBytes (Some (insert m name bytes)) (name ∷ [])
 bytes_held m name bytes small =
     let Small : List ℕ → Type 0 = λ n. IfSome (get (insert m name bytes) n) (All IsByte) in
     All-cons Small name [] (subst (λ (x : Option (List ℕ)). IfSome x (All IsByte)) (sym (get_same m name bytes)) small) (All-nil Small)
 
-asm_from : (names : AsmArgs) (held held' : Option FileMap) (r : Report) → IsSome held → ReadingSays (asm_reading names) held r → r.status ≡ Done → held' ≡ with_report_files held r.writes → IsObjectHandedOver names held held'
+asm_from : (names : AsmArgs) (held held' : Option FileMap) (r : Report) → IsSome held → ReadingSays (asm_reading names) held r → r.status ≡ Done → held' ≡ with_report_files held r.writes → IsObjectReadBack names held held'
 asm_from names None held' r some says e w = absurd (nothing_told some)
 asm_from names (Some m) held' r some (inl b) e w = absurd (not_bad r b.status e)
 asm_from names (Some m) held' r some (inr s) e w =
@@ -85,13 +85,13 @@ asm_from names (Some m) held' r some (inr s) e w =
       object = o;
       source = s.1;
       written = written;
-      bytes = subst (λ (h : Option FileMap). HandedFilesHoldBytes h (names.object ∷ [])) (sym written) (bytes_held m names.object (bytes_of_object o) (objects_spell_bytes o good));
-      read = λ place short. subst (λ (h : Option FileMap). IsHandedExactly (object_form place) h names.object o) (sym written)
+      bytes = subst (λ (h : Option FileMap). FilesHoldBytes h (names.object ∷ [])) (sym written) (bytes_held m names.object (bytes_of_object o) (objects_spell_bytes o good));
+      read = λ place short. subst (λ (h : Option FileMap). ReadsBackAs (object_form place) h names.object o) (sym written)
           (exactly (object_form place) (insert m names.object (bytes_of_object o)) names.object o (object_lawful place)
           (input_same (object_form place) m names.object (bytes_of_object o) o short (object_of-bytes_of o good.object)));
     }
 
-pub asm_hands_over : AsmHandsOver
+pub asm_hands_over : AssembledObjectsReadBack
 asm_hands_over names files files' sink sink' some ends =
     let d = done_report (asm_reading names) files files' sink sink' ends.ended in
     asm_from names files.held files'.held d.report some d.said d.status d.written
@@ -129,7 +129,7 @@ read_object bytes o small e =
     let r = read_is_object bytes o (byte_at bytes small) e in
     record { object = r.1; bytes = object_small o (subst (λ (bs : List ℕ). All IsByte bs) (sym r.0) small) }
 
-objects_of_bytes : (place : ℕ) (m : FileMap) (names : List (List ℕ)) (os : List ObjectData) → HoldEachHanded object_form place (Some m) names os → All (λ name. IfSome (get m name) (All IsByte)) names → All IsObjectOfBytes os
+objects_of_bytes : (place : ℕ) (m : FileMap) (names : List (List ℕ)) (os : List ObjectData) → HoldEachInput object_form place (Some m) names os → All (λ name. IfSome (get m name) (All IsByte)) names → All IsObjectOfBytes os
 objects_of_bytes place m [] [] h small = All-nil IsObjectOfBytes
 objects_of_bytes place m [] (o ∷ os) h small = absurd h
 objects_of_bytes place m (name ∷ names) [] h small = absurd h
@@ -140,15 +140,15 @@ objects_of_bytes place m (name ∷ names) (o ∷ os) h small =
 
 -- ---- link
 each_said : {A : Type 0} (form : ℕ → FormSeen A) (place : ℕ) (m : FileMap) (names : List (List ℕ)) (next : List A → Reading) (r : Report) → r.status ≡ Done → ReadingSays (input_files A form place names next) (Some m) r →
-    (xs : List A) × HoldEachHanded form place (Some m) names xs × ReadingSays (next xs) (Some m) r
+    (xs : List A) × HoldEachInput form place (Some m) names xs × ReadingSays (next xs) (Some m) r
 each_said form place m [] next r e says = ([], tt, says)
 each_said form place m (name ∷ names) next r e (inl b) = absurd (not_bad r b.status e)
 each_said form place m (name ∷ names) next r e (inr s) =
     let rest = each_said form (place + 1) m names (λ ys. next (s.0 ∷ ys)) r e s.2 in
     (s.0 ∷ rest.0, (s.1, rest.1), rest.2)
 
-linked_from : (names : LinkArgs) (m : FileMap) (held' : Option FileMap) (r : Report) (l : LayoutData) (os : List ObjectData) → HoldEachHanded object_form 0 (Some m) names.objects os → HoldsInput layout_form (Some m) names.layout l → All IsObjectOfBytes os →
-    r.status ≡ Done → held' ≡ with_report_files (Some m) r.writes → IsLinkReport names.image l os r → IsImageHandedOver names (Some m) held'
+linked_from : (names : LinkArgs) (m : FileMap) (held' : Option FileMap) (r : Report) (l : LayoutData) (os : List ObjectData) → HoldEachInput object_form 0 (Some m) names.objects os → HoldsInput layout_form (Some m) names.layout l → All IsObjectOfBytes os →
+    r.status ≡ Done → held' ≡ with_report_files (Some m) r.writes → IsLinkReport names.image l os r → IsImageReadBack names (Some m) held'
 linked_from names m held' r l os are is_layout small e w (refused q f g) = absurd (not_bad r (status_is r _ g) e)
 linked_from names m held' r l os are is_layout small e w (image i f g) =
     let written : held' ≡ Some (insert m names.image (elf_file i)) = w ∙ ap (λ (q : Report). with_report_files (Some m) q.writes) g in
@@ -161,18 +161,18 @@ linked_from names m held' r l os are is_layout small e w (image i f g) =
       image = i;
       linked_is = f;
       written = written;
-      read = λ short. subst (λ (h : Option FileMap). IsHandedExactly elf_form h names.image i) (sym written)
+      read = λ short. subst (λ (h : Option FileMap). ReadsBackAs elf_form h names.image i) (sym written)
           (exactly elf_form (insert m names.image (elf_file i)) names.image i elf_lawful (input_same elf_form m names.image (elf_file i) i short (image_of-file_of i good)));
     }
 
-link_from : (names : LinkArgs) (held held' : Option FileMap) (r : Report) → IsSome held → HandedFilesHoldBytes held names.objects → ReadingSays (link_reading names) held r → r.status ≡ Done → held' ≡ with_report_files held r.writes → IsImageHandedOver names held held'
+link_from : (names : LinkArgs) (held held' : Option FileMap) (r : Report) → IsSome held → FilesHoldBytes held names.objects → ReadingSays (link_reading names) held r → r.status ≡ Done → held' ≡ with_report_files held r.writes → IsImageReadBack names held held'
 link_from names None held' r some small says e w = absurd (nothing_told some)
 link_from names (Some m) held' r some small (inl b) e w = absurd (not_bad r b.status e)
 link_from names (Some m) held' r some small (inr s) e w =
     let os = each_said object_form 0 m names.objects _ r e s.2 in
     linked_from names m held' r s.0 os.0 os.1 s.1 (objects_of_bytes 0 m names.objects os.0 os.1 small) e w os.2
 
-pub link_hands_over : LinkHandsOver
+pub link_hands_over : LinkedImagesReadBack
 link_hands_over names files files' sink sink' some small ends =
     let d = done_report (link_reading names) files files' sink sink' ends.ended in
     link_from names files.held files'.held d.report some small d.said d.status d.written

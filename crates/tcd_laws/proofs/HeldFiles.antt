@@ -11,8 +11,8 @@ use Rattle.tcd_reading.specs.Reports.{Report}
 use Rattle.tcd_reading.specs.Inputs.{FormSeen, HoldsInput, Reading, input, input_files, answer, ReadingSays, HoldsNeededInputs}
 use Rattle.tcd_reading.specs.declared.status.Status.TheVariants.{Done}
 use Rattle.tcd_reading.proofs.Decided.{IsLawful, one_value, never_both}
-use Rattle.tcd_laws.specs.Sequences.{IsSureInSequence}
-use Rattle.tcd_laws.specs.HandedFiles.{IsHandedExactly, HoldEachHanded}
+use Rattle.tcd_laws.specs.Sequences.{ReportsSurely}
+use Rattle.tcd_laws.specs.HandedFiles.{ReadsBackAs, HoldEachInput}
 
 -- files that tell nothing tell no map
 pub nothing_told : IsSome {T = FileMap} None → ⊥
@@ -42,7 +42,7 @@ pub input_other : {A : Type 0} (form : FormSeen A) (m : FileMap) (name bytes q :
 input_other form m name bytes q x other h = (h.0, get_other m name bytes q other ∙ h.1, h.2, h.3)
 
 -- ---- exactly one value
-pub exactly : {A : Type 0} (form : FormSeen A) (m : FileMap) (name : List ℕ) (x : A) → IsLawful form → HoldsInput form (Some m) name x → IsHandedExactly form (Some m) name x
+pub exactly : {A : Type 0} (form : FormSeen A) (m : FileMap) (name : List ℕ) (x : A) → IsLawful form → HoldsInput form (Some m) name x → ReadsBackAs form (Some m) name x
 exactly form m name x lawful h = record { is = h; only = λ y k. one_value form m name y x lawful k h; good = λ text bad. never_both form m name text x lawful h bad }
 
 -- ---- readings
@@ -57,7 +57,7 @@ asked_input : {A : Type 0} (form : FormSeen A) (m : FileMap) (name : List ℕ) (
 asked_input {A} form m name x next lawful h asked =
     (is_held (get m name) h.0 h.1, λ y k. subst (λ (z : A). HoldsNeededInputs (next z) (Some m)) (one_value form m name x y lawful h k) asked)
 
-pub sure_input : {A : Type 0} (form : FormSeen A) (m : FileMap) (name : List ℕ) (x : A) (next : A → Reading) (q : Report) → IsLawful form → HoldsInput form (Some m) name x → IsSureInSequence (next x) (Some m) q → IsSureInSequence (input A form name next) (Some m) q
+pub sure_input : {A : Type 0} (form : FormSeen A) (m : FileMap) (name : List ℕ) (x : A) (next : A → Reading) (q : Report) → IsLawful form → HoldsInput form (Some m) name x → ReportsSurely (next x) (Some m) q → ReportsSurely (input A form name next) (Some m) q
 sure_input form m name x next q lawful h s = record {
   asked = asked_input form m name x next lawful h s.asked;
   said = inr (x, h, s.said);
@@ -65,13 +65,13 @@ sure_input form m name x next q lawful h s = record {
   done = s.done;
 }
 
-pub sure_each : {A : Type 0} (form : ℕ → FormSeen A) (place : ℕ) (m : FileMap) (names : List (List ℕ)) (xs : List A) (next : List A → Reading) (q : Report) → ((n : ℕ) → IsLawful (form n)) → HoldEachHanded form place (Some m) names xs →
-    IsSureInSequence (next xs) (Some m) q → IsSureInSequence (input_files A form place names next) (Some m) q
+pub sure_each : {A : Type 0} (form : ℕ → FormSeen A) (place : ℕ) (m : FileMap) (names : List (List ℕ)) (xs : List A) (next : List A → Reading) (q : Report) → ((n : ℕ) → IsLawful (form n)) → HoldEachInput form place (Some m) names xs →
+    ReportsSurely (next xs) (Some m) q → ReportsSurely (input_files A form place names next) (Some m) q
 sure_each form place m [] [] next q lawful h s = s
 sure_each form place m [] (x ∷ xs) next q lawful h s = absurd h
 sure_each form place m (name ∷ names) [] next q lawful h s = absurd h
 sure_each {A} form place m (name ∷ names) (x ∷ xs) next q lawful h s =
     sure_input (form place) m name x (λ y. input_files A form (place + 1) names (λ ys. next (y ∷ ys))) q (lawful place) h.0 (sure_each form (place + 1) m names xs (λ ys. next (x ∷ ys)) q lawful h.1 s)
 
-pub sure_answer : (P : Report → Type 0) (held : Option FileMap) (q : Report) → P q → ((o : Report) → P o → o ≡ q) → q.status ≡ Done → IsSureInSequence (answer P) held q
+pub sure_answer : (P : Report → Type 0) (held : Option FileMap) (q : Report) → P q → ((o : Report) → P o → o ≡ q) → q.status ≡ Done → ReportsSurely (answer P) held q
 sure_answer P held q is only done = record { asked = tt; said = is; only = only; done = done }

@@ -14,10 +14,10 @@ use Rattle.tcd_text.specs.HexNumbers.{hex_number_of, is_upper_hex}
 use Rattle.tc_object.specs.Names.{is_name_length, is_object_name, object_name_of}
 use Rattle.tc_object.specs.Objects.{AllInTurn}
 use Rattle.tc_link.specs.Layouts.{PlaceData, LayoutData, IsPlace, IsPlaceAfter, IsLayout, are_overlapping_places, has_place_for}
-use Rattle.tc_link.specs.LayoutLines.{LayoutLineData, blank, entry, place, place_of_words, layout_line_of_words, layout_line_contents, entry_in_line, place_in_line, entries_in_lines, places_in_lines, IsGoodLayoutLine}
+use Rattle.tc_link.specs.LayoutLines.{LayoutLineData, blank, entry, place, place_of_words, layout_line_of_words, layout_line_contents, entry_in_line, place_in_line, entries_in_lines, places_in_lines, IsValidLayoutLine}
 use Rattle.tcd_base.specs.Refusing.{unless_refused}
 use Rattle.tc_link.specs.LayoutFaults.{layout_line_fault, first_layout_fault}
-use Rattle.tc_link.specs.LayoutDrafts.{with_entry, LayoutDraftData, IsLayoutDraft, draft_with_line}
+use Rattle.tc_link.specs.LayoutDrafts.{finished_layout, LayoutDraftData, IsLayoutDraft, draft_with_line}
 use Rattle.tc_link.specs.declared.layout_errors.LayoutErr.{LayoutErr}
 use Rattle.tc_link.proofs.TurnLaws.{turn_push}
 use Rattle.tcd_laws.specs.LimitsKept.{TextsGiveLayouts}
@@ -53,15 +53,15 @@ named : (bs name : List ℕ) → object_name_of bs ≡ Some name → object_name
 named bs name e = own_name (is_name_length (length bs) && is_object_name bs) bs name refl e
 
 -- ---- one line
-entry_good : (o : Option (List ℕ)) (l : LayoutLineData) → ((name : List ℕ) → o ≡ Some name → object_name_of name ≡ Some name) → option_map entry o ≡ Some l → IsGoodLayoutLine l
+entry_good : (o : Option (List ℕ)) (l : LayoutLineData) → ((name : List ℕ) → o ≡ Some name → object_name_of name ≡ Some name) → option_map entry o ≡ Some l → IsValidLayoutLine l
 entry_good None l good e = cc
-entry_good (Some name) l good e = let same : entry name ≡ l = cc in subst IsGoodLayoutLine same (good name refl)
+entry_good (Some name) l good e = let same : entry name ≡ l = cc in subst IsValidLayoutLine same (good name refl)
 
-tested_good : (b : Bool) (p : PlaceData) (l : LayoutLineData) → (b ≡ true → IsPlace p) → then_some b (place p) ≡ Some l → IsGoodLayoutLine l
-tested_good true p l good e = let same : place p ≡ l = cc in subst IsGoodLayoutLine same (good refl)
+tested_good : (b : Bool) (p : PlaceData) (l : LayoutLineData) → (b ≡ true → IsPlace p) → then_some b (place p) ≡ Some l → IsValidLayoutLine l
+tested_good true p l good e = let same : place p ≡ l = cc in subst IsValidLayoutLine same (good refl)
 tested_good false p l good e = cc
 
-place_good : (section at most : List ℕ) (s : Option (List ℕ)) (x n : Option ℕ) (l : LayoutLineData) → object_name_of section ≡ s → hex_number_of at ≡ x → hex_number_of most ≡ n → place_of_words s x n ≡ Some l → IsGoodLayoutLine l
+place_good : (section at most : List ℕ) (s : Option (List ℕ)) (x n : Option ℕ) (l : LayoutLineData) → object_name_of section ≡ s → hex_number_of at ≡ x → hex_number_of most ≡ n → place_of_words s x n ≡ Some l → IsValidLayoutLine l
 place_good section at most (Some name) (Some a) (Some m) l e f g h =
     tested_good (a % 4 == 0 && nat_le (a + m) (2 ^ 32)) (record { section = name; at = a; most = m }) l
     (λ t. let p = and_parts _ _ t in record { name = named section name e; aligned = eqb-true (a % 4) 0 p.0; word = hex_small at a f; within = leb-true (a + m) (2 ^ 32) p.1 }) h
@@ -69,15 +69,15 @@ place_good section at most (Some name) (Some a) None l e f g h = cc
 place_good section at most (Some name) None n l e f g h = cc
 place_good section at most None x n l e f g h = cc
 
-when : (b : Bool) (o : Option LayoutLineData) (l : LayoutLineData) → ((k : LayoutLineData) → o ≡ Some k → IsGoodLayoutLine k) → cond b o None ≡ Some l → IsGoodLayoutLine l
+when : (b : Bool) (o : Option LayoutLineData) (l : LayoutLineData) → ((k : LayoutLineData) → o ≡ Some k → IsValidLayoutLine k) → cond b o None ≡ Some l → IsValidLayoutLine l
 when true o l good e = good l e
 when false o l good e = cc
 
-blank_good : (b : Bool) (l : LayoutLineData) → then_some b blank ≡ Some l → IsGoodLayoutLine l
-blank_good true l e = let same : blank ≡ l = cc in subst IsGoodLayoutLine same tt
+blank_good : (b : Bool) (l : LayoutLineData) → then_some b blank ≡ Some l → IsValidLayoutLine l
+blank_good true l e = let same : blank ≡ l = cc in subst IsValidLayoutLine same tt
 blank_good false l e = cc
 
-words_good : (ws : List (List ℕ)) (l : LayoutLineData) → layout_line_of_words ws ≡ Some l → IsGoodLayoutLine l
+words_good : (ws : List (List ℕ)) (l : LayoutLineData) → layout_line_of_words ws ≡ Some l → IsValidLayoutLine l
 words_good [] l e = cc
 words_good (w ∷ []) l e = blank_good (length w == 0) l e
 words_good (w ∷ name ∷ []) l e = when (bytes_eq w (codes "entry")) (option_map entry (object_name_of name)) l (λ k f. entry_good (object_name_of name) k (λ n g. named name n g) f) e
@@ -87,7 +87,7 @@ words_good (w ∷ section ∷ at ∷ most ∷ []) l e =
     (λ k f. place_good section at most (object_name_of section) (hex_number_of at) (hex_number_of most) k refl refl refl f) e
 words_good (w ∷ section ∷ at ∷ most ∷ more ∷ rest) l e = cc
 
-line_good : (line : List ℕ) (l : LayoutLineData) → layout_line_contents line ≡ Some l → IsGoodLayoutLine l
+line_good : (line : List ℕ) (l : LayoutLineData) → layout_line_contents line ≡ Some l → IsValidLayoutLine l
 unfolding layout_line_contents
 line_good line l e = words_good (line_words line) l e
 
@@ -123,7 +123,7 @@ may_stand n entries places p is e = by_name (has_place_for places p.section) ref
     by_name false a f = by_count a (nat_le 64 (length places)) refl f
 
 -- a draft with a line more that has no fault
-draft_more : (d : LayoutDraftData) (n : ℕ) (o : Option LayoutLineData) → ((l : LayoutLineData) → o ≡ Some l → IsGoodLayoutLine l) → IsLayoutDraft d → layout_line_fault n d.entries d.places o ≡ None → IsLayoutDraft (draft_with_line d o)
+draft_more : (d : LayoutDraftData) (n : ℕ) (o : Option LayoutLineData) → ((l : LayoutLineData) → o ≡ Some l → IsValidLayoutLine l) → IsLayoutDraft d → layout_line_fault n d.entries d.places o ≡ None → IsLayoutDraft (draft_with_line d o)
 draft_more d n None good h e = cc
 draft_more d n (Some blank) good h e = record {
   entries = subst (λ (xs : List (List ℕ)). All (λ x. object_name_of x ≡ Some x) xs) (sym (append-nil d.entries)) h.entries;
@@ -159,7 +159,7 @@ unfolding entries_in_lines places_in_lines
 no_lines = record { entries = All-nil (λ x. object_name_of x ≡ Some x); few = omega arith; places = tt }
 
 -- ---- the layout
-with_entry_good : (n : ℕ) (entries : List (List ℕ)) (places : List PlaceData) (l : LayoutData) → IsLayoutDraft (record { entries = entries; places = places }) → with_entry n entries places ≡ Ok l → IsLayout l
+with_entry_good : (n : ℕ) (entries : List (List ℕ)) (places : List PlaceData) (l : LayoutData) → IsLayoutDraft (record { entries = entries; places = places }) → finished_layout n entries places ≡ Ok l → IsLayout l
 with_entry_good n [] places l h e = cc
 with_entry_good n (name ∷ names) places l h e =
     let same : record { entry = name; places = places } ≡ l = cc in
@@ -168,6 +168,6 @@ with_entry_good n (name ∷ names) places l h e =
 pub texts_give_layouts : TextsGiveLayouts
 texts_give_layouts text layout e = by_fault (first_layout_fault [] (text_lines text)) refl e
   where
-    by_fault : (o : Option LayoutErr) → first_layout_fault [] (text_lines text) ≡ o → unless_refused o (with_entry (length (text_lines text)) (entries_in_lines (text_lines text)) (places_in_lines (text_lines text))) ≡ Ok layout → IsLayout layout
+    by_fault : (o : Option LayoutErr) → first_layout_fault [] (text_lines text) ≡ o → unless_refused o (finished_layout (length (text_lines text)) (entries_in_lines (text_lines text)) (places_in_lines (text_lines text))) ≡ Ok layout → IsLayout layout
     by_fault (Some x) f g = cc
     by_fault None f g = with_entry_good (length (text_lines text)) (entries_in_lines (text_lines text)) (places_in_lines (text_lines text)) layout (all_good [] (text_lines text) no_lines f) g

@@ -7,7 +7,7 @@ use Rattle.std.specs.Str.{bytes_eq}
 use Rattle.std.proofs.lemmas.Option.{get_or_from_slice_get, slice_get_within}
 use Rattle.std.proofs.lemmas.List.Elements.{All-nil, All-head, All-tail, All-append, All-replicate, All-take, All-drop, All-set, All-map, All-filter}
 use Rattle.tcd_base.specs.Bytes.{word_in_bytes}
-use Rattle.elf_image.specs.Images.{SegmentData, AreSegmentBytes, IsImage}
+use Rattle.elf_image.specs.Images.{SegmentData, HoldOnlyBytes, IsImage}
 use Rattle.tc_object.specs.declared.relocs.Reloc.{Reloc}
 use Rattle.tc_object.specs.Objects.{SectionData, SymbolData, ObjectData}
 use Rattle.tc_link.specs.Layouts.{PlaceData}
@@ -15,8 +15,8 @@ use Rattle.tc_link.specs.Placing.{PlacedData, section_bases_after, placed_after,
 use Rattle.tc_link.specs.GlobalSymbols.{GlobalData, is_global, global_data, globals_of, first_global_address}
 use Rattle.tc_link.specs.PlaceSizes.{next_multiple_of_4}
 use Rattle.tc_reloc.specs.Fields.{reloc_field_number, reloc_field_bits, bits_outside_reloc_field, with_reloc_field}
-use Rattle.tc_link.specs.Relocated.{reloc_field_at, reloc_field_address, reloc_value, section_with_reloc, sections_with_reloc, relocated_sections, all_relocated_sections}
-use Rattle.tc_link.specs.Segments.{with_segment_padding, with_section, joined_sections, segment_of, segments_of}
+use Rattle.tc_link.specs.Relocated.{reloc_field_at, reloc_field_address, reloc_value, section_after_reloc, sections_after_reloc, relocated_sections, all_relocated_sections}
+use Rattle.tc_link.specs.Segments.{with_segment_padding, with_section_of_name, joined_sections, segment_of, segments_of}
 use Rattle.tc_link.proofs.ImageLaws.{image_of_bytes}
 use Rattle.tc_link.proofs.LinkLaws.{linked_image}
 use Rattle.tc_program.proofs.Laws.{parts_of}
@@ -25,7 +25,7 @@ use Rattle.tcd_laws.proofs.ObjectBytes.{word_small}
 
 -- ---- relocations
 module _ (g : List GlobalData) (p : PlacedData) where
-  written_small : (r : Reloc) (s : SectionData) → SectionHoldsBytes s → SectionHoldsBytes (section_with_reloc g p r s)
+  written_small : (r : Reloc) (s : SectionData) → SectionHoldsBytes s → SectionHoldsBytes (section_after_reloc g p r s)
   written_small r s h =
       let old : List ℕ = reloc_field_at s.bytes r.offset in
       let content : ℕ = reloc_field_number r.kind (reloc_field_address p r) (reloc_value g p r) in
@@ -34,18 +34,18 @@ module _ (g : List GlobalData) (p : PlacedData) where
       All-append IsByte (take r.offset s.bytes) (new ++ rest) (All-take IsByte r.offset s.bytes h)
       (All-append IsByte new rest (word_small (bits_outside_reloc_field r.kind (word_in_bytes old 0) + reloc_field_bits r.kind content)) (All-drop IsByte (r.offset + 4) s.bytes h))
 
-  with_small : (ss : List SectionData) (r : Reloc) → All SectionHoldsBytes ss → All SectionHoldsBytes (sections_with_reloc g p ss r)
+  with_small : (ss : List SectionData) (r : Reloc) → All SectionHoldsBytes ss → All SectionHoldsBytes (sections_after_reloc g p ss r)
   with_small ss r h = by_section (slice_get ss r.section) refl
     where
-      by_section : (o : Option SectionData) → slice_get ss r.section ≡ o → All SectionHoldsBytes (option_map_or (λ x. set ss r.section (section_with_reloc g p r x)) o ss)
+      by_section : (o : Option SectionData) → slice_get ss r.section ≡ o → All SectionHoldsBytes (option_map_or (λ x. set ss r.section (section_after_reloc g p r x)) o ss)
       by_section None e = h
       by_section (Some x) e =
           let here : SectionHoldsBytes x = subst SectionHoldsBytes (get_or_from_slice_get ss r.section x x e) (h r.section x (slice_get_within ss r.section x e)) in
-          All-set SectionHoldsBytes ss r.section (section_with_reloc g p r x) (written_small r x here) h
+          All-set SectionHoldsBytes ss r.section (section_after_reloc g p r x) (written_small r x here) h
 
-  all_with_small : (rs : List Reloc) (ss : List SectionData) → All SectionHoldsBytes ss → All SectionHoldsBytes (fold (sections_with_reloc g p) ss rs)
+  all_with_small : (rs : List Reloc) (ss : List SectionData) → All SectionHoldsBytes ss → All SectionHoldsBytes (fold (sections_after_reloc g p) ss rs)
   all_with_small [] ss h = h
-  all_with_small (r ∷ rs) ss h = all_with_small rs (sections_with_reloc g p ss r) (with_small ss r h)
+  all_with_small (r ∷ rs) ss h = all_with_small rs (sections_after_reloc g p ss r) (with_small ss r h)
 
   relocated_small : All SectionHoldsBytes (p.object).sections → All SectionHoldsBytes (relocated_sections g p)
   unfolding relocated_sections
@@ -71,10 +71,10 @@ section_small : (name bs : List ℕ) (s : SectionData) → All IsByte bs → Sec
 section_small name bs s h k true = All-append IsByte (with_segment_padding bs) s.bytes (padded_small bs h) k
 section_small name bs s h k false = h
 
-all_joined_small : (name : List ℕ) (sections : List SectionData) (bs : List ℕ) → All SectionHoldsBytes sections → All IsByte bs → All IsByte (fold (with_section name) bs sections)
+all_joined_small : (name : List ℕ) (sections : List SectionData) (bs : List ℕ) → All SectionHoldsBytes sections → All IsByte bs → All IsByte (fold (with_section_of_name name) bs sections)
 all_joined_small name [] bs h k = k
 all_joined_small name (s ∷ ss) bs h k =
-    all_joined_small name ss (with_section name bs s) (All-tail SectionHoldsBytes s ss h) (section_small name bs s k (All-head SectionHoldsBytes s ss h) (bytes_eq name s.name))
+    all_joined_small name ss (with_section_of_name name bs s) (All-tail SectionHoldsBytes s ss h) (section_small name bs s k (All-head SectionHoldsBytes s ss h) (bytes_eq name s.name))
 
 joined_small : (name : List ℕ) (sections : List SectionData) → All SectionHoldsBytes sections → All IsByte (joined_sections name sections)
 unfolding joined_sections
@@ -83,7 +83,7 @@ joined_small name sections h = all_joined_small name sections [] h (All-nil IsBy
 abbrev IsSmall : SegmentData → Type 0
 IsSmall s = All (λ b. b < 2 ^ 8) s.bytes
 
-segments_small : (places : List PlaceData) (sections : List SectionData) → All SectionHoldsBytes sections → AreSegmentBytes (segments_of places sections)
+segments_small : (places : List PlaceData) (sections : List SectionData) → All SectionHoldsBytes sections → HoldOnlyBytes (segments_of places sections)
 unfolding segments_of
 segments_small places sections h =
     All-filter (λ (s : SegmentData). nat_lt 0 (length s.bytes)) IsSmall (map (segment_of sections) places)
@@ -122,5 +122,5 @@ links_give_images objects layout image good is_layout e =
     let placed = placed_in_layout layout objects in
     let entry : image.entry < 2 ^ 32 = global_low (globals_of placed) layout.entry image.entry (globals_low placed) parts.entry in
     let limits = linked_image objects layout placed is_layout (λ k d less. (good k d less).object) parts.early refl image.entry entry in
-    let small : AreSegmentBytes (segments_of layout.places (all_relocated_sections placed)) = segments_small layout.places (all_relocated_sections placed) (contents_small (globals_of placed) layout.places [] objects good) in
+    let small : HoldOnlyBytes (segments_of layout.places (all_relocated_sections placed)) = segments_small layout.places (all_relocated_sections placed) (contents_small (globals_of placed) layout.places [] objects good) in
     subst (λ (ss : List SegmentData). IsImage (record { entry = image.entry; segments = ss })) (sym parts.segments) (image_of_bytes _ limits small)

@@ -11,7 +11,7 @@ use Rattle.tc_object.specs.Names.{IsNewObjectName}
 use Rattle.tc_object.specs.Objects.{SectionData, SymbolData, ObjectData, AllInTurn, IsSection, IsSymbol, IsReloc, is_section_name, is_symbol_name}
 use Rattle.tc_object.specs.Spelling.{bytes_of_name, bytes_of_section, bytes_of_symbol, bytes_of_reloc, bytes_of_header, bytes_of_object}
 use Rattle.tc_asm.proofs.ListLaws.{all_from_each}
-use Rattle.tcd_laws.specs.LimitsKept.{IsByte, SectionHoldsBytes, ObjectsSpellBytes}
+use Rattle.tcd_laws.specs.LimitsKept.{IsByte, SectionHoldsBytes, ObjectFilesHoldBytes}
 
 -- ---- numbers
 half_small : (x : ℕ) → All IsByte (bytes_of_half x)
@@ -111,7 +111,7 @@ header_small o =
     (All-append IsByte sections (symbols ++ relocs) (half_small (length o.sections))
     (All-append IsByte symbols relocs (half_small (length o.symbols)) (half_small (length o.relocs))))
 
-pub objects_spell_bytes : ObjectsSpellBytes
+pub objects_spell_bytes : ObjectFilesHoldBytes
 unfolding bytes_of_object
 objects_spell_bytes o is =
     let good = is.object in

@@ -5,7 +5,7 @@ use Rattle.std.specs.Option.{option_map}
 use Rattle.tcd_base.specs.Files.{FileMap, FilesSeen, files_after_write}
 use Rattle.tcd_base.specs.Sink.{SinkSeen, sink_with_appended, HasRoomFor, IsPrinted}
 use Rattle.tcd_reading.specs.Reports.{Report, ReportFile, with_report_files}
-use Rattle.tcd_laws.specs.Sequences.{all_report_texts, EndInSequence, IsSureInSequence, AreSureInSequence, all_sequence_files, IsSequenceDone, RanOutInSequence, SequenceEndsSurely, SureSequencesEnd}
+use Rattle.tcd_laws.specs.Sequences.{all_report_texts, EndInSequence, ReportsSurely, ReportSurelyInSequence, all_sequence_files, IsSequenceDone, RanOutOfMemoryInSequence, SequenceEndsWithoutFault, SureSequencesEndWithoutFault}
 use Rattle.tcd_reading.specs.Endings.{ReportWritingStopped, PrintsWithStatus, whole, cut, IsEndingWithReport, HasRoomForReports, HasEnded, Ends}
 use Rattle.tcd_reading.specs.Inputs.{Reading, ReadingSays, HasAllInputs}
 use Rattle.tcd_reading.specs.Endings as ending
@@ -75,7 +75,7 @@ said_status : (q : Report) (result : Status) → q.status ≡ Done → (result �
 said_status q result e (inl h) = inl (h ∙ e)
 said_status q result e (inr h) = inr h
 
-sure_ends : (reading : Reading) (q : Report) (files files' : FilesSeen) (sink sink' : SinkSeen) (result : Status) → IsTrue files.steady → IsSureInSequence reading files.held q → HasRoomFor sink q.text → Ends reading files files' sink sink' result →
+sure_ends : (reading : Reading) (q : Report) (files files' : FilesSeen) (sink sink' : SinkSeen) (result : Status) → IsTrue files.steady → ReportsSurely reading files.held q → HasRoomFor sink q.text → Ends reading files files' sink sink' result →
     EndsOne q files files' sink sink' result
 sure_ends reading q files files' sink sink' result steady s room ends =
     let sure : HasAllInputs reading files = record { steady = steady; hold = s.asked } in
@@ -119,7 +119,7 @@ written_both held [] vs = refl
 written_both held (w ∷ ws) vs = written_both (files_after_write held w.name w.bytes) ws vs
 
 -- ---- the sequence
-none_end : (files files' : FilesSeen) (sink sink' : SinkSeen) (result : Status) → EndInSequence [] files files' sink sink' result → SequenceEndsSurely [] files files' sink sink' result
+none_end : (files files' : FilesSeen) (sink sink' : SinkSeen) (result : Status) → EndInSequence [] files files' sink sink' result → SequenceEndsWithoutFault [] files files' sink sink' result
 none_end files files' sink sink' result h = record {
   status = inl h.1;
   steady = ap (λ (f : FilesSeen). f.steady) (h.0).files_stay;
@@ -141,7 +141,7 @@ whole_more q qs files mid files' sink between sink' room one rest = record {
 }
 
 -- memory ran out in the first, or in a later one
-out_here : (q : Report) (qs : List Report) (files files' : FilesSeen) (sink sink' : SinkSeen) → HasRunOut q files files' sink sink' → RanOutInSequence (q ∷ qs) files files' sink sink'
+out_here : (q : Report) (qs : List Report) (files files' : FilesSeen) (sink sink' : SinkSeen) → HasRunOut q files files' sink sink' → RanOutOfMemoryInSequence (q ∷ qs) files files' sink sink'
 out_here q qs files files' sink sink' h = record {
   before = [];
   at = q;
@@ -152,7 +152,7 @@ out_here q qs files files' sink sink' h = record {
   room = ap (λ (s : SinkSeen). s.room) h.quiet ∙ room_none sink.room;
 }
 
-out_later : (q : Report) (qs : List Report) (files mid files' : FilesSeen) (sink between sink' : SinkSeen) → HasRoomFor sink q.text → HasDone q files mid sink between → RanOutInSequence qs mid files' between sink' → RanOutInSequence (q ∷ qs) files files' sink sink'
+out_later : (q : Report) (qs : List Report) (files mid files' : FilesSeen) (sink between sink' : SinkSeen) → HasRoomFor sink q.text → HasDone q files mid sink between → RanOutOfMemoryInSequence qs mid files' between sink' → RanOutOfMemoryInSequence (q ∷ qs) files files' sink sink'
 out_later q qs files mid files' sink between sink' room one rest =
     let ws : List ReportFile = all_sequence_files rest.before in
     let text : List ℕ = all_report_texts rest.before in
@@ -167,7 +167,7 @@ out_later q qs files mid files' sink between sink' room one rest =
       room = rest.room ∙ ap (λ (o : Option ℕ). option_map (λ n. n - length text) o) ((one.printed).room room) ∙ room_both sink.room q.text text;
     }
 
-pub sure_sequences_end : SureSequencesEnd
+pub sure_sequences_end : SureSequencesEndWithoutFault
 sure_sequences_end [] [] files files' sink sink' result steady sure room h = none_end files files' sink sink' result h
 sure_sequences_end [] (q ∷ qs) files files' sink sink' result steady sure room h = absurd sure
 sure_sequences_end (c ∷ cs) [] files files' sink sink' result steady sure room h = absurd sure
@@ -188,7 +188,7 @@ sure_sequences_end (c ∷ cs) (q ∷ qs) files files' sink sink' result steady s
     let one = sure_ends (reading_of c) q files mid sink between Done steady sure.0 fits on.ended in
     let done = one.done refl in
     let left : HasRoomFor between (all_report_texts qs) = subst (λ (o : Option ℕ). IsSomeAnd o (λ n. length (all_report_texts qs) ≤ n)) (sym ((done.printed).room fits)) (room_rest sink.room q.text (all_report_texts qs) room) in
-    let more : AreSureInSequence cs mid.held qs = subst (λ (m : Option FileMap). AreSureInSequence cs m qs) (sym done.held) sure.1 in
+    let more : ReportSurelyInSequence cs mid.held qs = subst (λ (m : Option FileMap). ReportSurelyInSequence cs m qs) (sym done.held) sure.1 in
     let rest = sure_sequences_end cs qs mid files' between sink' result (subst IsTrue (sym one.steady) steady) more left on.rest in
     record {
       status = rest.status;

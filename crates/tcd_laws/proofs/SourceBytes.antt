@@ -18,21 +18,21 @@ use Rattle.tc_encode.proofs.Bytes.{word-lt, short-lt}
 use Rattle.tc_encode.specs.Decoding.{decoded_fields_fit}
 use Rattle.tc_encode.proofs.Spelled.{below_from}
 use Rattle.tc_lex.specs.Pieces.{PieceData, token_text}
-use Rattle.tc_lex.specs.Operands.{OperandData, operands}
+use Rattle.tc_lex.specs.Operands.{OperandData, operands_of_tokens}
 use Rattle.tc_stmt.specs.RowFields.{RowFieldsData}
 use Rattle.tc_stmt.specs.Items.{ReferenceData, ItemData, label, section, global, code, bytes, zeros}
-use Rattle.tc_stmt.specs.Filling.{reference}
-use Rattle.tc_stmt.specs.Names.{symbol_rule}
+use Rattle.tc_stmt.specs.Filling.{reference_from_value}
+use Rattle.tc_stmt.specs.Names.{rule_broken_by_symbol}
 use Rattle.tc_stmt.specs.OperandForms.{shape_index, is_symbol_operand, is_half_operand, operand_number_modulo}
-use Rattle.tc_stmt.specs.DataValues.{is_value_within_width, value_rule, value_item, space_item}
-use Rattle.tc_stmt.specs.StatementRow.{statement}
-use Rattle.tc_stmt.specs.Lines.{LineData, line_data, only_operand_name as name_operand, named_line, space_line, values_line, code_line, statement_line, line_from, has_label, line_with_label, tokens_line, line_token_with_text, label_of, label_before, meaning_of_cut_line, line_in, lines_in, items_in}
+use Rattle.tc_stmt.specs.DataValues.{is_value_within_width, rule_broken_by_value, value_item, space_item}
+use Rattle.tc_stmt.specs.StatementRow.{row_of_statement}
+use Rattle.tc_stmt.specs.Lines.{LineData, line_data, only_operand_name as name_operand, named_line, space_line, values_line, code_line, statement_line, line_from, has_label, line_with_label, tokens_line, line_token_with_text, label_of, label_of_text, meaning_of_cut_line, line_of_text, lines_in, items_in}
 use Rattle.tc_asm.specs.Symbols.{SymbolData}
 use Rattle.tc_asm.specs.Drafts.{DraftSectionData, DraftData, empty_draft, has_current_section, has_room, assembled_row_code, row_fields_with_target, code_bytes, draft_after_item, draft_section_bytes_at}
 use Rattle.tc_asm.specs.DraftedSources.{symbols_of_lines, draft_in}
 use Rattle.tc_asm.specs.Objects.{section_of}
 use Rattle.tc_asm.specs.DraftInvariants.{EachInDraft}
-use Rattle.tc_asm.specs.Statements.{StatementData, statement_of_item, statement_with_room, statements_from, section_bytes}
+use Rattle.tc_asm.specs.Statements.{StatementData, statement_of_item, statement_if_room, statements_from, section_bytes}
 use Rattle.tc_asm.proofs.LaidLaws.{drafted-bytes}
 use Rattle.tc_asm.proofs.ListLaws.{all_from_each}
 use Rattle.tc_asm.proofs.SourceDrafts.{source_object}
@@ -121,13 +121,13 @@ value_good width minus size rest r false true false small = tt
 value_good width minus size rest r false false fits small = rest_good width r (rest == 15)
 
 value_item_good : (width : ℕ) → 2 ^ (8 * width) ≤ 2 ^ 32 → (o : OperandData) → GoodItem (value_item width o)
-unfolding value_item value_rule
+unfolding value_item rule_broken_by_value
 value_item_good width most o =
     value_good width (o.value).minus (o.value).size
     (cond (shape_index (o.value).shape == 7) 5
-    (cond (is_symbol_operand (shape_index (o.value).shape)) (cond (width == 4) (symbol_rule o.value) (min 10 (symbol_rule o.value)))
-    (cond (is_half_operand (shape_index (o.value).shape)) (min 10 (symbol_rule o.value)) 3)))
-    (reference 7 o.value) o.is_memory (shape_index (o.value).shape == 1) (is_value_within_width (8 * width) (o.value).minus (o.value).size)
+    (cond (is_symbol_operand (shape_index (o.value).shape)) (cond (width == 4) (rule_broken_by_symbol o.value) (min 10 (rule_broken_by_symbol o.value)))
+    (cond (is_half_operand (shape_index (o.value).shape)) (min 10 (rule_broken_by_symbol o.value)) 3)))
+    (reference_from_value 7 o.value) o.is_memory (shape_index (o.value).shape == 1) (is_value_within_width (8 * width) (o.value).minus (o.value).size)
     (wrapped_small (2 ^ (8 * width)) (o.value).minus (o.value).size most)
 
 values_good : (width : ℕ) → 2 ^ (8 * width) ≤ 2 ^ 32 → (os : List OperandData) → EachInDraft GoodItem (map (value_item width) os)
@@ -181,11 +181,11 @@ stated_good name os =
     (choose _ _ _ (values_line_good 1 (omega arith) os)
     (choose _ _ _ (values_line_good 2 (omega arith) os)
     (choose _ _ _ (values_line_good 4 (omega arith) os)
-    (choose _ _ _ (space_good os) (code_good name (statement name os)))))))
+    (choose _ _ _ (space_good os) (code_good name (row_of_statement name os)))))))
 
 from_good : (ps : List PieceData) (at : ℕ) → GoodLine (line_from ps at)
 unfolding line_from
-from_good ps at = choose _ _ _ (no_items 15) (choose _ _ _ (stated_good (token_text ps at) (operands (drop (at + 1) ps))) (no_items 1))
+from_good ps at = choose _ _ _ (no_items 15) (choose _ _ _ (stated_good (token_text ps at) (operands_of_tokens (drop (at + 1) ps))) (no_items 1))
 
 pieces_good : (ps : List PieceData) → GoodLine (tokens_line ps)
 unfolding tokens_line
@@ -199,7 +199,7 @@ label_good ps = by_label (has_label ps)
     by_label true = (tt, tt)
     by_label false = tt
 
-before_good : (text : List ℕ) (r : Result (List Token) ℕ) → EachInDraft GoodItem (label_before text r)
+before_good : (text : List ℕ) (r : Result (List Token) ℕ) → EachInDraft GoodItem (label_of_text text r)
 before_good text (Ok ts) = label_good (map (line_token_with_text text) ts)
 before_good text (Err at) = tt
 
@@ -212,10 +212,10 @@ each_both : {A : Type 0} (P : A → Type 0) (xs ys : List A) → EachInDraft P x
 each_both P [] ys h k = k
 each_both P (x ∷ xs) ys h k = (h.0, each_both P xs ys h.1 k)
 
-lines_good : (ls : List (List ℕ)) → EachInDraft GoodItem (items_in (map line_in ls))
+lines_good : (ls : List (List ℕ)) → EachInDraft GoodItem (items_in (map line_of_text ls))
 unfolding GoodLine
 lines_good [] = tt
-lines_good (l ∷ ls) = each_both GoodItem (line_in l).items (items_in (map line_in ls)) (cut_good l (tokens_of l)) (lines_good ls)
+lines_good (l ∷ ls) = each_both GoodItem (line_of_text l).items (items_in (map line_of_text ls)) (cut_good l (tokens_of l)) (lines_good ls)
 
 -- ---- statements
 abbrev GoodStatement : StatementData → Type 0
@@ -228,7 +228,7 @@ content_good labels d (bytes bs r) h = h
 content_good labels d (zeros n) h = zeros_small n
 content_good labels d _ h = tt
 
-standing_good : (d : DraftData) (o : Option StatementData) → IfSome o GoodStatement → EachInDraft GoodStatement (statement_with_room d o)
+standing_good : (d : DraftData) (o : Option StatementData) → IfSome o GoodStatement → EachInDraft GoodStatement (statement_if_room d o)
 standing_good d None h = tt
 standing_good d (Some t) h = by_room (has_current_section d && has_room d (length t.bytes))
   where
@@ -239,7 +239,7 @@ standing_good d (Some t) h = by_room (has_current_section d && has_room d (lengt
 statements_good : (labels : List SymbolData) (d : DraftData) (is : List ItemData) → EachInDraft GoodItem is → EachInDraft GoodStatement (statements_from labels d is)
 statements_good labels d [] h = tt
 statements_good labels d (i ∷ is) h =
-    each_both GoodStatement (statement_with_room d (statement_of_item labels d i)) (statements_from labels (draft_after_item labels d i) is) (standing_good d (statement_of_item labels d i) (content_good labels d i h.0))
+    each_both GoodStatement (statement_if_room d (statement_of_item labels d i)) (statements_from labels (draft_after_item labels d i) is) (standing_good d (statement_of_item labels d i) (content_good labels d i h.0))
     (statements_good labels (draft_after_item labels d i) is h.1)
 
 section_small : (s : ℕ) (ts : List StatementData) → EachInDraft GoodStatement ts → All IsByte (section_bytes s ts)

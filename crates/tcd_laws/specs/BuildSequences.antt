@@ -10,7 +10,7 @@ use Rattle.tc_disasm.specs.Listing.{listing_of}
 use Rattle.tcd_base.specs.Files.{FileMap, FilesSeen}
 use Rattle.tcd_base.specs.Sink.{SinkSeen, HasRoomFor}
 use Rattle.tcd_reading.specs.Reports.{Report, text_report, report_with_file}
-use Rattle.tcd_laws.specs.Sequences.{all_report_texts, EndInSequence, AreSureInSequence, SequenceEndsSurely}
+use Rattle.tcd_laws.specs.Sequences.{all_report_texts, EndInSequence, ReportSurelyInSequence, SequenceEndsWithoutFault}
 use Rattle.tcd_reading.specs.Inputs.{HoldsInput}
 use Rattle.tcd_reading.specs.declared.status.Status.{Status}
 use Rattle.tcd_reading.specs.declared.status.Status.TheVariants.{Done}
@@ -63,12 +63,12 @@ build_reports b =
 
 -- ---- what is asked of them
 -- the source is held and breaks no rule, and its object isn't longer than what `link` reads
-pub record IsPart (held : Option FileMap) (p : BuildPartData) : Type 0 where
+pub record IsBuildPart (held : Option FileMap) (p : BuildPartData) : Type 0 where
   pub source : HoldsInput source_form held (p.names).source p.object
   pub short : length (bytes_of_object p.object) ≤ 2 ^ 24
 
 -- no object goes to the name of another, of a source or of the layout
-pub record AreApart (b : BuildData) : Type 0 where
+pub record HasDistinctNames (b : BuildData) : Type 0 where
   pub different : are_distinct_names (object_names b.parts) ≡ true
   pub sources : All (λ p. All (λ q. (p.names).object ≢ (q.names).source) b.parts) b.parts
   pub layout : All (λ p. (p.names).object ≢ b.layout) b.parts
@@ -76,20 +76,20 @@ pub record AreApart (b : BuildData) : Type 0 where
 -- The sources and the layout are held, the objects can be linked by the layout, and their image
 -- isn't longer than what `dis` reads.
 pub record IsBuild (held : Option FileMap) (b : BuildData) : Type 0 where
-  pub parts : All (IsPart held) b.parts
-  pub apart : AreApart b
+  pub parts : All (IsBuildPart held) b.parts
+  pub apart : HasDistinctNames b
   pub layout : HoldsInput layout_form held b.layout b.rules
   pub linked_is : image_of_objects (objects_of_parts b.parts) b.rules ≡ Ok b.image
   pub short : length (elf_file b.image) ≤ 2 ^ 24
 
 -- ---- the laws
 -- each command of a build has what it reads, and its report is sure
-abbrev pub BuildsReport : Type 0
-BuildsReport = (b : BuildData) (held : Option FileMap) → IsSome held → IsBuild held b → AreSureInSequence (build_commands b) held (build_reports b)
+abbrev pub BuildCommandsReportSurely : Type 0
+BuildCommandsReportSurely = (b : BuildData) (held : Option FileMap) → IsSome held → IsBuild held b → ReportSurelyInSequence (build_commands b) held (build_reports b)
 
 -- so over steady files with room for all that is printed a build ends Done or for want of memory
-abbrev pub BuildsEnd : Type 0
-BuildsEnd =
+abbrev pub BuildsEndWithoutFault : Type 0
+BuildsEndWithoutFault =
     (b : BuildData) (files files' : FilesSeen) (sink sink' : SinkSeen) (result : Status)
     → IsTrue files.steady → IsSome files.held → IsBuild files.held b → HasRoomFor sink (all_report_texts (build_reports b))
-    → EndInSequence (build_commands b) files files' sink sink' result → SequenceEndsSurely (build_reports b) files files' sink sink' result
+    → EndInSequence (build_commands b) files files' sink sink' result → SequenceEndsWithoutFault (build_reports b) files files' sink sink' result

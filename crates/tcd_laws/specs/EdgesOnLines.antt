@@ -15,7 +15,7 @@ printed_graph_lines text = map (λ l. l ++ 10 ∷ []) (text_lines text)
 
 -- the law that the edges of runs are on lines of the text of an accepted certificate's graph: that
 -- of each step of each run, with its address and the key of its frame
-abbrev pub AcceptedEdgesStand : Type 0
-AcceptedEdgesStand =
+abbrev pub PrintedGraphsHaveAllEdges : Type 0
+PrintedGraphsHaveAllEdges =
     (image : ImageData) (plan : PlanData) (cert : CertData) (text : List ℕ) → image.entry < 2 ^ 32 → IsPlan plan → IsCert cert
     → Accepts image plan cert → IsGraph image plan cert text → LinesHaveAllEdges image plan cert (printed_graph_lines text)

@@ -18,55 +18,55 @@ use Rattle.tcd_driver.specs.Link.{LinkArgs, link_reading}
 use Rattle.tcd_laws.specs.LimitsKept.{IsByte}
 
 -- the file of this name is exactly this value: it is it, it is no other, and it isn't rejected
-pub record IsHandedExactly {A : Type 0} (form : FormSeen A) (held : Option FileMap) (name : List ℕ) (x : A) : Type 0 where
+pub record ReadsBackAs {A : Type 0} (form : FormSeen A) (held : Option FileMap) (name : List ℕ) (x : A) : Type 0 where
   pub is : HoldsInput form held name x
   pub only : (y : A) → HoldsInput form held name y → y ≡ x
   pub good : (text : List ℕ) → IsInputRejection form held name text → ⊥
 
 -- the files of these names are these values, each in the form of its place in the list
-abbrev pub HoldEachHanded : {A : Type 0} → (ℕ → FormSeen A) → ℕ → Option FileMap → List (List ℕ) → List A → Type 0
-HoldEachHanded form place held [] [] = Unit {0}
-HoldEachHanded form place held [] (x ∷ xs) = ⊥
-HoldEachHanded form place held (name ∷ names) [] = ⊥
-HoldEachHanded form place held (name ∷ names) (x ∷ xs) = HoldsInput (form place) held name x × HoldEachHanded form (place + 1) held names xs
+abbrev pub HoldEachInput : {A : Type 0} → (ℕ → FormSeen A) → ℕ → Option FileMap → List (List ℕ) → List A → Type 0
+HoldEachInput form place held [] [] = Unit {0}
+HoldEachInput form place held [] (x ∷ xs) = ⊥
+HoldEachInput form place held (name ∷ names) [] = ⊥
+HoldEachInput form place held (name ∷ names) (x ∷ xs) = HoldsInput (form place) held name x × HoldEachInput form (place + 1) held names xs
 
 -- what these names hold are bytes: the map that files tell is of lists of numbers, which doesn't
 -- say so
-abbrev pub HandedFilesHoldBytes : Option FileMap → List (List ℕ) → Type 0
-HandedFilesHoldBytes held names = IfSome held (λ m. All (λ name. IfSome (get m name) (All IsByte)) names)
+abbrev pub FilesHoldBytes : Option FileMap → List (List ℕ) → Type 0
+FilesHoldBytes held names = IfSome held (λ m. All (λ name. IfSome (get m name) (All IsByte)) names)
 
 -- ---- an object
 -- the source's object was written, which holds bytes, and is read as exactly this object, unless it
 -- is too long to be read
-pub record IsObjectHandedOver (names : AsmArgs) (held held' : Option FileMap) : Type 0 where
+pub record IsObjectReadBack (names : AsmArgs) (held held' : Option FileMap) : Type 0 where
   pub object : ObjectData
   pub source : HoldsInput source_form held names.source object
   pub written : held' ≡ files_after_write held names.object (bytes_of_object object)
-  pub bytes : HandedFilesHoldBytes held' (names.object ∷ [])
-  pub read : (place : ℕ) → length (bytes_of_object object) ≤ 2 ^ 24 → IsHandedExactly (object_form place) held' names.object object
+  pub bytes : FilesHoldBytes held' (names.object ∷ [])
+  pub read : (place : ℕ) → length (bytes_of_object object) ≤ 2 ^ 24 → ReadsBackAs (object_form place) held' names.object object
 
 -- what each `asm` that is done hands to `link`, over files that tell what they hold
-abbrev pub AsmHandsOver : Type 0
-AsmHandsOver =
+abbrev pub AssembledObjectsReadBack : Type 0
+AssembledObjectsReadBack =
     (names : AsmArgs) (files files' : FilesSeen) (sink sink' : SinkSeen) → IsSome files.held
-    → Ends (asm_reading names) files files' sink sink' Done → IsObjectHandedOver names files.held files'.held
+    → Ends (asm_reading names) files files' sink sink' Done → IsObjectReadBack names files.held files'.held
 
 -- ---- an executable
 -- the image of the objects by the layout was written, and is read as exactly this image, unless it
 -- is too long to be read
-pub record IsImageHandedOver (names : LinkArgs) (held held' : Option FileMap) : Type 0 where
+pub record IsImageReadBack (names : LinkArgs) (held held' : Option FileMap) : Type 0 where
   pub layout : LayoutData
   pub layout_is : HoldsInput layout_form held names.layout layout
   pub objects : List ObjectData
-  pub objects_are : HoldEachHanded object_form 0 held names.objects objects
+  pub objects_are : HoldEachInput object_form 0 held names.objects objects
   pub image : ImageData
   pub linked_is : image_of_objects objects layout ≡ Ok image
   pub written : held' ≡ files_after_write held names.image (elf_file image)
-  pub read : length (elf_file image) ≤ 2 ^ 24 → IsHandedExactly elf_form held' names.image image
+  pub read : length (elf_file image) ≤ 2 ^ 24 → ReadsBackAs elf_form held' names.image image
 
 -- So after each `link` that is done, over files that tell what they hold, and whose objects are of
 -- bytes: those that `asm` wrote are, and so is all that a file system holds.
-abbrev pub LinkHandsOver : Type 0
-LinkHandsOver =
-    (names : LinkArgs) (files files' : FilesSeen) (sink sink' : SinkSeen) → IsSome files.held → HandedFilesHoldBytes files.held names.objects
-    → Ends (link_reading names) files files' sink sink' Done → IsImageHandedOver names files.held files'.held
+abbrev pub LinkedImagesReadBack : Type 0
+LinkedImagesReadBack =
+    (names : LinkArgs) (files files' : FilesSeen) (sink sink' : SinkSeen) → IsSome files.held → FilesHoldBytes files.held names.objects
+    → Ends (link_reading names) files files' sink sink' Done → IsImageReadBack names files.held files'.held

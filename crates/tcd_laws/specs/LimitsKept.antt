@@ -32,8 +32,8 @@ abbrev pub SourcesGiveObjects : Type 0
 SourcesGiveObjects = (source : List ℕ) → LinesKeepRules (lines_in source) (length (lines_in source)) → IsObjectOfBytes (object_of_draft (draft_in source))
 
 -- writing objects keeps limits: the file of an object whose sections hold bytes holds bytes
-abbrev pub ObjectsSpellBytes : Type 0
-ObjectsSpellBytes = (o : ObjectData) → IsObjectOfBytes o → All IsByte (bytes_of_object o)
+abbrev pub ObjectFilesHoldBytes : Type 0
+ObjectFilesHoldBytes = (o : ObjectData) → IsObjectOfBytes o → All IsByte (bytes_of_object o)
 
 -- reading keeps limits: what a text gives without a fault is a layout
 abbrev pub TextsGiveLayouts : Type 0

@@ -19,7 +19,7 @@ pub record IsLastInSequence (c : Command) (files files' : FilesSeen) (sink sink'
   pub undone : result ≢ Done
 
 -- a command that is done, and then the rest on what it left
-pub record GoesOnInSequence (c : Command) (Rest : FilesSeen → FilesSeen → SinkSeen → SinkSeen → Status → Type 0) (files files' : FilesSeen) (sink sink' : SinkSeen) (result : Status) : Type 0 where
+pub record ContinuesInSequence (c : Command) (Rest : FilesSeen → FilesSeen → SinkSeen → SinkSeen → Status → Type 0) (files files' : FilesSeen) (sink sink' : SinkSeen) (result : Status) : Type 0 where
   pub files_between : FilesSeen
   pub sink_between : SinkSeen
   pub ended : Ends (reading_of c) files files_between sink sink_between Done
@@ -29,22 +29,22 @@ pub record GoesOnInSequence (c : Command) (Rest : FilesSeen → FilesSeen → Si
 -- there is none they are done
 abbrev pub EndInSequence : List Command → FilesSeen → FilesSeen → SinkSeen → SinkSeen → Status → Type 0
 EndInSequence [] files files' sink sink' result = FilesAndSinkStay files files' sink sink' × (result ≡ Done)
-EndInSequence (c ∷ cs) files files' sink sink' result = IsLastInSequence c files files' sink sink' result ⊎ GoesOnInSequence c (EndInSequence cs) files files' sink sink' result
+EndInSequence (c ∷ cs) files files' sink sink' result = IsLastInSequence c files files' sink sink' result ⊎ ContinuesInSequence c (EndInSequence cs) files files' sink sink' result
 
 -- ---- what they are to come to
 -- the files hold what is asked for, and what is said of them is this report, which is done
-pub record IsSureInSequence (reading : Reading) (held : Option FileMap) (report : Report) : Type 0 where
+pub record ReportsSurely (reading : Reading) (held : Option FileMap) (report : Report) : Type 0 where
   pub asked : HoldsNeededInputs reading held
   pub said : ReadingSays reading held report
   pub only : (other : Report) → ReadingSays reading held other → other ≡ report
   pub done : report.status ≡ Done
 
 -- each command's report, on what those before it have written
-abbrev pub AreSureInSequence : List Command → Option FileMap → List Report → Type 0
-AreSureInSequence [] held [] = Unit {0}
-AreSureInSequence [] held (q ∷ qs) = ⊥
-AreSureInSequence (c ∷ cs) held [] = ⊥
-AreSureInSequence (c ∷ cs) held (q ∷ qs) = IsSureInSequence (reading_of c) held q × AreSureInSequence cs (with_report_files held q.writes) qs
+abbrev pub ReportSurelyInSequence : List Command → Option FileMap → List Report → Type 0
+ReportSurelyInSequence [] held [] = Unit {0}
+ReportSurelyInSequence [] held (q ∷ qs) = ⊥
+ReportSurelyInSequence (c ∷ cs) held [] = ⊥
+ReportSurelyInSequence (c ∷ cs) held (q ∷ qs) = ReportsSurely (reading_of c) held q × ReportSurelyInSequence cs (with_report_files held q.writes) qs
 
 -- all files that these reports of a sequence of commands write, one after another
 abbrev pub all_sequence_files : List Report → List ReportFile
@@ -63,7 +63,7 @@ pub record IsSequenceDone (reports : List Report) (files files' : FilesSeen) (si
 
 -- Memory ran out in one of them: those before it wrote and printed all that they were to; it
 -- printed nothing, and if it wrote one of its files may hold anything.
-pub record RanOutInSequence (reports : List Report) (files files' : FilesSeen) (sink sink' : SinkSeen) : Type 0 where
+pub record RanOutOfMemoryInSequence (reports : List Report) (files files' : FilesSeen) (sink sink' : SinkSeen) : Type 0 where
   pub before : List Report
   pub at : Report
   pub behind : List Report
@@ -74,17 +74,17 @@ pub record RanOutInSequence (reports : List Report) (files files' : FilesSeen) (
 
 -- Done or want of memory, and no fault of the files or the sink; where it is Done, all was written
 -- and printed.
-pub record SequenceEndsSurely (reports : List Report) (files files' : FilesSeen) (sink sink' : SinkSeen) (result : Status) : Type 0 where
+pub record SequenceEndsWithoutFault (reports : List Report) (files files' : FilesSeen) (sink sink' : SinkSeen) (result : Status) : Type 0 where
   pub status : (result ≡ Done) ⊎ (result ≡ NoMemory)
   pub steady : files'.steady ≡ files.steady
   pub files_faults : files'.faults ≡ files.faults
   pub sink_faults : sink'.faults ≡ sink.faults
   pub whole : result ≡ Done → IsSequenceDone reports files files' sink sink'
-  pub ran_out : result ≡ NoMemory → RanOutInSequence reports files files' sink sink'
+  pub ran_out : result ≡ NoMemory → RanOutOfMemoryInSequence reports files files' sink sink'
 
 -- over steady files, each of whose reports is sure to be done, with room for all texts
-abbrev pub SureSequencesEnd : Type 0
-SureSequencesEnd =
+abbrev pub SureSequencesEndWithoutFault : Type 0
+SureSequencesEndWithoutFault =
     (commands : List Command) (reports : List Report) (files files' : FilesSeen) (sink sink' : SinkSeen) (result : Status)
-    → IsTrue files.steady → AreSureInSequence commands files.held reports → HasRoomFor sink (all_report_texts reports)
-    → EndInSequence commands files files' sink sink' result → SequenceEndsSurely reports files files' sink sink' result
+    → IsTrue files.steady → ReportSurelyInSequence commands files.held reports → HasRoomFor sink (all_report_texts reports)
+    → EndInSequence commands files files' sink sink' result → SequenceEndsWithoutFault reports files files' sink sink' result

@@ -5,9 +5,9 @@ use Rattle.std.proofs.lemmas.List.{length-map}
 use Rattle.serde_json.specs.Data.{Data}
 use Rattle.tcd_plan.specs.Objects.{plan_objects_of}
 use Rattle.tcd_plan.specs.JsonValues.{json_elements_or_empty, json_nested_number}
-use Rattle.tcd_plan.specs.PlanData.{PlanData, are_valid_areas, are_ranges_within_limits, has_valid_areas, has_even_vectors, keys_over_limit, first_oversized_array, plan_range_overlap}
-use Rattle.tcd_plan.specs.PlanReader.{HasShortPlanArrays, plan_device_of, irq_of, plan_range_of, plan_refusal, plan_refusals, unchecked_plan_of}
-use Rattle.tcd_plan.specs.KeyFaults.{first_bad_key}
+use Rattle.tcd_plan.specs.PlanData.{PlanData, are_valid_areas, are_ranges_within_limits, has_valid_areas, has_even_vector_bases, keys_over_limit, first_oversized_array, plan_range_overlap}
+use Rattle.tcd_plan.specs.PlanReader.{HasShortPlanArrays, plan_device_of, plan_irq_of, plan_range_of, plan_refusal, plan_refusals, unchecked_plan_of}
+use Rattle.tcd_plan.specs.KeyFaults.{first_key_with_bad_value}
 use Rattle.tcd_plan.specs.declared.plans.PlanErr.TheVariants.{BadValue, TooMany, BadCsa, BadVector}
 use Rattle.tcd_base.specs.declared.range.Range.{Range}
 use Rattle.tcd_plan.specs.declared.key_table.KeyParent.TheVariants.{Rom, Ram, Devices}
@@ -25,10 +25,10 @@ pub record AreasHold (at areas reserve : ℕ) : Type 0 where
   pub fit : at % 2 ^ 22 + 64 * areas ≤ 2 ^ 22
 
 pub record IsAccepted (d : Data) : Type 0 where
-  pub bad_value : first_bad_key d ≡ None
+  pub bad_value : first_key_with_bad_value d ≡ None
   pub too_many : first_oversized_array (unchecked_plan_of d) ≡ None
   pub areas : has_valid_areas (unchecked_plan_of d) ≡ true
-  pub vectors : has_even_vectors (unchecked_plan_of d) ≡ true
+  pub vectors : has_even_vector_bases (unchecked_plan_of d) ≡ true
   pub overlap : plan_range_overlap (unchecked_plan_of d) ≡ None
 
 stands : (d : Data) → plan_refusal d ≡ None → (i : ℕ) → i < 8 → get_or (plan_refusals d) i None ≡ None
@@ -38,10 +38,10 @@ stands d e i within = first_some_none (plan_refusals d) i e within
 pub accepted : (d : Data) → plan_refusal d ≡ None → IsAccepted d
 accepted d e =
     record {
-      bad_value = option_map_none BadValue (first_bad_key d) (stands d e 3 (lit< tt));
+      bad_value = option_map_none BadValue (first_key_with_bad_value d) (stands d e 3 (lit< tt));
       too_many = option_map_none TooMany (first_oversized_array (unchecked_plan_of d)) (stands d e 4 (lit< tt));
       areas = where_none (has_valid_areas (unchecked_plan_of d)) BadCsa (stands d e 5 (lit< tt));
-      vectors = where_none (has_even_vectors (unchecked_plan_of d)) BadVector (stands d e 6 (lit< tt));
+      vectors = where_none (has_even_vector_bases (unchecked_plan_of d)) BadVector (stands d e 6 (lit< tt));
       overlap = stands d e 7 (lit< tt);
     }
 
@@ -85,11 +85,11 @@ few_arrays d many areas =
     let rom = few_of (map plan_range_of (plan_objects_of Rom d)) few.0 in
     let ram = few_of (map plan_range_of (plan_objects_of Ram d)) few.1 in
     let devices = leb-true (length (map plan_device_of (plan_objects_of Devices d))) 16 few.2 in
-    let irqs = leb-true (length (map irq_of (json_elements_or_empty (codes "irqs") d))) 32 few.3 in
+    let irqs = leb-true (length (map plan_irq_of (json_elements_or_empty (codes "irqs") d))) 32 few.3 in
     record {
       rom = omega (arith, rom, length-map (plan_objects_of Rom d) plan_range_of);
       ram = omega (arith, ram, length-map (plan_objects_of Ram d) plan_range_of);
       devices = omega (arith, devices, length-map (plan_objects_of Devices d) plan_device_of);
-      irqs = omega (arith, irqs, length-map (json_elements_or_empty (codes "irqs") d) irq_of);
+      irqs = omega (arith, irqs, length-map (json_elements_or_empty (codes "irqs") d) plan_irq_of);
       areas = (are_areas_parts (json_nested_number (codes "csa") (codes "at") d) (json_nested_number (codes "csa") (codes "areas") d) (json_nested_number (codes "csa") (codes "reserve") d) areas).few;
     }

@@ -8,7 +8,7 @@ use Rattle.std.specs.List.{list_all}
 use Rattle.std.specs.Prelude.{sum_by}
 use Rattle.tcd_base.specs.declared.range.Range.{Range}
 use Rattle.tcd_base.specs.Ranges.{IsWithinRange, IsInOneRange}
-use Rattle.tcd_plan.specs.Cutting.{range_between, cut_range_parts, cut_plan_ranges}
+use Rattle.tcd_plan.specs.Cutting.{range_between, range_outside, ranges_outside}
 use Rattle.tcd_base.proofs.RangeLaws.{IsInOne-front, IsInOne-behind}
 use Rattle.tcd_plan.specs.PlanData.{is_plan_range, are_ranges_disjoint, are_all_ranges_disjoint}
 use Rattle.tcd_plan.proofs.ApartLaws.{range_parts, is_range-from, HaveBytes-ranges, all_apart-before, all_apart-append}
@@ -94,7 +94,7 @@ module _ (x n : ℕ) where
   above r = range_between (max (x + n) r.at) (r.at + r.len)
 
   -- what is in a part of a range is in the range, and misses the block
-  pub in_part : (r : Range) (y k : ℕ) → IsInOneRange y k (cut_range_parts x n r) → IsWithinRange y k r × ((y + k ≤ x) ⊎ (x + n ≤ y))
+  pub in_part : (r : Range) (y k : ℕ) → IsInOneRange y k (range_outside x n r) → IsWithinRange y k r × ((y + k ≤ x) ⊎ (x + n ≤ y))
   in_part r y k h =
       elim (IsInOne-parts y k (below r) (above r) h) [
         | inl first ↦
@@ -105,16 +105,16 @@ module _ (x n : ℕ) where
             ((max_right (x + n) r.at y p.0, p.1), inr (max_left (x + n) r.at y p.0))
       ]
 
-  pub in_ranges_without : (rs : List Range) (y k : ℕ) → IsInOneRange y k (cut_plan_ranges x n rs) → IsInOneRange y k rs × ((y + k ≤ x) ⊎ (x + n ≤ y))
+  pub in_ranges_without : (rs : List Range) (y k : ℕ) → IsInOneRange y k (ranges_outside x n rs) → IsInOneRange y k rs × ((y + k ≤ x) ⊎ (x + n ≤ y))
   in_ranges_without [] y k h = absurd h
   in_ranges_without (r ∷ rs) y k h =
-      elim (IsInOne-parts y k (cut_range_parts x n r) (cut_plan_ranges x n rs) h) [
+      elim (IsInOne-parts y k (range_outside x n r) (ranges_outside x n rs) h) [
         | inl here ↦ let p = in_part r y k here in (inl p.0, p.1)
         | inr rest ↦ let p = in_ranges_without rs y k rest in (inr p.0, p.1)
       ]
 
   -- a byte of a range that isn't in the block is in a part
-  part_has : (r : Range) (y : ℕ) → IsWithinRange y 1 r → (y < x) ⊎ (x + n ≤ y) → IsInOneRange y 1 (cut_range_parts x n r)
+  part_has : (r : Range) (y : ℕ) → IsWithinRange y 1 r → (y < x) ⊎ (x + n ≤ y) → IsInOneRange y 1 (range_outside x n r)
   part_has r y h (inl low) =
       let a = h.0 in
       let b = h.1 in
@@ -124,20 +124,20 @@ module _ (x n : ℕ) where
       let b = h.1 in
       IsInOne-behind y 1 (below r) (above r) (between_has (max (x + n) r.at) (r.at + r.len) y 1 (omega arith) b (omega arith))
 
-  pub ranges_without_has : (rs : List Range) (y : ℕ) → IsInOneRange y 1 rs → (y < x) ⊎ (x + n ≤ y) → IsInOneRange y 1 (cut_plan_ranges x n rs)
+  pub ranges_without_has : (rs : List Range) (y : ℕ) → IsInOneRange y 1 rs → (y < x) ⊎ (x + n ≤ y) → IsInOneRange y 1 (ranges_outside x n rs)
   ranges_without_has [] y h out = absurd h
-  ranges_without_has (r ∷ rs) y (inl h) out = IsInOne-front y 1 (cut_range_parts x n r) (cut_plan_ranges x n rs) (part_has r y h out)
-  ranges_without_has (r ∷ rs) y (inr h) out = IsInOne-behind y 1 (cut_range_parts x n r) (cut_plan_ranges x n rs) (ranges_without_has rs y h out)
+  ranges_without_has (r ∷ rs) y (inl h) out = IsInOne-front y 1 (range_outside x n r) (ranges_outside x n rs) (part_has r y h out)
+  ranges_without_has (r ∷ rs) y (inr h) out = IsInOne-behind y 1 (range_outside x n r) (ranges_outside x n rs) (ranges_without_has rs y h out)
 
   -- ---- the number of parts
-  pub two_left : (r : Range) → length (cut_range_parts x n r) ≤ 2
+  pub two_left : (r : Range) → length (range_outside x n r) ≤ 2
   two_left r =
       let a = one_between r.at (min x (r.at + r.len)) in
       let b = one_between (max (x + n) r.at) (r.at + r.len) in
       omega (arith, length-append (below r) (above r))
 
   -- a range below the block or above it stays in one part
-  pub one_left : (r : Range) → (r.at + r.len ≤ x) ⊎ (x + n ≤ r.at) → length (cut_range_parts x n r) ≤ 1
+  pub one_left : (r : Range) → (r.at + r.len ≤ x) ⊎ (x + n ≤ r.at) → length (range_outside x n r) ≤ 1
   one_left r (inl under) =
       let a = one_between r.at (min x (r.at + r.len)) in
       let b = none_between (max (x + n) r.at) (r.at + r.len) (omega arith) in
@@ -148,26 +148,26 @@ module _ (x n : ℕ) where
       omega (arith, length-append (below r) (above r))
 
   -- ---- the number of bytes
-  part_size : (r : Range) → size (cut_range_parts x n r) ≤ r.len
+  part_size : (r : Range) → size (range_outside x n r) ≤ r.len
   part_size r =
       let a = between_size r.at (min x (r.at + r.len)) in
       let b = between_size (max (x + n) r.at) (r.at + r.len) in
-      let both : size (cut_range_parts x n r) ≡ size (below r) + size (above r) = sum_by-append (λ (s : Range). s.len) (below r) (above r) in
+      let both : size (range_outside x n r) ≡ size (below r) + size (above r) = sum_by-append (λ (s : Range). s.len) (below r) (above r) in
       omega arith
 
-  pub ranges_without_size : (rs : List Range) → sum_by (λ (r : Range). r.len) (cut_plan_ranges x n rs) ≤ sum_by (λ (r : Range). r.len) rs
+  pub ranges_without_size : (rs : List Range) → sum_by (λ (r : Range). r.len) (ranges_outside x n rs) ≤ sum_by (λ (r : Range). r.len) rs
   ranges_without_size [] = omega arith
   ranges_without_size (r ∷ rs) =
       let a = part_size r in
       let b = ranges_without_size rs in
-      let parts : size (cut_plan_ranges x n (r ∷ rs)) ≡ size (cut_range_parts x n r) + size (cut_plan_ranges x n rs) = sum_by-append (λ (s : Range). s.len) (cut_range_parts x n r) (cut_plan_ranges x n rs) in
+      let parts : size (ranges_outside x n (r ∷ rs)) ≡ size (range_outside x n r) + size (ranges_outside x n rs) = sum_by-append (λ (s : Range). s.len) (range_outside x n r) (ranges_outside x n rs) in
       let one : size (r ∷ []) ≡ r.len = omega arith in
       let whole : size (r ∷ rs) ≡ size (r ∷ []) + size rs = sum_by-append (λ (s : Range). s.len) (r ∷ []) rs in
       omega arith
 
 -- ---- parts of ranges of whole words, without a block of whole words
 module _ (x n : ℕ) (first : x % 4 ≡ 0) (whole : n % 4 ≡ 0) where
-  parts_range : (r : Range) → is_plan_range r ≡ true → list_all is_plan_range (cut_range_parts x n r) ≡ true
+  parts_range : (r : Range) → is_plan_range r ≡ true → list_all is_plan_range (range_outside x n r) ≡ true
   parts_range r is =
       let p = range_parts r is in
       let a = p.0 in
@@ -179,13 +179,13 @@ module _ (x n : ℕ) (first : x % 4 ≡ 0) (whole : n % 4 ≡ 0) where
       ∙ and_from _ _ (between_range r.at (min x (r.at + r.len)) a (min_four x (r.at + r.len) first upto) (omega arith)) (between_range (max (x + n) r.at) (r.at + r.len) (max_four (x + n) r.at last a) upto fits)
 
   -- the parts are ranges
-  pub ranges_without_ranges : (rs : List Range) → list_all is_plan_range rs ≡ true → list_all is_plan_range (cut_plan_ranges x n rs) ≡ true
+  pub ranges_without_ranges : (rs : List Range) → list_all is_plan_range rs ≡ true → list_all is_plan_range (ranges_outside x n rs) ≡ true
   ranges_without_ranges [] h = refl
   ranges_without_ranges (r ∷ rs) h =
       let p = and_parts (is_plan_range r) (list_all is_plan_range rs) h in
-      list_all-append is_plan_range (cut_range_parts x n r) (cut_plan_ranges x n rs) ∙ and_from _ _ (parts_range r p.0) (ranges_without_ranges rs p.1)
+      list_all-append is_plan_range (range_outside x n r) (ranges_outside x n rs) ∙ and_from _ _ (parts_range r p.0) (ranges_without_ranges rs p.1)
 
-  parts_apart : (r : Range) → is_plan_range r ≡ true → are_all_ranges_disjoint (cut_range_parts x n r) ≡ true
+  parts_apart : (r : Range) → is_plan_range r ≡ true → are_all_ranges_disjoint (range_outside x n r) ≡ true
   parts_apart r is =
       let split = and_parts _ _ (sym (list_all-append is_plan_range (below x n r) (above x n r)) ∙ parts_range r is) in
       all_apart-append (below x n r) (above x n r) (HaveBytes-ranges _ split.0) (HaveBytes-ranges _ split.1) (between_apart _ _) (between_apart _ _)
@@ -197,10 +197,10 @@ module _ (x n : ℕ) (first : x % 4 ≡ 0) (whole : n % 4 ≡ 0) where
       absurd (omega arith))
 
   -- the parts are apart from each other
-  pub ranges_without_apart : (rs : List Range) → list_all is_plan_range rs ≡ true → are_all_ranges_disjoint rs ≡ true → are_all_ranges_disjoint (cut_plan_ranges x n rs) ≡ true
+  pub ranges_without_apart : (rs : List Range) → list_all is_plan_range rs ≡ true → are_all_ranges_disjoint rs ≡ true → are_all_ranges_disjoint (ranges_outside x n rs) ≡ true
   ranges_without_apart [] h a = refl
   ranges_without_apart (r ∷ rs) h a =
       let p = and_parts (is_plan_range r) (list_all is_plan_range rs) h in
       let q = and_parts (list_all (are_ranges_disjoint r) rs) (are_all_ranges_disjoint rs) a in
-      all_apart-append (cut_range_parts x n r) (cut_plan_ranges x n rs) (HaveBytes-ranges _ (parts_range r p.0)) (HaveBytes-ranges _ (ranges_without_ranges rs p.1)) (parts_apart r p.0) (ranges_without_apart rs p.1 q.1)
+      all_apart-append (range_outside x n r) (ranges_outside x n rs) (HaveBytes-ranges _ (parts_range r p.0)) (HaveBytes-ranges _ (ranges_without_ranges rs p.1)) (parts_apart r p.0) (ranges_without_apart rs p.1 q.1)
       (λ y here there. all_apart-before y (r ∷ []) rs a (inl (in_part x n r y 1 here).0) (in_ranges_without x n rs y 1 there).0)

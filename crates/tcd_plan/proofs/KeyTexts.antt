@@ -7,8 +7,8 @@ use Rattle.serde_json.specs.Data.{Data}
 use Rattle.tcd_base.specs.declared.range.Range.{Range}
 use Rattle.tcd_plan.specs.KeyRows.{KeyRow, parent_key, key_parents, key_rows}
 use Rattle.tcd_plan.specs.Objects.{plan_objects_of}
-use Rattle.tcd_plan.specs.KeyFaults.{has_unknown_key, is_key_value_bad, lacks_key, first_bad_key, first_key_where, first_missing_key, plan_key_of, first_object_with_unknown_key}
-use Rattle.tcd_plan.specs.PlanData.{PlanData, all_ranges, are_ranges_disjoint, are_ranges_within_limits, key_unless, has_valid_areas, has_even_vectors, first_oversized_array, first_overlap_from, plan_range_overlap}
+use Rattle.tcd_plan.specs.KeyFaults.{has_unknown_key, is_key_value_bad, lacks_key, first_key_with_bad_value, first_key_where, first_missing_key, plan_key_of, first_object_with_unknown_key}
+use Rattle.tcd_plan.specs.PlanData.{PlanData, all_ranges, are_ranges_disjoint, are_ranges_within_limits, key_unless, has_valid_areas, has_even_vector_bases, first_oversized_array, first_overlap_from, plan_range_overlap}
 use Rattle.tcd_plan.specs.PlanReader.{HasPrintedKey, plan_refusal, unchecked_plan_of, refusal_if}
 use Rattle.tcd_plan.specs.JsonValues.{is_object}
 use Rattle.tcd_plan.specs.declared.plans.PlanErr.{PlanErr}
@@ -45,8 +45,8 @@ missing-small : (d : Data) → IfSome (first_missing_key d) IsKey
 unfolding first_missing_key
 missing-small d = first_key-small lacks_key d
 
-bad_value-small : (d : Data) → IfSome (first_bad_key d) IsKey
-unfolding first_bad_key
+bad_value-small : (d : Data) → IfSome (first_key_with_bad_value d) IsKey
+unfolding first_key_with_bad_value
 bad_value-small d = first_key-small is_key_value_bad d
 
 holder_small : (h : KeyParent) → parent_key h < 32
@@ -99,10 +99,10 @@ refusal_of-text d =
     either HasPrintedKey (refusal_if (not (is_object d)) NotJson) _ (stated _ NotJson tt)
     (either HasPrintedKey (option_map Missing (first_missing_key d)) _ (wrapped Missing _ (λ key h. h) (missing-small d))
     (either HasPrintedKey (option_map Unknown (first_object_with_unknown_key d)) _ (wrapped Unknown _ (λ key h. h) (unknown-small d))
-    (either HasPrintedKey (option_map BadValue (first_bad_key d)) _ (wrapped BadValue _ (λ key h. h) (bad_value-small d))
+    (either HasPrintedKey (option_map BadValue (first_key_with_bad_value d)) _ (wrapped BadValue _ (λ key h. h) (bad_value-small d))
     (either HasPrintedKey (option_map TooMany (first_oversized_array (unchecked_plan_of d))) _ (wrapped TooMany _ (λ key h. h) (too_many-small (unchecked_plan_of d)))
     (either HasPrintedKey (refusal_if (not (has_valid_areas (unchecked_plan_of d))) BadCsa) _ (stated _ BadCsa tt)
-    (either HasPrintedKey (refusal_if (not (has_even_vectors (unchecked_plan_of d))) BadVector) _ (stated _ BadVector tt)
+    (either HasPrintedKey (refusal_if (not (has_even_vector_bases (unchecked_plan_of d))) BadVector) _ (stated _ BadVector tt)
     (either HasPrintedKey (plan_range_overlap (unchecked_plan_of d)) None (overlap_of-text (unchecked_plan_of d)) tt)))))))
 
 pub refused-text : (d : Data) (err : PlanErr) → plan_refusal d ≡ Some err → HasPrintedKey err

@@ -7,8 +7,8 @@ use Rattle.std.proofs.lemmas.List.Elements.{All-nil, All-cons}
 use Rattle.serde_json.specs.Data.{Data}
 use Rattle.tcd_plan.specs.ValueForms.{are_irqs_above, has_value_form, is_range_len, is_some_and}
 use Rattle.tcd_plan.specs.PlanData.{is_plan_device, is_plan_range}
-use Rattle.tcd_plan.specs.PlanReader.{plan_device_of, irq_of, plan_range_of}
-use Rattle.tcd_plan.specs.JsonValues.{is_object, json_number_at, json_number_of, json_word_at}
+use Rattle.tcd_plan.specs.PlanReader.{plan_device_of, plan_irq_of, plan_range_of}
+use Rattle.tcd_plan.specs.JsonValues.{is_object, json_number_at, json_number_of, json_number_or_zero}
 use Rattle.tcd_plan.specs.declared.key_table.ValueForm.TheVariants.{At, Len, Hi}
 use Rattle.tcd_plan.proofs.Small.{passes-unwrap_or}
 use Rattle.tcd_plan.proofs.Words.{word_at-lt}
@@ -16,8 +16,8 @@ use Rattle.tcd_plan.proofs.Words.{word_at-lt}
 range_is : (o : Data) → has_value_form At (codes "at") o ≡ true → has_value_form Len (codes "len") o ≡ true → is_plan_range (plan_range_of o) ≡ true
 range_is o at len =
     let whole_at = passes-unwrap_or (λ n. n % 4 == 0) (json_number_at (codes "at") o) 0 at in
-    let fits = and_parts (nat_lt 0 (json_word_at (codes "len") o) && (json_word_at (codes "len") o % 4 == 0)) _ (passes-unwrap_or (is_range_len (json_word_at (codes "at") o)) (json_number_at (codes "len") o) 0 len) in
-    let whole_len = and_parts (nat_lt 0 (json_word_at (codes "len") o)) (json_word_at (codes "len") o % 4 == 0) fits.0 in
+    let fits = and_parts (nat_lt 0 (json_number_or_zero (codes "len") o) && (json_number_or_zero (codes "len") o % 4 == 0)) _ (passes-unwrap_or (is_range_len (json_number_or_zero (codes "at") o)) (json_number_at (codes "len") o) 0 len) in
+    let whole_len = and_parts (nat_lt 0 (json_number_or_zero (codes "len") o)) (json_number_or_zero (codes "len") o % 4 == 0) fits.0 in
     and_from _ _ (and_from _ _ (and_from _ _ whole_at whole_len.1) whole_len.0) fits.1
 
 pub ranges_are : (os : List Data) → list_all (has_value_form At (codes "at")) os ≡ true → list_all (has_value_form Len (codes "len")) os ≡ true → list_all is_plan_range (map plan_range_of os) ≡ true
@@ -29,7 +29,7 @@ ranges_are (o ∷ os) at len =
 
 device_is : (o : Data) → has_value_form At (codes "at") o ≡ true → has_value_form Len (codes "len") o ≡ true → has_value_form Hi (codes "hi") o ≡ true → is_plan_device (plan_device_of o) ≡ true
 device_is o at len hi =
-    let above = passes-unwrap_or (nat_le (json_word_at (codes "lo") o)) (json_number_at (codes "hi") o) 0 hi in
+    let above = passes-unwrap_or (nat_le (json_number_or_zero (codes "lo") o)) (json_number_at (codes "hi") o) 0 hi in
     and_from _ _ (and_from _ _ (range_is o at len) above) (lt-ltb _ _ (word_at-lt (codes "hi") o))
 
 pub devices_are : (os : List Data) → list_all (has_value_form At (codes "at")) os ≡ true → list_all (has_value_form Len (codes "len")) os ≡ true → list_all (has_value_form Hi (codes "hi")) os ≡ true → list_all is_plan_device (map plan_device_of os) ≡ true
@@ -57,27 +57,27 @@ inner_word test name (Some x) e h =
     passes-unwrap_or test (json_number_at name x) 0 (and_parts (is_some_and test (json_number_at name x)) true (subst P e h)).0
 
 -- the first number is above `low`, and the rest ascend above it
-ascends : (low : ℕ) (d : Data) (ds : List Data) → are_irqs_above low (d ∷ ds) ≡ true → (low < irq_of d) × (irq_of d < 2 ^ 8) × (are_irqs_above (irq_of d) ds ≡ true)
+ascends : (low : ℕ) (d : Data) (ds : List Data) → are_irqs_above low (d ∷ ds) ≡ true → (low < plan_irq_of d) × (plan_irq_of d < 2 ^ 8) × (are_irqs_above (plan_irq_of d) ds ≡ true)
 ascends low d ds e =
-    let parts = and_parts (nat_lt low (irq_of d) && nat_lt (irq_of d) 256) (are_irqs_above (irq_of d) ds) (passes-unwrap_or (λ q. nat_lt low q && nat_lt q 256 && are_irqs_above q ds) (json_number_of d) 0 e) in
-    let bounds = and_parts (nat_lt low (irq_of d)) (nat_lt (irq_of d) 256) parts.0 in
+    let parts = and_parts (nat_lt low (plan_irq_of d) && nat_lt (plan_irq_of d) 256) (are_irqs_above (plan_irq_of d) ds) (passes-unwrap_or (λ q. nat_lt low q && nat_lt q 256 && are_irqs_above q ds) (json_number_of d) 0 e) in
+    let bounds = and_parts (nat_lt low (plan_irq_of d)) (nat_lt (plan_irq_of d) 256) parts.0 in
     (ltb-true _ _ bounds.0, ltb-true _ _ bounds.1, parts.1)
 
-pub irqs_small : (low : ℕ) (ds : List Data) → are_irqs_above low ds ≡ true → All (λ d. irq_of d < 2 ^ 8) ds
-irqs_small low [] e = All-nil (λ d. irq_of d < 2 ^ 8)
-irqs_small low (d ∷ ds) e = let parts = ascends low d ds e in All-cons (λ x. irq_of x < 2 ^ 8) d ds parts.1 (irqs_small (irq_of d) ds parts.2)
+pub irqs_small : (low : ℕ) (ds : List Data) → are_irqs_above low ds ≡ true → All (λ d. plan_irq_of d < 2 ^ 8) ds
+irqs_small low [] e = All-nil (λ d. plan_irq_of d < 2 ^ 8)
+irqs_small low (d ∷ ds) e = let parts = ascends low d ds e in All-cons (λ x. plan_irq_of x < 2 ^ 8) d ds parts.1 (irqs_small (plan_irq_of d) ds parts.2)
 
-pub irqs_each : (low : ℕ) (ds : List Data) → are_irqs_above low ds ≡ true → list_all (λ q. nat_lt 0 q && nat_lt q (2 ^ 8)) (map irq_of ds) ≡ true
+pub irqs_each : (low : ℕ) (ds : List Data) → are_irqs_above low ds ≡ true → list_all (λ q. nat_lt 0 q && nat_lt q (2 ^ 8)) (map plan_irq_of ds) ≡ true
 irqs_each low [] e = refl
 irqs_each low (d ∷ ds) e =
     let parts = ascends low d ds e in
-    and_from _ _ (and_from _ _ (lt-ltb 0 (irq_of d) (omega (arith, parts.0))) (lt-ltb (irq_of d) (2 ^ 8) parts.1)) (irqs_each (irq_of d) ds parts.2)
+    and_from _ _ (and_from _ _ (lt-ltb 0 (plan_irq_of d) (omega (arith, parts.0))) (lt-ltb (plan_irq_of d) (2 ^ 8) parts.1)) (irqs_each (plan_irq_of d) ds parts.2)
 
-rising : (low : ℕ) (ds : List Data) → are_irqs_above low ds ≡ true → (k : ℕ) → suc k < length (map irq_of ds) → get_or (map irq_of ds) k 0 < get_or (map irq_of ds) (suc k) 0
+rising : (low : ℕ) (ds : List Data) → are_irqs_above low ds ≡ true → (k : ℕ) → suc k < length (map plan_irq_of ds) → get_or (map plan_irq_of ds) k 0 < get_or (map plan_irq_of ds) (suc k) 0
 rising low [] e k within = absurd (omega arith)
 rising low (d ∷ []) e k within = absurd (omega arith)
-rising low (d ∷ f ∷ ds) e zero within = (ascends (irq_of d) f ds (ascends low d (f ∷ ds) e).2).0
-rising low (d ∷ f ∷ ds) e (suc k) within = rising (irq_of d) (f ∷ ds) (ascends low d (f ∷ ds) e).2 k (omega arith)
+rising low (d ∷ f ∷ ds) e zero within = (ascends (plan_irq_of d) f ds (ascends low d (f ∷ ds) e).2).0
+rising low (d ∷ f ∷ ds) e (suc k) within = rising (plan_irq_of d) (f ∷ ds) (ascends low d (f ∷ ds) e).2 k (omega arith)
 
-pub irqs_rise : (low : ℕ) (ds : List Data) → are_irqs_above low ds ≡ true → IsStrictlyIncreasing (map irq_of ds)
+pub irqs_rise : (low : ℕ) (ds : List Data) → are_irqs_above low ds ≡ true → IsStrictlyIncreasing (map plan_irq_of ds)
 irqs_rise low ds e k within = rw (add-one k) (rising low ds e k (omega arith))

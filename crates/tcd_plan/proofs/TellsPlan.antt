@@ -8,11 +8,11 @@ use Rattle.serde_json.specs.Data.{Data}
 use Rattle.serde_json.specs.Find.{get}
 use Rattle.tcd_base.specs.declared.range.Range.{Range}
 use Rattle.tcd_plan.specs.Objects.{plan_objects_of}
-use Rattle.tcd_plan.specs.JsonValues.{json_elements_or_empty, json_elements_at, json_word_at, json_nested_number}
+use Rattle.tcd_plan.specs.JsonValues.{json_elements_or_empty, json_elements_at, json_number_or_zero, json_nested_number}
 use Rattle.tcd_plan.specs.ValueForms.{are_irqs_above, has_value_form}
-use Rattle.tcd_plan.specs.PlanData.{ArePlanAreas, ArePlanIrqs, ArePlanRanges, ArePlanWords, IsPlan, PlanData, are_all_ranges_disjoint, all_ranges, are_ranges_disjoint, are_ranges_within_limits, has_valid_areas, has_even_vectors, first_overlap_from, plan_range_overlap}
+use Rattle.tcd_plan.specs.PlanData.{ArePlanAreas, ArePlanIrqs, ArePlanRanges, ArePlanWords, IsPlan, PlanData, are_all_ranges_disjoint, all_ranges, are_ranges_disjoint, are_ranges_within_limits, has_valid_areas, has_even_vector_bases, first_overlap_from, plan_range_overlap}
 use Rattle.tcd_plan.specs.PlanReader.{plan_range_of, plan_refusal, unchecked_plan_of}
-use Rattle.tcd_plan.specs.KeyFaults.{first_bad_key}
+use Rattle.tcd_plan.specs.KeyFaults.{first_key_with_bad_value}
 use Rattle.tcd_plan.specs.declared.plans.PlanErr.TheVariants.{Overlap}
 use Rattle.tcd_plan.specs.declared.key_table.ValueForm.TheVariants.{Irqs, Object, Ranges}
 use Rattle.tcd_plan.specs.declared.key_table.KeyParent.TheVariants.{Devices, Ram, Rom}
@@ -26,14 +26,14 @@ use Rattle.tcd_plan.proofs.Words.{word_at-lt, word_in-lt}
 alone : (test : Data → Bool) (d : Data) → list_all test (d ∷ []) ≡ true → test d ≡ true
 alone test d e = (and_parts (test d) true e).0
 
-pub ascending : (d : Data) → first_bad_key d ≡ None → are_irqs_above 0 (json_elements_or_empty (codes "irqs") d) ≡ true
+pub ascending : (d : Data) → first_key_with_bad_value d ≡ None → are_irqs_above 0 (json_elements_or_empty (codes "irqs") d) ≡ true
 ascending d e = passes-unwrap_or (are_irqs_above 0) (json_elements_at (codes "irqs") d) [] (alone (has_value_form Irqs (codes "irqs")) d (irqs_form d e))
 
-pub ccpn-lt : (d : Data) → first_bad_key d ≡ None → json_nested_number (codes "start") (codes "ccpn") d < 2 ^ 8
+pub ccpn-lt : (d : Data) → first_key_with_bad_value d ≡ None → json_nested_number (codes "start") (codes "ccpn") d < 2 ^ 8
 ccpn-lt d e =
     ltb-true _ _ (inner_word (λ n. nat_lt n 256) (codes "ccpn") (get (codes "start") d) (alone (has_value_form Object (codes "start")) d (start_form d e)) (start_ccpn d e))
 
-rom_some : (d : Data) → first_bad_key d ≡ None → 0 < length (plan_objects_of Rom d)
+rom_some : (d : Data) → first_key_with_bad_value d ≡ None → 0 < length (plan_objects_of Rom d)
 rom_some d e = some_objects (json_elements_at (codes "rom") d) (alone (has_value_form Ranges (codes "rom")) d (rom_form d e))
 
 sum_of : (rs : List Range) → are_ranges_within_limits rs ≡ true → sum_by (λ r. r.len) rs ≤ 2 ^ 22
@@ -77,9 +77,9 @@ words_small d [] = refl
 words_small d (name ∷ names) = and_from _ _ (lt-ltb _ _ (word_in-lt (codes "globals") name d)) (words_small d names)
 
 are_words : (d : Data) → IsAccepted d → ArePlanWords (unchecked_plan_of d)
-unfolding unchecked_plan_of has_even_vectors
+unfolding unchecked_plan_of has_even_vector_bases
 are_words d a =
-    let even = and_parts (json_word_at (codes "biv") d % 2 == 0) (json_word_at (codes "btv") d % 2 == 0) a.vectors in
+    let even = and_parts (json_number_or_zero (codes "biv") d % 2 == 0) (json_number_or_zero (codes "btv") d % 2 == 0) a.vectors in
     record {
       sp = word_at-lt (codes "sp") d;
       isp = word_at-lt (codes "isp") d;

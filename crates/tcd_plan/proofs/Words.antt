@@ -7,7 +7,7 @@ use Rattle.std.proofs.lemmas.Int.Digits.{digits_value-lt}
 use Rattle.std.proofs.Math.Nat.{pow-le-pow_right}
 use Rattle.serde_json.specs.Data.{unsigned, negative, float, Data, null, boolean, number, string, array, object}
 use Rattle.serde_json.specs.Find.{get}
-use Rattle.tcd_plan.specs.JsonValues.{json_hex_number, is_json_hex, json_number_at, json_number_of, json_text_number, json_number_if_word, json_word_at, json_nested_number}
+use Rattle.tcd_plan.specs.JsonValues.{json_hex_number, is_json_hex, json_number_at, json_number_of, hex_string_value, json_number_if_word, json_number_or_zero, json_nested_number}
 
 abbrev IsSmall : Option ℕ → Type 0
 IsSmall None = Unit {0}
@@ -42,7 +42,7 @@ hex_word-small digits =
     let bound : 16 ^ length digits ≤ 16 ^ 8 = pow-le-pow_right (omega arith) few in
     omega arith)
 
-text_word-small : (text : List ℕ) → IsSmall (json_text_number text)
+text_word-small : (text : List ℕ) → IsSmall (hex_string_value text)
 text_word-small [] = tt
 text_word-small (a ∷ []) = tt
 text_word-small (a ∷ b ∷ digits) = small_if (a == 48 && b == 120) (json_hex_number digits) (hex_word-small digits)
@@ -63,7 +63,7 @@ number_of-small (object ms) = tt
 number_at-small : (name : List ℕ) (d : Data) → IsSmall (json_number_at name d)
 number_at-small name d = small_then json_number_of (get name d) number_of-small
 
-pub word_at-lt : (name : List ℕ) (d : Data) → json_word_at name d < 2 ^ 32
+pub word_at-lt : (name : List ℕ) (d : Data) → json_number_or_zero name d < 2 ^ 32
 word_at-lt name d = small_or (json_number_at name d) (number_at-small name d)
 
 pub word_in-lt : (outer name : List ℕ) (d : Data) → json_nested_number outer name d < 2 ^ 32

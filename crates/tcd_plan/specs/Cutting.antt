@@ -8,9 +8,9 @@ abbrev pub range_between : ℕ → ℕ → List Range
 range_between from upto = if nat_lt from upto then record { at = from; len = upto - from } ∷ [] else []
 
 -- the parts of a range below and above the n bytes from x on
-abbrev pub cut_range_parts : ℕ → ℕ → Range → List Range
-cut_range_parts x n r = range_between r.at (min x (r.at + r.len)) ++ range_between (max (x + n) r.at) (r.at + r.len)
+abbrev pub range_outside : ℕ → ℕ → Range → List Range
+range_outside x n r = range_between r.at (min x (r.at + r.len)) ++ range_between (max (x + n) r.at) (r.at + r.len)
 
 -- the parts of all ranges, ascending if the ranges are
-abbrev pub cut_plan_ranges : ℕ → ℕ → List Range → List Range
-cut_plan_ranges x n rs = flat_map (cut_range_parts x n) rs
+abbrev pub ranges_outside : ℕ → ℕ → List Range → List Range
+ranges_outside x n rs = flat_map (range_outside x n) rs

@@ -31,8 +31,8 @@ abbrev pub json_elements_at : List ℕ → Data → Option (List Data)
 json_elements_at name d = option_map json_array_elements (option_and_then as_array (get name d))
 
 -- the value is this text
-abbrev pub is_json_text : List ℕ → Data → Bool
-is_json_text text d = option_map_or (λ s. bytes_eq s text) (as_str d) false
+abbrev pub is_json_string : List ℕ → Data → Bool
+is_json_string text d = option_map_or (λ s. bytes_eq s text) (as_str d) false
 
 -- the number, if it is a word: below 2 ^ 32
 abbrev pub json_number_if_word : ℕ → Option ℕ
@@ -47,16 +47,16 @@ abbrev pub json_hex_number : List ℕ → Option ℕ
 json_hex_number digits = if nat_le 1 (length digits) && nat_le (length digits) 8 && list_all is_json_hex digits then Some (digits_value 16 digits) else None
 
 -- the number that a JSON text spells: `0x` and 1 to 8 hex digits
-abbrev pub json_text_number : List ℕ → Option ℕ
-json_text_number (a ∷ b ∷ digits) = if a == 48 && b == 120 then json_hex_number digits else None
-json_text_number cs = None
+abbrev pub hex_string_value : List ℕ → Option ℕ
+hex_string_value (a ∷ b ∷ digits) = if a == 48 && b == 120 then json_hex_number digits else None
+hex_string_value cs = None
 
 -- a number of 32 bits: a JSON number that is an unsigned integer, or a text of hex digits
 abbrev pub json_number_of : Data → Option ℕ
 json_number_of null = None
 json_number_of (boolean b) = None
 json_number_of (number n) = option_and_then json_number_if_word (as_u64 n)
-json_number_of (string s) = json_text_number s
+json_number_of (string s) = hex_string_value s
 json_number_of (array ds) = None
 json_number_of (object ms) = None
 
@@ -65,8 +65,8 @@ abbrev pub json_number_at : List ℕ → Data → Option ℕ
 json_number_at name d = option_and_then json_number_of (get name d)
 
 -- the number at a key of a JSON object, 0 if there is none
-abbrev pub json_word_at : List ℕ → Data → ℕ
-json_word_at name d = unwrap_or (json_number_at name d) 0
+abbrev pub json_number_or_zero : List ℕ → Data → ℕ
+json_number_or_zero name d = unwrap_or (json_number_at name d) 0
 
 -- the number at a key of the object at another key, 0 if there is none
 abbrev pub json_nested_number : List ℕ → List ℕ → Data → ℕ

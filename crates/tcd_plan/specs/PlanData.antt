@@ -185,8 +185,8 @@ unfoldable pub has_valid_areas : PlanData → Bool
 has_valid_areas p = are_valid_areas p.csa_at p.areas p.reserve
 
 -- what holds of every plan's data: BIV and BTV are even (manual, volume 1, interrupts and traps)
-unfoldable pub has_even_vectors : PlanData → Bool
-has_even_vectors p = (p.biv % 2 == 0) && (p.btv % 2 == 0)
+unfoldable pub has_even_vector_bases : PlanData → Bool
+has_even_vector_bases p = (p.biv % 2 == 0) && (p.btv % 2 == 0)
 
 -- the first pair in a list of a plan's ranges that shares a byte; the ranges are numbered from i on
 abbrev pub first_overlap_from : ℕ → List Range → Option PlanErr

@@ -10,10 +10,10 @@ use Rattle.tcd_base.specs.declared.core_version.Core.{Core}
 use Rattle.tcd_base.specs.declared.core_version.Core.TheVariants.{V13, V16}
 use Rattle.tcd_plan.specs.Keys.{key_texts}
 use Rattle.tcd_plan.specs.Objects.{plan_objects_of}
-use Rattle.tcd_plan.specs.JsonValues.{json_elements_or_empty, is_object, is_json_text, json_number_of, json_word_at, json_nested_number}
-use Rattle.tcd_plan.specs.KeyFaults.{first_bad_key, first_missing_key, first_object_with_unknown_key}
+use Rattle.tcd_plan.specs.JsonValues.{json_elements_or_empty, is_object, is_json_string, json_number_of, json_number_or_zero, json_nested_number}
+use Rattle.tcd_plan.specs.KeyFaults.{first_key_with_bad_value, first_missing_key, first_object_with_unknown_key}
 use Rattle.tcd_plan.specs.ValueForms.{is_some_and}
-use Rattle.tcd_plan.specs.PlanData.{PlanData, first_some, has_valid_areas, has_even_vectors, first_oversized_array, plan_range_overlap}
+use Rattle.tcd_plan.specs.PlanData.{PlanData, first_some, has_valid_areas, has_even_vector_bases, first_oversized_array, plan_range_overlap}
 use Rattle.tcd_plan.specs.declared.plans.Device.{Device}
 use Rattle.tcd_plan.specs.declared.plans.PlanErr.{PlanErr}
 use Rattle.tcd_plan.specs.declared.plans.PlanErr.TheVariants.{NotJson, Missing, Unknown, BadValue, TooMany, BadCsa, BadVector, Overlap, NoMemory}
@@ -21,20 +21,20 @@ use Rattle.tcd_plan.specs.declared.key_table.KeyParent.TheVariants.{Rom, Ram, De
 
 -- what the reader of plans makes of an object of the document with `at` and `len`: a range
 abbrev pub plan_range_of : Data → Range
-plan_range_of o = record { at = json_word_at (codes "at") o; len = json_word_at (codes "len") o }
+plan_range_of o = record { at = json_number_or_zero (codes "at") o; len = json_number_or_zero (codes "len") o }
 
 -- what the reader of plans makes of an object of the document with `at`, `len`, `lo` and `hi`: a
 -- peripheral
 abbrev pub plan_device_of : Data → Device
-plan_device_of o = record { range = plan_range_of o; lo = json_word_at (codes "lo") o; hi = json_word_at (codes "hi") o }
+plan_device_of o = record { range = plan_range_of o; lo = json_number_or_zero (codes "lo") o; hi = json_number_or_zero (codes "hi") o }
 
 -- what the reader of plans makes of an element of the document's `irqs`: an interrupt's priority
-abbrev pub irq_of : Data → ℕ
-irq_of q = unwrap_or (json_number_of q) 0
+abbrev pub plan_irq_of : Data → ℕ
+plan_irq_of q = unwrap_or (json_number_of q) 0
 
 -- the version of the core in a plan's document; V13 if the key is absent
-abbrev pub core_of : Data → Core
-core_of d = if is_some_and (is_json_text (codes "1.6")) (get (codes "core") d) then V16 else V13
+abbrev pub plan_core_of : Data → Core
+plan_core_of d = if is_some_and (is_json_string (codes "1.6")) (get (codes "core") d) then V16 else V13
 
 -- the words of A0, A1, A8 and A9 at the start, in a plan's document
 abbrev pub plan_globals_of : Data → List ℕ
@@ -49,18 +49,18 @@ unchecked_plan_of d = record {
   csa_at = json_nested_number (codes "csa") (codes "at") d;
   areas = json_nested_number (codes "csa") (codes "areas") d;
   reserve = json_nested_number (codes "csa") (codes "reserve") d;
-  sp = json_word_at (codes "sp") d;
-  isp = json_word_at (codes "isp") d;
-  biv = json_word_at (codes "biv") d;
-  btv = json_word_at (codes "btv") d;
-  irqs = map irq_of (json_elements_or_empty (codes "irqs") d);
-  sys = list_any (is_json_text (codes "sys")) (json_elements_or_empty (codes "traps") d);
-  aln = list_any (is_json_text (codes "aln")) (json_elements_or_empty (codes "traps") d);
+  sp = json_number_or_zero (codes "sp") d;
+  isp = json_number_or_zero (codes "isp") d;
+  biv = json_number_or_zero (codes "biv") d;
+  btv = json_number_or_zero (codes "btv") d;
+  irqs = map plan_irq_of (json_elements_or_empty (codes "irqs") d);
+  sys = list_any (is_json_string (codes "sys")) (json_elements_or_empty (codes "traps") d);
+  aln = list_any (is_json_string (codes "aln")) (json_elements_or_empty (codes "traps") d);
   start_ie = json_nested_number (codes "start") (codes "ie") d == 1;
   start_ccpn = json_nested_number (codes "start") (codes "ccpn") d;
   start_is = json_nested_number (codes "start") (codes "is") d == 1;
   globals = plan_globals_of d;
-  core = core_of d;
+  core = plan_core_of d;
 }
 
 -- this refusal of the plan in a document, if it applies; it names no key
@@ -73,10 +73,10 @@ plan_refusals d =
     refusal_if (not (is_object d)) NotJson ∷
     option_map Missing (first_missing_key d) ∷
     option_map Unknown (first_object_with_unknown_key d) ∷
-    option_map BadValue (first_bad_key d) ∷
+    option_map BadValue (first_key_with_bad_value d) ∷
     option_map TooMany (first_oversized_array (unchecked_plan_of d)) ∷
     refusal_if (not (has_valid_areas (unchecked_plan_of d))) BadCsa ∷
-    refusal_if (not (has_even_vectors (unchecked_plan_of d))) BadVector ∷
+    refusal_if (not (has_even_vector_bases (unchecked_plan_of d))) BadVector ∷
     plan_range_overlap (unchecked_plan_of d) ∷
     []
 

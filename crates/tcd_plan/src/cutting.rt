@@ -1,6 +1,6 @@
 // Cuts a block of bytes out of ranges.
 ghost use Rattle.std.specs.Prelude.{◌≡◌, ◌≤◌, ◌<◌, ◌+◌, ◌^◌, ◌++◌, length, All};
-ghost use Rattle.tcd_plan.specs.Cutting.{cut_plan_ranges, cut_range_parts, range_between};
+ghost use Rattle.tcd_plan.specs.Cutting.{ranges_outside, range_outside, range_between};
 
 use arrayvec::ArrayVec;
 use tcd_base::Range;
@@ -10,7 +10,7 @@ use tcd_base::Range;
 pub fn ranges_outside(ranges: &[Range], x: u32, n: u32) -> ArrayVec<Range, 32>
     requires few { length ranges.now ≤ 16 }
     requires fit { All (λ r. r.at + r.len ≤ 2 ^ 32) ranges.now }
-    ensures { result.items ≡ cut_plan_ranges x n ranges.now }
+    ensures { result.items ≡ ranges_outside x n ranges.now }
 {
     let mut parts = ArrayVec::new();
     for r in ranges {
@@ -24,7 +24,7 @@ pub fn ranges_outside(ranges: &[Range], x: u32, n: u32) -> ArrayVec<Range, 32>
 fn push_range_outside(ranges: &mut ArrayVec<Range, 32>, r: &Range, x: u32, n: u32)
     requires room { length ranges.old.items ≤ 30 }
     requires fits { r.now.at + r.now.len ≤ 2 ^ 32 }
-    ensures ranges { ranges.new.items ≡ ranges.old.items ++ cut_range_parts x n r.now }
+    ensures ranges { ranges.new.items ≡ ranges.old.items ++ range_outside x n r.now }
     ensures few { length ranges.new.items ≤ length ranges.old.items + 2 }
 {
     let start = u64::from(r.at);

@@ -3,7 +3,7 @@ ghost use Rattle.std.specs.Prelude.{◌≡◌, ◌<◌, ◌≤◌, ◌^◌, Some
 ghost use Rattle.std.specs.List.{list_all, list_any};
 ghost use Rattle.std.specs.Str.Parse.{digits_value};
 ghost use Rattle.serde_json.specs.View.{view};
-ghost use Rattle.tcd_plan.specs.JsonValues.{is_json_hex, is_json_text, json_number_of, json_number_at, json_elements_at, json_text_number, json_word_at, json_nested_number, json_elements_or_empty};
+ghost use Rattle.tcd_plan.specs.JsonValues.{is_json_hex, is_json_string, json_number_of, json_number_at, json_elements_at, hex_string_value, json_number_or_zero, json_nested_number, json_elements_or_empty};
 
 use serde_json::Value;
 
@@ -18,7 +18,7 @@ pub fn json_elements_at<'a>(value: &'a Value, name: &str) -> Option<&'a [Value]>
 
 /// Returns true if the value is this text.
 pub fn is_json_string(value: &Value, text: &str) -> bool
-    ensures { result ≡ is_json_text text.now (view value.now) }
+    ensures { result ≡ is_json_string text.now (view value.now) }
 {
     match value {
         Value::String(string) => string.as_str() == text,
@@ -28,7 +28,7 @@ pub fn is_json_string(value: &Value, text: &str) -> bool
 
 /// Returns the number at a key of a JSON object, or 0 if there is none.
 pub fn json_number_or_zero(value: &Value, name: &str) -> u32
-    ensures { result ≡ json_word_at name.now (view value.now) }
+    ensures { result ≡ json_number_or_zero name.now (view value.now) }
 {
     json_number_at(value, name).unwrap_or(0)
 }
@@ -71,7 +71,7 @@ pub fn json_elements_or_empty<'a>(value: &'a Value, name: &str) -> &'a [Value]
 
 /// Returns true if one of the elements of a JSON array is this text.
 pub fn has_json_string(places: &[Value], text: &str) -> bool
-    ensures { result ≡ list_any (is_json_text text.now) (map view places.now) }
+    ensures { result ≡ list_any (is_json_string text.now) (map view places.now) }
 {
     places.iter().any(|place| is_json_string(place, text))
 }
@@ -86,7 +86,7 @@ pub fn json_nested_byte(value: &Value, outer: &str, name: &str) -> u8
 
 /// Returns the number that a JSON text spells, or None: `0x` with 1 to 8 hex digits.
 fn hex_string_value(text: &[u8]) -> Option<u32>
-    ensures { result ≡ json_text_number text.now }
+    ensures { result ≡ hex_string_value text.now }
 {
     match text {
         [b'0', b'x', digits @ ..] if !digits.is_empty() && digits.len() <= 8 => json_hex_value(

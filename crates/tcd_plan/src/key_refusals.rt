@@ -4,7 +4,7 @@ ghost use Rattle.std.specs.List.{find, list_all, list_any};
 ghost use Rattle.std.specs.BTreeMap.{keys};
 ghost use Rattle.serde_json.specs.View.{view};
 ghost use Rattle.tcd_plan.specs.KeyRows.{parent_key, row_of, is_row_of_key};
-ghost use Rattle.tcd_plan.specs.KeyFaults.{may_key_be_absent, has_unknown_key, is_key_value_bad, is_known_key, lacks_key, first_bad_key, first_missing_key, plan_key_of, first_object_with_unknown_key};
+ghost use Rattle.tcd_plan.specs.KeyFaults.{may_key_be_absent, has_unknown_key, is_key_value_bad, is_known_key, lacks_key, first_key_with_bad_value, first_missing_key, plan_key_of, first_object_with_unknown_key};
 ghost use Rattle.tcd_plan.specs.Objects.{plan_objects_of};
 ghost use Rattle.tcd_plan.specs.ValueForms.{has_value_form};
 
@@ -28,7 +28,7 @@ pub fn first_missing_key(value: &Value) -> Option<PlanKey>
 
 /// Returns the first key of the table whose value in an object doesn't have its form, or None.
 pub fn first_key_with_bad_value(value: &Value) -> Option<PlanKey>
-    ensures { result ≡ first_bad_key (view value.now) }
+    ensures { result ≡ first_key_with_bad_value (view value.now) }
 {
     key_of_refused_row(
         key_table_rows()

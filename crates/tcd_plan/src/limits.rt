@@ -1,7 +1,7 @@
 // Refusals by values: arrays that are too long, save areas, vectors, and ranges that overlap.
 ghost use Rattle.std.specs.Prelude.{◌≡◌, ◌<◌, ◌≤◌, ◌+◌, IfSome, None, length, map, not, position, sum_by};
 ghost use Rattle.serde_json.specs.View.{view};
-ghost use Rattle.tcd_plan.specs.PlanData.{areas_range, are_ranges_disjoint, are_valid_areas, are_ranges_within_limits, has_valid_areas, has_even_vectors, first_oversized_array, first_overlap_from, plan_range_overlap};
+ghost use Rattle.tcd_plan.specs.PlanData.{areas_range, are_ranges_disjoint, are_valid_areas, are_ranges_within_limits, has_valid_areas, has_even_vector_bases, first_oversized_array, first_overlap_from, plan_range_overlap};
 ghost use Rattle.tcd_plan.specs.PlanReader.{HasShortPlanArrays, plan_range_of, unchecked_plan_of};
 
 use crate::json_values::{json_elements_or_empty, json_nested_number, json_number_or_zero};
@@ -47,9 +47,9 @@ pub fn has_valid_areas(value: &Value) -> bool
 }
 
 /// Returns true if BIV and BTV are even.
-#[tactic(auto, unfolding(crate::specs::PlanReader::unchecked_plan_of, crate::specs::PlanData::has_even_vectors))]
+#[tactic(auto, unfolding(crate::specs::PlanReader::unchecked_plan_of, crate::specs::PlanData::has_even_vector_bases))]
 pub fn has_even_vector_bases(value: &Value) -> bool
-    ensures { result ≡ has_even_vectors (unchecked_plan_of (view value.now)) }
+    ensures { result ≡ has_even_vector_bases (unchecked_plan_of (view value.now)) }
 {
     json_number_or_zero(value, "biv") % 2 == 0 && json_number_or_zero(value, "btv") % 2 == 0
 }

@@ -3,8 +3,8 @@ ghost use Rattle.std.specs.Prelude.{◌≡◌, [], map, count_by, option_map};
 ghost use Rattle.std.specs.List.{list_all};
 ghost use Rattle.serde_json.specs.View.{view};
 ghost use Rattle.tcd_plan.specs.Objects.{array_objects_at, single_object_at, plan_objects_of};
-ghost use Rattle.tcd_plan.specs.ValueForms.{are_traps, are_irqs_above, has_value_form, is_core_text, is_range_len, is_trap_text};
-ghost use Rattle.tcd_plan.specs.JsonValues.{is_object, is_json_text, json_number_of};
+ghost use Rattle.tcd_plan.specs.ValueForms.{are_traps, are_irqs_above, has_value_form, is_core_version_or_absent, is_range_len, is_trap_name};
+ghost use Rattle.tcd_plan.specs.JsonValues.{is_object, is_json_string, json_number_of};
 
 use crate::json_values::{
     is_json_string, json_elements_at, json_number_at, json_number_of, json_number_or_zero,
@@ -118,7 +118,7 @@ fn are_traps(places: &[Value]) -> bool
 
 /// Returns true if the value of `core` is `1.3` or `1.6`, or absent.
 fn is_core_version_or_absent(value: Option<&Value>) -> bool
-    ensures { result ≡ is_core_text (option_map (λ v. view v.now) value.entry) }
+    ensures { result ≡ is_core_version_or_absent (option_map (λ v. view v.now) value.entry) }
 {
     match value {
         Some(value) => is_json_string(value, "1.3") || is_json_string(value, "1.6"),
@@ -128,14 +128,14 @@ fn is_core_version_or_absent(value: Option<&Value>) -> bool
 
 /// Returns true if each element of `traps` is `sys` or `aln`.
 fn are_trap_names(places: &[Value]) -> bool
-    ensures { result ≡ list_all is_trap_text (map view places.now) }
+    ensures { result ≡ list_all is_trap_name (map view places.now) }
 {
     places.iter().all(is_trap_name)
 }
 
 /// Returns how many elements of the value of `traps` are this text.
 fn count_json_strings(places: &[Value], text: &str) -> usize
-    ensures { result ≡ count_by (is_json_text text.now) (map view places.now) }
+    ensures { result ≡ count_by (is_json_string text.now) (map view places.now) }
 {
     places
         .iter()
@@ -145,7 +145,7 @@ fn count_json_strings(places: &[Value], text: &str) -> usize
 
 /// Returns true if an element of the value of `traps` has its form: `sys` or `aln`.
 fn is_trap_name(place: &Value) -> bool
-    ensures { result ≡ is_trap_text (view place.now) }
+    ensures { result ≡ is_trap_name (view place.now) }
 {
     is_json_string(place, "sys") || is_json_string(place, "aln")
 }

@@ -1,8 +1,8 @@
 // Reads the parts of a plan from its document.
 ghost use Rattle.std.specs.Prelude.{◌≡◌, ◌<◌, ◌≤◌, ◌+◌, ◌^◌, ◌++◌, All, length, map};
 ghost use Rattle.serde_json.specs.View.{view};
-ghost use Rattle.tcd_plan.specs.PlanReader.{core_of, plan_device_of, plan_globals_of, irq_of, plan_range_of, HasShortPlanArrays, unchecked_plan_of};
-ghost use Rattle.tcd_plan.specs.JsonValues.{is_json_text, json_nested_number};
+ghost use Rattle.tcd_plan.specs.PlanReader.{plan_core_of, plan_device_of, plan_globals_of, plan_irq_of, plan_range_of, HasShortPlanArrays, unchecked_plan_of};
+ghost use Rattle.tcd_plan.specs.JsonValues.{is_json_string, json_nested_number};
 ghost use Rattle.tcd_plan.specs.PlanData.{areas_range};
 
 use crate::Device;
@@ -56,8 +56,8 @@ pub fn plan_devices_of(objects: &[Value]) -> ArrayVec<Device, 16>
 /// Reads the priorities of a plan's interrupts from the elements of the document's `irqs`.
 pub fn plan_irqs_of(places: &[Value]) -> ArrayVec<u8, 32>
     requires few { length places.now ≤ 32 }
-    requires bytes { All (λ q. irq_of q < 2 ^ 8) (map view places.now) }
-    ensures { result.items ≡ map irq_of (map view places.now) }
+    requires bytes { All (λ q. plan_irq_of q < 2 ^ 8) (map view places.now) }
+    ensures { result.items ≡ map plan_irq_of (map view places.now) }
 {
     let mut irqs = ArrayVec::new();
     for place in places {
@@ -68,7 +68,7 @@ pub fn plan_irqs_of(places: &[Value]) -> ArrayVec<u8, 32>
 
 /// Reads the version of the core from a plan's document. It is `V13` if the key is absent.
 pub fn plan_core_of(value: &Value) -> Core
-    ensures { result ≡ core_of (view value.now) }
+    ensures { result ≡ plan_core_of (view value.now) }
 {
     match value.get("core") {
         Some(core) if is_json_string(core, "1.6") => Core::V16,

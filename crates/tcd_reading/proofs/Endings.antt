@@ -4,7 +4,7 @@ use Rattle.std.specs.Prelude.{IsTrue}
 use Rattle.tcd_base.specs.Files.{FileMap, FilesSeen, KeepsFaultsIfSteady}
 use Rattle.tcd_base.specs.Sink.{SinkSeen}
 use Rattle.tcd_reading.specs.Reports.{ReportFile, Report, with_report_files, text_report}
-use Rattle.tcd_reading.specs.Endings.{ReportWritingStopped, FilesAndSinkStay, whole, cut, IsEndingWithReport, printed, unwritten, no_memory, FinishesOutcome, HasRoomForReports, Ends}
+use Rattle.tcd_reading.specs.Endings.{ReportWritingStopped, FilesAndSinkStay, whole, cut, IsEndingWithReport, printed, unwritten, no_memory, EndsWithOutcome, HasRoomForReports, Ends}
 use Rattle.tcd_reading.specs.Inputs.{Reading, ReadingSays, HasAllInputs, HasFailedToReadInput}
 use Rattle.tcd_reading.specs.Outcomes.{Outcome, IsCommandOutcome}
 use Rattle.tcd_reading.specs.Endings as ending
@@ -121,7 +121,7 @@ memory_ends reading old mid new sink sink' o result decided comes quiet e =
       complete = λ s room q other. inr e;
     }
 
-pub ends : (reading : Reading) (old mid new : FilesSeen) (sink sink' : SinkSeen) (o : Outcome) (result : Status) → IsDecided reading → IsCommandOutcome reading old mid o → FinishesOutcome o mid new sink sink' result → Ends reading old new sink sink' result
+pub ends : (reading : Reading) (old mid new : FilesSeen) (sink sink' : SinkSeen) (o : Outcome) (result : Status) → IsDecided reading → IsCommandOutcome reading old mid o → EndsWithOutcome o mid new sink sink' result → Ends reading old new sink sink' result
 ends reading old mid new sink sink' (Ok r) result decided comes f = reported_ends reading old mid new sink sink' (Ok r) r result decided comes comes.told f.0 f.1 f.2 f.3
 ends reading old mid new sink sink' (Err (stop.BadInput line)) result decided comes f =
     reported_ends reading old mid new sink sink' (Err (stop.BadInput line)) (text_report BadInput line.items) result decided comes comes.told f.0 f.1 f.2 f.3

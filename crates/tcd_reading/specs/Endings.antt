@@ -48,16 +48,16 @@ pub record FilesAndSinkStay (files files' : FilesSeen) (sink sink' : SinkSeen) :
   pub sink_stays : sink' ≡ sink
 
 -- how a command that has a report ends, with the counts of faults
-abbrev pub FinishesReport : Report → FilesSeen → FilesSeen → SinkSeen → SinkSeen → Status → Type 0
-FinishesReport report files files' sink sink' result =
+abbrev pub EndsWithReport : Report → FilesSeen → FilesSeen → SinkSeen → SinkSeen → Status → Type 0
+EndsWithReport report files files' sink sink' result =
     IsEndingWithReport report files files' sink sink' result × KeepsFaultsIfSteady files files' × (files.faults ≤ files'.faults) × (sink.faults ≤ sink'.faults)
 
 -- how a command with this outcome ends, by the views of the files and of the sink before and after
-abbrev pub FinishesOutcome : Outcome → FilesSeen → FilesSeen → SinkSeen → SinkSeen → Status → Type 0
-FinishesOutcome (Ok report) files files' sink sink' result = FinishesReport report files files' sink sink' result
-FinishesOutcome (Err (stop.BadInput line)) files files' sink sink' result = FinishesReport (text_report BadInput line.items) files files' sink sink' result
-FinishesOutcome (Err stop.Unread) files files' sink sink' result = FilesAndSinkStay files files' sink sink' × (result ≡ status.Fault)
-FinishesOutcome (Err stop.NoMemory) files files' sink sink' result = FilesAndSinkStay files files' sink sink' × (result ≡ status.NoMemory)
+abbrev pub EndsWithOutcome : Outcome → FilesSeen → FilesSeen → SinkSeen → SinkSeen → Status → Type 0
+EndsWithOutcome (Ok report) files files' sink sink' result = EndsWithReport report files files' sink sink' result
+EndsWithOutcome (Err (stop.BadInput line)) files files' sink sink' result = EndsWithReport (text_report BadInput line.items) files files' sink sink' result
+EndsWithOutcome (Err stop.Unread) files files' sink sink' result = FilesAndSinkStay files files' sink sink' × (result ≡ status.Fault)
+EndsWithOutcome (Err stop.NoMemory) files files' sink sink' result = FilesAndSinkStay files files' sink sink' × (result ≡ status.NoMemory)
 
 -- How a command has ended. A report was written and printed; or a file couldn't be read, so the
 -- files aren't sure of all needed inputs; or memory ran out before anything was written or printed.

@@ -3,7 +3,7 @@ ghost use Rattle.std.specs.Prelude.{◌≡◌, ◌≢◌, ◌≤◌, IsTrue, IfO
 ghost use Rattle.tcd_base.specs.Files.{KeepsFaultsIfSteady};
 ghost use Rattle.tcd_base.specs.FailingCalls.{IsFaultCounted};
 ghost use Rattle.tcd_reading.specs.Reports.{text_report, report_with_file, report_with_two_files, with_report_files};
-ghost use Rattle.tcd_reading.specs.Endings.{ReportWritingStopped, FinishesOutcome};
+ghost use Rattle.tcd_reading.specs.Endings.{ReportWritingStopped, EndsWithOutcome};
 ghost use Rattle.tcd_reading.specs.Outcomes.{IsBadInputOrNoMemory};
 
 use crate::status::{Status, print_with_status, status_of_failed_write};
@@ -144,7 +144,7 @@ pub fn finish_outcome<F: Files, S: Sink>(
     files: &mut F,
     out: &mut S,
 ) -> Status
-    ensures { FinishesOutcome outcome (F.seen files.old) (F.seen files.new)
+    ensures { EndsWithOutcome outcome (F.seen files.old) (F.seen files.new)
         (S.seen out.old) (S.seen out.new) result }
 {
     match outcome {

@@ -35,12 +35,12 @@ pub data Arrow : Type 0 where
   back : ℕ → Arrow
 
 -- the front of each line of a node in the graph: its key
-abbrev pub key_front : Key → List ℕ
-key_front key = frame_name key ++ codes ": "
+abbrev pub node_line_prefix : Key → List ℕ
+node_line_prefix key = frame_name key ++ codes ": "
 
 -- the front of each line of a point in the graph: that of its node, and the point's address
-abbrev pub line_front : Key → ℕ → List ℕ
-line_front key p = key_front key ++ (hex_word p ++ 32 ∷ [])
+abbrev pub point_line_prefix : Key → ℕ → List ℕ
+point_line_prefix key p = node_line_prefix key ++ (hex_word p ++ 32 ∷ [])
 
 -- the end of a line of the graph: its word, and an address
 abbrev pub line_end_to : List ℕ → ℕ → List ℕ
@@ -64,7 +64,7 @@ arrow_end (back q) = line_end_to (codes "back ") q
 
 -- a line of the graph: the key, the point's address, and the arrow
 abbrev pub graph_line : Key → ℕ → Arrow → List ℕ
-graph_line key p a = line_front key p ++ arrow_end a
+graph_line key p a = point_line_prefix key p ++ arrow_end a
 
 -- ---- the arrows of a point
 -- the address in the frame that a duty leads to, as a list, for the graph's `to` lines; else none

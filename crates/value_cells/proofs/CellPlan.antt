@@ -9,7 +9,7 @@ use Rattle.tcd_base.specs.declared.range.Range.{Range}
 use Rattle.tcd_plan.specs.declared.plans.Device.{Device}
 use Rattle.tcd_plan.specs.PlanData.{PlanData, IsPlan, is_plan_range, is_plan_device, are_all_ranges_disjoint, areas_range}
 use Rattle.tcd_base.specs.Ranges.{IsWithinRange, IsInOneRange}
-use Rattle.tcd_plan.specs.Cutting.{cut_plan_ranges}
+use Rattle.tcd_plan.specs.Cutting.{ranges_outside}
 use Rattle.tcd_plan.proofs.ApartLaws.{range_parts, is_range-from, device_ranges, HaveBytes, HaveBytes-ranges, HaveBytes-append, IsInOne-fits, each_apart, all_apart-before, all_apart-behind, all_apart-front, all_apart-append}
 use Rattle.tcd_plan.proofs.CutLaws.{IsInOne-parts, ranges_without_ranges, ranges_without_apart, ranges_without_size}
 use Rattle.tcd_base.proofs.RangeLaws.{IsInOne-front, IsInOne-behind}
@@ -20,13 +20,13 @@ use Rattle.value_cells.proofs.CellRanges.{ram_in, ram_out, first_cell, later_cel
 -- ---- all words
 ram_ranges : (plan : PlanData) (cells : List Cell) (rs : List Range) → All (IsCell plan) cells → list_all is_plan_range rs ≡ true → list_all is_plan_range (ram_without_cells cells rs) ≡ true
 ram_ranges plan [] rs all h = h
-ram_ranges plan (c ∷ cs) rs all h = ram_ranges plan cs (cut_plan_ranges c.at 4 rs) (later_cells plan c cs all) (ranges_without_ranges c.at 4 (first_cell plan c cs all).aligned refl rs h)
+ram_ranges plan (c ∷ cs) rs all h = ram_ranges plan cs (ranges_outside c.at 4 rs) (later_cells plan c cs all) (ranges_without_ranges c.at 4 (first_cell plan c cs all).aligned refl rs h)
 
 ram_apart : (plan : PlanData) (cells : List Cell) (rs : List Range) → All (IsCell plan) cells → list_all is_plan_range rs ≡ true → are_all_ranges_disjoint rs ≡ true → are_all_ranges_disjoint (ram_without_cells cells rs) ≡ true
 ram_apart plan [] rs all h g = g
 ram_apart plan (c ∷ cs) rs all h g =
     let a = (first_cell plan c cs all).aligned in
-    ram_apart plan cs (cut_plan_ranges c.at 4 rs) (later_cells plan c cs all) (ranges_without_ranges c.at 4 a refl rs h) (ranges_without_apart c.at 4 a refl rs h g)
+    ram_apart plan cs (ranges_outside c.at 4 rs) (later_cells plan c cs all) (ranges_without_ranges c.at 4 a refl rs h) (ranges_without_apart c.at 4 a refl rs h g)
 
 -- the number of bytes in ranges
 abbrev size : List Range → ℕ
@@ -34,7 +34,7 @@ size rs = sum_by (λ (r : Range). r.len) rs
 
 ram_size : (cells : List Cell) (rs : List Range) → size (ram_without_cells cells rs) ≤ size rs
 ram_size [] rs = omega arith
-ram_size (c ∷ cs) rs = let a = ram_size cs (cut_plan_ranges c.at 4 rs) in let b : size (cut_plan_ranges c.at 4 rs) ≤ size rs = ranges_without_size c.at 4 rs in omega arith
+ram_size (c ∷ cs) rs = let a = ram_size cs (ranges_outside c.at 4 rs) in let b : size (ranges_outside c.at 4 rs) ≤ size rs = ranges_without_size c.at 4 rs in omega arith
 
 -- ---- peripherals
 abbrev cell_ranges : List Cell → List Range
@@ -199,7 +199,7 @@ module _ {plan : PlanData} (ok : IsPlan plan) (cells : List Cell) (are : AreCell
 -- ---- one cell after another
 pub ram_behind : (cells more : List Cell) (rs : List Range) → ram_without_cells (cells ++ more) rs ≡ ram_without_cells more (ram_without_cells cells rs)
 ram_behind [] more rs = refl
-ram_behind (c ∷ cs) more rs = ram_behind cs more (cut_plan_ranges c.at 4 rs)
+ram_behind (c ∷ cs) more rs = ram_behind cs more (ranges_outside c.at 4 rs)
 
 take_more : (cells : List Cell) (i : ℕ) (d : Cell) → i < length cells → take (i + 1) cells ≡ take i cells ++ get_or cells i d ∷ []
 take_more [] i d lt = absurd (omega arith)
@@ -207,7 +207,7 @@ take_more (c ∷ cs) zero d lt = refl
 take_more (c ∷ cs) (suc i) d lt = let e : suc i + 1 ≡ suc (i + 1) = omega arith in ap (λ k. take k (c ∷ cs)) e ∙ ap (λ l. c ∷ l) (take_more cs i d (omega arith))
 
 -- the ranges without one more cell
-pub ram_more : (cells : List Cell) (rs : List Range) (i : ℕ) (d : Cell) → i < length cells → cut_plan_ranges (get_or cells i d).at 4 (ram_without_cells (take i cells) rs) ≡ ram_without_cells (take (i + 1) cells) rs
+pub ram_more : (cells : List Cell) (rs : List Range) (i : ℕ) (d : Cell) → i < length cells → ranges_outside (get_or cells i d).at 4 (ram_without_cells (take i cells) rs) ≡ ram_without_cells (take (i + 1) cells) rs
 ram_more cells rs i d lt = sym (ap (λ cs. ram_without_cells cs rs) (take_more cells i d lt) ∙ ram_behind (take i cells) (get_or cells i d ∷ []) rs)
 
 pub take_cells : (plan : PlanData) (cells : List Cell) (i : ℕ) → All (IsCell plan) cells → All (IsCell plan) (take i cells)

@@ -7,7 +7,7 @@ use Rattle.csa_chain.specs.MemoryBytes.{Memory}
 use Rattle.elf_image.specs.Images.{ImageData}
 use Rattle.tcd_plan.specs.PlanData.{PlanData, IsPlan}
 use Rattle.tc_isa.specs.Meanings.{shape_of}
-use Rattle.tc_isa.specs.InBounds.{IsShape}
+use Rattle.tc_isa.specs.InBounds.{IsShapeInBounds}
 use Rattle.tc_isa.specs.declared.shapes.Shape.{Shape}
 use Rattle.tc_isa.specs.declared.shapes.Shape.TheVariants.{Store}
 use Rattle.tc_isa.proofs.ShapeBounds.{shape_is}
@@ -42,7 +42,7 @@ use Rattle.depth_cert.specs.Certs.{CertData, IsCert}
 use Rattle.cfg_recover.specs.Code.{IsCode, HasCode}
 use Rattle.cfg_recover.specs.Entries.{start_key}
 use Rattle.cfg_recover.specs.RulesHoldOrFail.{limits_of_cert, RuleHolds, RulesHoldAtNode, Accepts}
-use Rattle.cfg_recover.specs.Frames.{RunFrame, frames_after, frames_from, AreAllFramesHeld}
+use Rattle.cfg_recover.specs.Frames.{RunFrame, frames_after_step, frames_from, AreAllFramesHeld}
 use Rattle.cfg_recover.specs.MovesAreOwed.{IsInState}
 use Rattle.cfg_recover.proofs.EntryLaws.{reg_lt}
 use Rattle.depth_cert.proofs.KeyLaws.{found_in}
@@ -50,7 +50,7 @@ use Rattle.cfg_recover.proofs.PointLaws.{limits_are}
 use Rattle.cfg_recover.proofs.Went.{address-is}
 use Rattle.value_cells.specs.declared.cells.Cell.{Cell}
 use Rattle.value_cells.specs.Cells.{with_cells, IsCell}
-use Rattle.value_cells.specs.Keeping.{KeepsEachCell, CertKeepsCells}
+use Rattle.value_cells.specs.Keeping.{AccessKeepsAllCellBounds, CertKeepsCellBounds}
 use Rattle.value_cells.specs.Safe.{IsSafeWithCellsAt}
 use Rattle.value_cells.specs.Laws.{AcceptedIsSafeWithCells}
 use Rattle.value_cells.specs.BesideCells.{machine_without_cells, event_with_cell_load, event_without_cells, AreListHeadsOffCells}
@@ -99,7 +99,7 @@ stored_same cells m e shape n here there =
     ∙ ap (λ f. none_if_dead m.end (cond (is_interrupt_taken m e) None (store_of_fetched m e f))) (sym here)
 
 module _ (image : ImageData) {plan : PlanData} (ok : IsPlan plan) (cells : List Cell) (each : All (IsCell plan) cells) (ok2 : IsPlan (with_cells plan cells)) (cert : CertData) (is_cert : IsCert cert)
-    (accepted : Accepts image (with_cells plan cells) cert) (keeps : CertKeepsCells image (with_cells plan cells) cells cert) (most : ℕ) where
+    (accepted : Accepts image (with_cells plan cells) cert) (keeps : CertKeepsCellBounds image (with_cells plan cells) cells cert) (most : ℕ) where
   abbrev other : PlanData
   other = with_cells plan cells
 
@@ -167,7 +167,7 @@ module _ (image : ImageData) {plan : PlanData} (ok : IsPlan plan) (cells : List 
 
   -- ---- one event
   -- if each possible access keeps the cells, what is written does
-  written_keeps : (v : Val) (size x w : ℕ) (cs : List Cell) → IsMember w v → KeepsEachCell v size x cs → KeepsWritten x size w cs
+  written_keeps : (v : Val) (size x w : ℕ) (cs : List Cell) → IsMember w v → AccessKeepsAllCellBounds v size x cs → KeepsWritten x size w cs
   written_keeps v size x w [] member k = tt
   written_keeps v size x w (c ∷ cs) member k = (
     λ touches. let kept = k 0 c (omega arith) touches in let b = kept.bounds w member in (kept.word, kept.at, b.0, b.1),
@@ -198,7 +198,7 @@ module _ (image : ImageData) {plan : PlanData} (ok : IsPlan plan) (cells : List 
         (record { even = (point).even; bytes = (safe2).code_in_rom.bytes; inst = (safe2).code_in_rom.inst; spells = (safe2).code_in_rom.spells; shaped = refl; sized = refl })
 
     -- the store of an instruction keeps the cells
-    store_keeps : (shape : Shape) (n : ℕ) → is_interrupt_taken m e ≡ false → fetched_instruction m ≡ Ok (shape, n) → fetched_instruction (machine_without_cells cells m) ≡ Ok (shape, n) → IsShape shape → IsCode image other (point).point.addr shape n → StoreKeeps cells m e shape
+    store_keeps : (shape : Shape) (n : ℕ) → is_interrupt_taken m e ≡ false → fetched_instruction m ≡ Ok (shape, n) → fetched_instruction (machine_without_cells cells m) ≡ Ok (shape, n) → IsShapeInBounds shape → IsCode image other (point).point.addr shape n → StoreKeeps cells m e shape
     store_keeps (Store src base offset size after) n none h t is c = λ quiet.
         let x = access_address m base offset after in
         let s = ((point).point).state in
@@ -212,7 +212,7 @@ module _ (image : ImageData) {plan : PlanData} (ok : IsPlan plan) (cells : List 
     store_keeps _ n none h t is c = tt
 
     -- the next states of the two machines match
-    pub beside_next : GoesBeside (step m e) (frames_after (machine_without_cells cells m) (event_without_cells cells m e) fs)
+    pub beside_next : GoesBeside (step m e) (frames_after_step (machine_without_cells cells m) (event_without_cells cells m e) fs)
     beside_next =
         let shape = shape_of (safe2).code_in_rom.inst in
         let n = length (safe2).code_in_rom.bytes in
@@ -221,7 +221,7 @@ module _ (image : ImageData) {plan : PlanData} (ok : IsPlan plan) (cells : List 
           words = stays_step m e b.words (irq_lt ok m e f) f.input f.status;
           kept = kept_step cells m e names b.kept shape n here (λ none. store_keeps shape n none here there (shape_is (safe2).code_in_rom.inst (((safe2).code_in_rom.spells).spelled).inst) code);
           safe = subst SafeFrom is (λ es e2 fit g. b.safe (event_without_cells cells m e ∷ es) e2 (fits2, fit) g);
-          held = subst (λ h. HeldFrom h (frames_after (machine_without_cells cells m) (event_without_cells cells m e) fs)) is (λ es fit. b.held (event_without_cells cells m e ∷ es) (fits2, fit));
+          held = subst (λ h. HeldFrom h (frames_after_step (machine_without_cells cells m) (event_without_cells cells m e) fs)) is (λ es fit. b.held (event_without_cells cells m e ∷ es) (fits2, fit));
         }
 
     -- and the state is safe
@@ -258,7 +258,7 @@ module _ (image : ImageData) {plan : PlanData} (ok : IsPlan plan) (cells : List 
   -- ---- runs
   pub run_beside : (m : Machine) (fs : List RunFrame) (es : List Event) (e : Event) → GoesBeside m fs → AllFit plan m es → Fits plan (run m es) e → IsSafeWithCellsAt image plan cells most (run m es) e
   run_beside m fs [] e b fits f = beside_safe m fs e b f
-  run_beside m fs (d ∷ es) e b fits f = run_beside (step m d) (frames_after (machine_without_cells cells m) (event_without_cells cells m d) fs) es e (beside_next m fs d b fits.0) fits.1 f
+  run_beside m fs (d ∷ es) e b fits f = run_beside (step m d) (frames_after_step (machine_without_cells cells m) (event_without_cells cells m d) fs) es e (beside_next m fs d b fits.0) fits.1 f
 
 -- ---- the theorem
 mapped_cells : {plan : PlanData} → (cells : List Cell) → All (IsCell plan) cells → (mem : Memory) → IsPlanMemory plan mem → AreMapped mem cells

@@ -5,7 +5,7 @@ use Rattle.elf_image.specs.Images.{ImageData}
 use Rattle.tcd_plan.specs.PlanData.{PlanData, IsPlan}
 use Rattle.tc_isa.specs.declared.shapes.Shape.{Shape}
 use Rattle.tc_isa.specs.declared.shapes.Shape.TheVariants.{Store}
-use Rattle.tc_isa.specs.InBounds.{IsShape}
+use Rattle.tc_isa.specs.InBounds.{IsShapeInBounds}
 use Rattle.value_domain.specs.declared.states.State.{State}
 use Rattle.value_domain.specs.Limits.{Limits}
 use Rattle.value_domain.specs.State.{Covers}
@@ -21,16 +21,16 @@ use Rattle.cfg_recover.specs.RulesHoldOrFail.{limits_of_cert, Accepts}
 use Rattle.cfg_recover.specs.Assignments.{assignment_of_cert, IsAssignmentBelow}
 use Rattle.cfg_recover.proofs.CodeLaws.{IsCode-bounded}
 use Rattle.value_cells.specs.declared.cells.Cell.{Cell}
-use Rattle.value_cells.specs.Keeping.{InstructionKeepsCells, PointKeepsCells, CertKeepsCells, FailsRule16At, breaks_at}
-use Rattle.value_cells.specs.Rule16Growth.{CellFaultsAreMonotone, LesserCertKeepsCells}
-use Rattle.value_cells.specs.Laws.{CellFaultMeansNotKept}
+use Rattle.value_cells.specs.Keeping.{InstructionKeepsCellBounds, PointKeepsCellBounds, CertKeepsCellBounds, FailsRule16At, breaks_at}
+use Rattle.value_cells.specs.Rule16Growth.{CellFaultsAreMonotone, LesserCertKeepsCellBounds}
+use Rattle.value_cells.specs.Laws.{CellFaultBreaksRule16}
 use Rattle.cfg_recover.proofs.AccessGrowth.{value_grows, access_grows}
 use Rattle.cfg_recover.proofs.KnownPlaces.{Above, above, limits_same, setting}
 
 -- ---- a store from a smaller state
 module _ (b : Limits) (p : PlanData) (s t : State) (low : MeetSoundnessPremises b p s) (high : MeetSoundnessPremises b p t) (c : Covers t s) where
   -- a store that keeps the cells does so from the smaller state
-  keeps_shrinks : (cells : List Cell) (shape : Shape) → IsShape shape → InstructionKeepsCells b p cells t shape → InstructionKeepsCells b p cells s shape
+  keeps_shrinks : (cells : List Cell) (shape : Shape) → IsShapeInBounds shape → InstructionKeepsCellBounds b p cells t shape → InstructionKeepsCellBounds b p cells s shape
   unfolding address_of_access
   keeps_shrinks cells (Store src base offset size after) is h =
       λ x m i d lt touches.
@@ -42,15 +42,15 @@ module _ (b : Limits) (p : PlanData) (s t : State) (low : MeetSoundnessPremises 
 module _ (image : ImageData) (plan : PlanData) (cells : List Cell) (lower upper : CertData) (ok : IsPlan plan) (low_cert : IsCert lower) (up_cert : IsCert upper) (same : lower.version ≡ upper.version)
     (low_ok : Accepts image plan lower) (up_ok : Accepts image plan upper) (below : IsAssignmentBelow (assignment_of_cert lower) (assignment_of_cert upper)) where
   -- if a point keeps the cells, each point that it covers does
-  keeps_below : (node : NodeData) (q : Point) → Contains lower.nodes node → Contains node.points q → (a : Above upper node.key q) → PointKeepsCells (limits_of_cert plan upper) image plan cells a.place
-      → PointKeepsCells (limits_of_cert plan lower) image plan cells q
+  keeps_below : (node : NodeData) (q : Point) → Contains lower.nodes node → Contains node.points q → (a : Above upper node.key q) → PointKeepsCellBounds (limits_of_cert plan upper) image plan cells a.place
+      → PointKeepsCellBounds (limits_of_cert plan lower) image plan cells q
   keeps_below node q has stands a keeps shape n code =
       let high = subst (λ (b : Limits). MeetSoundnessPremises b plan (a.place).state) (limits_same plan lower upper same) (setting image plan upper ok up_cert up_ok a.node a.place a.member a.stands) in
       let there = keeps shape n (subst (λ x. IsCode image plan x shape n) (sym a.addr) code) in
-      let limited = subst (λ (b : Limits). InstructionKeepsCells b plan cells (a.place).state shape) (limits_same plan lower upper same) there in
+      let limited = subst (λ (b : Limits). InstructionKeepsCellBounds b plan cells (a.place).state shape) (limits_same plan lower upper same) there in
       keeps_shrinks (limits_of_cert plan lower) plan q.state (a.place).state (setting image plan lower ok low_cert low_ok node q has stands) high a.covers cells shape (IsCode-bounded image plan q.addr shape n code) limited
 
-  all_below : CertKeepsCells image plan cells upper → CertKeepsCells image plan cells lower
+  all_below : CertKeepsCellBounds image plan cells upper → CertKeepsCellBounds image plan cells lower
   all_below keeps node q has stands =
       let a = above lower upper low_cert below node q has stands in
       keeps_below node q has stands a (keeps a.node a.place a.member a.stands)
@@ -64,8 +64,8 @@ module _ (image : ImageData) (plan : PlanData) (cells : List Cell) (lower upper 
 pub cell_faults_grow : CellFaultsAreMonotone
 cell_faults_grow image plan cells lower upper k p ok low_cert up_cert same low_ok up_ok below breaks = breaks_above image plan cells lower upper ok low_cert up_cert same low_ok up_ok below k p breaks
 
-pub lesser_keeps_cells : LesserCertKeepsCells
+pub lesser_keeps_cells : LesserCertKeepsCellBounds
 lesser_keeps_cells image plan cells lower upper ok low_cert up_cert same low_ok up_ok below keeps = all_below image plan cells lower upper ok low_cert up_cert same low_ok up_ok below keeps
 
-pub cell_faults_refute : CellFaultMeansNotKept
+pub cell_faults_refute : CellFaultBreaksRule16
 cell_faults_refute image plan cells cert _ _ (breaks_at node q has stands wrong) keeps = wrong (keeps node q has stands)

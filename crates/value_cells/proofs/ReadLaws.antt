@@ -8,33 +8,33 @@ use Rattle.tcd_base.specs.declared.range.Range.{Range}
 use Rattle.tcd_plan.specs.PlanData.{PlanData}
 use Rattle.tcd_text.specs.Lines.{text_lines}
 use Rattle.value_cells.specs.declared.cells.Cell.{Cell}
-use Rattle.tcd_plan.specs.Cutting.{cut_plan_ranges}
+use Rattle.tcd_plan.specs.Cutting.{ranges_outside}
 use Rattle.value_cells.specs.Cells.{cell_device, ram_without_cells, with_cells, AreCells}
 use Rattle.value_cells.specs.CellListText.{cell_of_line, cell_of_words, IsCellLine, AreCellsOfText, HasRoomForCell, AreCellsAfterLine}
 use Rattle.value_cells.proofs.CellPlan.{ram_behind}
 
 -- ---- room for one more
-pub room_ram : (plan : PlanData) (cells : List Cell) (c : Cell) → (with_cells plan (cells ++ c ∷ [])).ram ≡ cut_plan_ranges c.at 4 (ram_without_cells cells plan.ram)
+pub room_ram : (plan : PlanData) (cells : List Cell) (c : Cell) → (with_cells plan (cells ++ c ∷ [])).ram ≡ ranges_outside c.at 4 (ram_without_cells cells plan.ram)
 room_ram plan cells c = ram_behind cells (c ∷ []) plan.ram
 
 pub room_devices : (plan : PlanData) (cells : List Cell) (c : Cell) → length (with_cells plan (cells ++ c ∷ [])).devices ≡ length plan.devices + length cells + 1
 room_devices plan cells c =
     omega (arith, length-append plan.devices (map cell_device (cells ++ c ∷ [])), length-map (cells ++ c ∷ []) cell_device, length-append cells (c ∷ []))
 
-pub has_room : (plan : PlanData) (cells : List Cell) (c : Cell) → length (cut_plan_ranges c.at 4 (ram_without_cells cells plan.ram)) ≤ 16 → length plan.devices + length cells < 16 → HasRoomForCell plan cells c
+pub has_room : (plan : PlanData) (cells : List Cell) (c : Cell) → length (ranges_outside c.at 4 (ram_without_cells cells plan.ram)) ≤ 16 → length plan.devices + length cells < 16 → HasRoomForCell plan cells c
 has_room plan cells c few lt = record {
   ram = subst (λ (rs : List Range). length rs ≤ 16) (sym (room_ram plan cells c)) few;
   devices = omega (arith, room_devices plan cells c);
 }
 
-pub room_few : (plan : PlanData) (cells : List Cell) (c : Cell) → HasRoomForCell plan cells c → length (cut_plan_ranges c.at 4 (ram_without_cells cells plan.ram)) ≤ 16
+pub room_few : (plan : PlanData) (cells : List Cell) (c : Cell) → HasRoomForCell plan cells c → length (ranges_outside c.at 4 (ram_without_cells cells plan.ram)) ≤ 16
 room_few plan cells c room = subst (λ (rs : List Range). length rs ≤ 16) (room_ram plan cells c) room.ram
 
 pub room_lt : (plan : PlanData) (cells : List Cell) (c : Cell) → HasRoomForCell plan cells c → length plan.devices + length cells < 16
 room_lt plan cells c room = omega (arith, room_devices plan cells c, room.devices)
 
 -- if there are few enough ranges, the number of peripherals decides
-pub room_then : (plan fields : PlanData) (cells : List Cell) (c : Cell) (n d m : ℕ) → fields ≡ plan → d ≡ length fields.devices → m ≡ length cells → n ≡ length (cut_plan_ranges c.at 4 (ram_without_cells cells plan.ram)) → n ≤ 16
+pub room_then : (plan fields : PlanData) (cells : List Cell) (c : Cell) (n d m : ℕ) → fields ≡ plan → d ≡ length fields.devices → m ≡ length cells → n ≡ length (ranges_outside c.at 4 (ram_without_cells cells plan.ram)) → n ≤ 16
     → (IsTrue (nat_lt (d + m) 16) → HasRoomForCell plan cells c) × (HasRoomForCell plan cells c → IsTrue (nat_lt (d + m) 16))
 room_then plan fields cells c n d m same devices count parts few =
     let all : d ≡ length plan.devices = devices ∙ ap (λ (p : PlanData). length p.devices) same in (
@@ -42,7 +42,7 @@ room_then plan fields cells c n d m same devices count parts few =
       λ room. lt-ltb (d + m) 16 (omega (arith, room_lt plan cells c room)),
     )
 
-pub room_else : (plan : PlanData) (cells : List Cell) (c : Cell) (n : ℕ) → n ≡ length (cut_plan_ranges c.at 4 (ram_without_cells cells plan.ram)) → 16 < n → (IsTrue (nat_le n 16) → HasRoomForCell plan cells c) × (HasRoomForCell plan cells c → IsTrue (nat_le n 16))
+pub room_else : (plan : PlanData) (cells : List Cell) (c : Cell) (n : ℕ) → n ≡ length (ranges_outside c.at 4 (ram_without_cells cells plan.ram)) → 16 < n → (IsTrue (nat_le n 16) → HasRoomForCell plan cells c) × (HasRoomForCell plan cells c → IsTrue (nat_le n 16))
 room_else plan cells c n parts many = (
   λ t. absurd (let le = leb-true n 16 t in omega arith),
   λ room. absurd (let few = room_few plan cells c room in omega arith),

@@ -3,7 +3,7 @@
 use Rattle.std.specs.Prelude.{◌≡◌, ◌+◌, ◌*◌, ◌/◌, ◌%◌, ◌^◌, ◌⊎◌, ℕ, zero, suc, Bool, true, if◌then◌else◌, List, [], ◌∷◌, Option, Some, None, Ok, unwrap_or}
 use Rattle.std.specs.FinMap as map
 use Rattle.csa_chain.specs.MemoryBytes.{Memory, HasOnlyBytes}
-use Rattle.csa_chain.specs.Chain.{link_in, is_area}
+use Rattle.csa_chain.specs.Chain.{link_in, is_area_mapped}
 use Rattle.tc_isa.specs.declared.shapes.Shape.{Shape}
 use Rattle.tc_machine.specs.declared.events.Event.{Event}
 use Rattle.tc_machine.specs.declared.state.Machine.{Machine}
@@ -46,8 +46,8 @@ event_without_cells cells m e = event_with_cell_load cells m e (load_at_pc m)
 
 -- FCX and PCXI name no area, or an area without bytes of cells
 pub record AreListHeadsOffCells (cells : List Cell) (m : Machine) : Type 0 where
-  pub fcx : (link_in m.fcx ≡ 0) ⊎ (is_area (memory_without_cells cells m.mem) (link_in m.fcx) ≡ true)
-  pub pcxi : (link_in m.pcxi ≡ 0) ⊎ (is_area (memory_without_cells cells m.mem) (link_in m.pcxi) ≡ true)
+  pub fcx : (link_in m.fcx ≡ 0) ⊎ (is_area_mapped (memory_without_cells cells m.mem) (link_in m.fcx) ≡ true)
+  pub pcxi : (link_in m.pcxi ≡ 0) ⊎ (is_area_mapped (memory_without_cells cells m.mem) (link_in m.pcxi) ≡ true)
 
 -- each step of the machine without the cells' bytes is the same step of the machine with them,
 -- beside which it runs

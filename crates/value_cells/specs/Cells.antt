@@ -4,7 +4,7 @@ use Rattle.std.specs.Prelude.{◌≡◌, ◌≢◌, ◌<◌, ◌≤◌, ◌+◌,
 use Rattle.tcd_base.specs.declared.range.Range.{Range}
 use Rattle.tcd_plan.specs.declared.plans.Device.{Device}
 use Rattle.tcd_plan.specs.PlanData.{PlanData}
-use Rattle.tcd_plan.specs.Cutting.{cut_plan_ranges}
+use Rattle.tcd_plan.specs.Cutting.{ranges_outside}
 use Rattle.tcd_base.specs.Ranges.{IsInOneRange}
 use Rattle.value_cells.specs.declared.cells.Cell.{Cell}
 
@@ -12,7 +12,7 @@ use Rattle.value_cells.specs.declared.cells.Cell.{Cell}
 -- the ranges without the words of all cells: each range is replaced by its parts that are left
 abbrev pub ram_without_cells : List Cell → List Range → List Range
 ram_without_cells [] rs = rs
-ram_without_cells (c ∷ cs) rs = ram_without_cells cs (cut_plan_ranges c.at 4 rs)
+ram_without_cells (c ∷ cs) rs = ram_without_cells cs (ranges_outside c.at 4 rs)
 
 -- a cell as a peripheral of the plan: it answers inside the cell's bounds
 abbrev pub cell_device : Cell → Device

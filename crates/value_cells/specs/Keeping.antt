@@ -24,34 +24,34 @@ abbrev pub TouchesCell : ℕ → ℕ → Cell → Type 0
 TouchesCell x size c = (x < c.at + 4) × (c.at < x + size)
 
 -- a store at the cell, of its whole word, of a value whose words are all in its bounds
-pub record AccessKeepsCell (v : Val) (size x : ℕ) (c : Cell) : Type 0 where
+pub record AccessKeepsCellBounds (v : Val) (size x : ℕ) (c : Cell) : Type 0 where
   pub word : size ≡ 4
   pub at : x ≡ c.at
   pub bounds : (w : ℕ) → IsMember w v → (c.lo ≤ w) × (w ≤ c.hi)
 
 -- the store of the value v from x keeps each of these cells whose bytes it touches
-abbrev pub KeepsEachCell : Val → ℕ → ℕ → List Cell → Type 0
-KeepsEachCell v size x cells = All (λ c. TouchesCell x size c → AccessKeepsCell v size x c) cells
+abbrev pub AccessKeepsAllCellBounds : Val → ℕ → ℕ → List Cell → Type 0
+AccessKeepsAllCellBounds v size x cells = All (λ c. TouchesCell x size c → AccessKeepsCellBounds v size x c) cells
 
 -- each possible access of a store keeps the cells; other instructions always do
-abbrev pub InstructionKeepsCells : Limits → PlanData → List Cell → State → Shape → Type 0
-InstructionKeepsCells b plan cells s (Store src base offset size after) =
-    (x : ℕ) → IsMember x (address_of_access b plan (Store src base offset size after) s) → KeepsEachCell (reg_of plan s src) size x cells
-InstructionKeepsCells b plan cells s _ = Unit {0}
+abbrev pub InstructionKeepsCellBounds : Limits → PlanData → List Cell → State → Shape → Type 0
+InstructionKeepsCellBounds b plan cells s (Store src base offset size after) =
+    (x : ℕ) → IsMember x (address_of_access b plan (Store src base offset size after) s) → AccessKeepsAllCellBounds (reg_of plan s src) size x cells
+InstructionKeepsCellBounds b plan cells s _ = Unit {0}
 
 -- K16 at a point of a certificate: the instruction there keeps the cells
-abbrev pub PointKeepsCells : Limits → ImageData → PlanData → List Cell → Point → Type 0
-PointKeepsCells b image plan cells point = (shape : Shape) (n : ℕ) → IsCode image plan point.addr shape n → InstructionKeepsCells b plan cells point.state shape
+abbrev pub PointKeepsCellBounds : Limits → ImageData → PlanData → List Cell → Point → Type 0
+PointKeepsCellBounds b image plan cells point = (shape : Shape) (n : ℕ) → IsCode image plan point.addr shape n → InstructionKeepsCellBounds b plan cells point.state shape
 
 -- K16, at each point of a certificate under the plan with cells.
-abbrev pub CertKeepsCells : ImageData → PlanData → List Cell → CertData → Type 0
-CertKeepsCells image plan cells cert =
-    (node : NodeData) (point : Point) → Contains cert.nodes node → Contains node.points point → PointKeepsCells (limits_of_cert plan cert) image plan cells point
+abbrev pub CertKeepsCellBounds : ImageData → PlanData → List Cell → CertData → Type 0
+CertKeepsCellBounds image plan cells cert =
+    (node : NodeData) (point : Point) → Contains cert.nodes node → Contains node.points point → PointKeepsCellBounds (limits_of_cert plan cert) image plan cells point
 
 -- K16 fails at a key and an address
 pub data FailsRule16At (image : ImageData) (plan : PlanData) (cells : List Cell) (cert : CertData) : Key → ℕ → Type 0 where
   breaks_at :
-      (node : NodeData) (point : Point) → Contains cert.nodes node → Contains node.points point → (PointKeepsCells (limits_of_cert plan cert) image plan cells point → ⊥)
+      (node : NodeData) (point : Point) → Contains cert.nodes node → Contains node.points point → (PointKeepsCellBounds (limits_of_cert plan cert) image plan cells point → ⊥)
       → FailsRule16At image plan cells cert node.key point.addr
 
 -- the number by which places where K16 can fail are ordered: by key, then by address
@@ -68,12 +68,12 @@ pub record IsFirstRule16NodeFault (b : Limits) (image : ImageData) (plan : PlanD
   pub point : Point
   pub stands : Contains node.points point
   pub addr : point.addr ≡ p
-  pub breaks : PointKeepsCells b image plan cells point → ⊥
-  pub least : (other : Point) → Contains node.points other → (PointKeepsCells b image plan cells other → ⊥) → p ≤ other.addr
+  pub breaks : PointKeepsCellBounds b image plan cells point → ⊥
+  pub least : (other : Point) → Contains node.points other → (PointKeepsCellBounds b image plan cells other → ⊥) → p ≤ other.addr
 
 -- a store whose address can be any word of `at` keeps this cell, if it touches the cell
-abbrev pub StoreKeepsCell : Val → ℕ → Val → Cell → Type 0
-StoreKeepsCell at size v c = (x : ℕ) → IsMember x at → TouchesCell x size c → AccessKeepsCell v size x c
+abbrev pub StoreKeepsCellBounds : Val → ℕ → Val → Cell → Type 0
+StoreKeepsCellBounds at size v c = (x : ℕ) → IsMember x at → TouchesCell x size c → AccessKeepsCellBounds v size x c
 
 -- all words of a value are in lo..=hi
 abbrev pub AreWithinCellBounds : Val → ℕ → ℕ → Type 0
@@ -84,5 +84,5 @@ abbrev pub FitsCell : Val → ℕ → Cell → Type 0
 FitsCell v size c = (size ≡ 4) × AreWithinCellBounds v c.lo c.hi
 
 -- x is no possible address of a store, or is the cell's address, and the store fits the cell
-abbrev pub IsCellKeptAt : Val → Bool → ℕ → ℕ → Type 0
-IsCellKeptAt at fits cell x = IsMember x at → IsTrue fits × (x ≡ cell)
+abbrev pub IsStoreAllowedAt : Val → Bool → ℕ → ℕ → Type 0
+IsStoreAllowedAt at fits cell x = IsMember x at → IsTrue fits × (x ≡ cell)

@@ -15,7 +15,7 @@ use Rattle.value_cells.specs.Safe.{SafeWithCells}
 use Rattle.depth_cert.specs.Certs.{CertData, IsCert}
 use Rattle.cfg_recover.specs.RulesHoldOrFail.{Accepts}
 use Rattle.cfg_recover.specs.EdgeAndFrameLaws.{FramesHeld}
-use Rattle.value_cells.specs.Keeping.{CertKeepsCells, FailsRule16At}
+use Rattle.value_cells.specs.Keeping.{CertKeepsCellBounds, FailsRule16At}
 use Rattle.depth_cert.specs.declared.keys.Key.{Key}
 
 -- The ram of the plan with cells is all ram except the cells' bytes.
@@ -37,14 +37,14 @@ abbrev pub AcceptedIsSafeWithCells : Type 0
 AcceptedIsSafeWithCells =
     (image : ImageData) (plan : PlanData) (cells : List Cell) (cert : CertData) (most : ℕ) → IsPlan plan → AreCells plan cells → IsCert cert
     → Accepts image (with_cells plan cells) cert → Safe image (with_cells plan cells) most → FramesHeld image (with_cells plan cells) cert
-    → CertKeepsCells image (with_cells plan cells) cells cert → SafeWithCells image plan cells most
+    → CertKeepsCellBounds image (with_cells plan cells) cells cert → SafeWithCells image plan cells most
 
 -- the plan with cells is a plan
 abbrev pub PlanWithCellsIsPlan : Type 0
 PlanWithCellsIsPlan = (plan : PlanData) (cells : List Cell) → IsPlan plan → AreCells plan cells → IsPlan (with_cells plan cells)
 
 -- If K16 fails somewhere, the certificate doesn't keep the cells.
-abbrev pub CellFaultMeansNotKept : Type 0
-CellFaultMeansNotKept =
+abbrev pub CellFaultBreaksRule16 : Type 0
+CellFaultBreaksRule16 =
     (image : ImageData) (plan : PlanData) (cells : List Cell) (cert : CertData) (k : Key) (p : ℕ) → FailsRule16At image plan cells cert k p
-    → CertKeepsCells image plan cells cert → ⊥
+    → CertKeepsCellBounds image plan cells cert → ⊥

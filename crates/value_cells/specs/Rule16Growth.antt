@@ -7,7 +7,7 @@ use Rattle.depth_cert.specs.Certs.{CertData, IsCert}
 use Rattle.cfg_recover.specs.RulesHoldOrFail.{Accepts}
 use Rattle.cfg_recover.specs.Assignments.{IsAssignmentBelow, assignment_of_cert}
 use Rattle.value_cells.specs.declared.cells.Cell.{Cell}
-use Rattle.value_cells.specs.Keeping.{CertKeepsCells, FailsRule16At}
+use Rattle.value_cells.specs.Keeping.{CertKeepsCellBounds, FailsRule16At}
 
 -- One certificate is below another if the other has all of its places and covers what is known
 -- there. If both are accepted under a plan, K16 fails for the upper one wherever it fails for the
@@ -19,8 +19,8 @@ CellFaultsAreMonotone =
     → FailsRule16At image plan cells lower k p → FailsRule16At image plan cells upper k p
 
 -- If a certificate keeps the cells, each one below it does too, if both are accepted under a plan.
-abbrev pub LesserCertKeepsCells : Type 0
-LesserCertKeepsCells =
+abbrev pub LesserCertKeepsCellBounds : Type 0
+LesserCertKeepsCellBounds =
     (image : ImageData) (plan : PlanData) (cells : List Cell) (lower upper : CertData) → IsPlan plan → IsCert lower → IsCert upper
     → lower.version ≡ upper.version → Accepts image plan lower → Accepts image plan upper → IsAssignmentBelow (assignment_of_cert lower) (assignment_of_cert upper)
-    → CertKeepsCells image plan cells upper → CertKeepsCells image plan cells lower
+    → CertKeepsCellBounds image plan cells upper → CertKeepsCellBounds image plan cells lower

@@ -3,7 +3,7 @@ ghost use Rattle.std.specs.Prelude.{All, IfNone, IfSome};
 ghost use Rattle.value_domain.specs.State.{AreInLattice};
 ghost use Rattle.cfg_recover.specs.RulesHoldOrFail.{Accepts};
 ghost use Rattle.value_cells.specs.Cells.{AreCells, CellsDoNotWrap, with_cells};
-ghost use Rattle.value_cells.specs.Keeping.{CertKeepsCells, PointKeepsCells, IsFirstRule16Fault, IsFirstRule16NodeFault};
+ghost use Rattle.value_cells.specs.Keeping.{CertKeepsCellBounds, PointKeepsCellBounds, IsFirstRule16Fault, IsFirstRule16NodeFault};
 
 use crate::cells::Cells;
 use crate::plans::with_cells;
@@ -23,7 +23,7 @@ pub fn cells_fault(image: &Image, plan: &Plan, cells: &Cells, cert: &Cert) -> Op
     requires cells { AreCells plan.now cells.now }
     requires accepted { Accepts image.now (with_cells plan.now cells.now) cert.now }
     ensures none { IfNone result
-        (CertKeepsCells image.now (with_cells plan.now cells.now) cells.now cert.now) }
+        (CertKeepsCellBounds image.now (with_cells plan.now cells.now) cells.now cert.now) }
     ensures some { let other = with_cells plan.now cells.now in
         IfSome result (λ f. IsFirstRule16Fault image.now other cells.now cert.now f.0 f.1) }
 {
@@ -61,7 +61,7 @@ fn first_cell_fault_in_node<'a>(
     requires cells { CellsDoNotWrap rule.now.cells.now }
     ensures none { let r = rule.now in
         IfNone result (All
-        (PointKeepsCells r.bounds.now r.image.now r.plan.now r.cells.now) node.now.points) }
+        (PointKeepsCellBounds r.bounds.now r.image.now r.plan.now r.cells.now) node.now.points) }
     ensures some { let r = rule.now in
         IfSome result
         (IsFirstRule16NodeFault r.bounds.now r.image.now r.plan.now r.cells.now node.now) }

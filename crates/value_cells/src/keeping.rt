@@ -3,7 +3,7 @@ ghost use Rattle.std.specs.Prelude.{◌≤◌, ◌+◌, ◌^◌, ◌↔◌, ℕ,
 ghost use Rattle.value_domain.specs.Values.{IsWellFormed, IsMember};
 ghost use Rattle.store_ranges.specs.Accesses.{IsAccessSize};
 ghost use Rattle.value_cells.specs.Cells.{CellsDoNotWrap};
-ghost use Rattle.value_cells.specs.Keeping.{KeepsEachCell, StoreKeepsCell, FitsCell, AreWithinCellBounds, IsCellKeptAt};
+ghost use Rattle.value_cells.specs.Keeping.{AccessKeepsAllCellBounds, StoreKeepsCellBounds, FitsCell, AreWithinCellBounds, IsStoreAllowedAt};
 
 use crate::cells::Cell;
 use value_domain::{Val, extent_of, member};
@@ -17,7 +17,7 @@ pub(crate) fn keeps_all_cell_bounds(at: &Val, size: u8, stored: &Val, cells: &[C
     requires size { IsAccessSize size }
     requires cells { CellsDoNotWrap cells.now }
     ensures { IsTrue result ↔
-        ((x : ℕ) → IsMember x at.now → KeepsEachCell stored.now size x cells.now) }
+        ((x : ℕ) → IsMember x at.now → AccessKeepsAllCellBounds stored.now size x cells.now) }
 {
     for cell in cells {
         if !keeps_cell_bounds(at, size, stored, cell) {
@@ -34,7 +34,7 @@ fn keeps_cell_bounds(at: &Val, size: u8, stored: &Val, cell: &Cell) -> bool
     requires stored { IsWellFormed stored.now }
     requires size { IsAccessSize size }
     requires cell { cell.now.at + 4 ≤ 2 ^ 32 }
-    ensures { IsTrue result ↔ StoreKeepsCell at.now size stored.now cell.now }
+    ensures { IsTrue result ↔ StoreKeepsCellBounds at.now size stored.now cell.now }
 {
     let fits = fits_cell(size, stored, cell);
     let mut x = cell.at.saturating_sub(u32::from(size) - 1);
@@ -60,7 +60,7 @@ fn fits_cell(size: u8, stored: &Val, cell: &Cell) -> bool
 /// or `fits`, and `x` is `cell`.
 fn is_store_allowed_at(x: u32, at: &Val, fits: bool, cell: u32) -> bool
     requires { IsWellFormed at.now }
-    ensures { IsTrue result ↔ IsCellKeptAt at.now fits cell x }
+    ensures { IsTrue result ↔ IsStoreAllowedAt at.now fits cell x }
 {
     !member(x, at) || fits && x == cell
 }

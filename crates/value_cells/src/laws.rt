@@ -1,7 +1,7 @@
 // Laws of plans with cells.
 ghost use Rattle.value_cells.specs.BesideCells.{StepsMatchWithoutCells};
-ghost use Rattle.value_cells.specs.Laws.{PlanWithCellsIsPlan, RamIsWithoutCells, EachCellStaysInBounds, AcceptedIsSafeWithCells, CellFaultMeansNotKept};
-ghost use Rattle.value_cells.specs.Rule16Growth.{CellFaultsAreMonotone, LesserCertKeepsCells};
+ghost use Rattle.value_cells.specs.Laws.{PlanWithCellsIsPlan, RamIsWithoutCells, EachCellStaysInBounds, AcceptedIsSafeWithCells, CellFaultBreaksRule16};
+ghost use Rattle.value_cells.specs.Rule16Growth.{CellFaultsAreMonotone, LesserCertKeepsCellBounds};
 ghost use Rattle.value_cells.specs.CellListText.{CellTextHasOneResult};
 
 /// The plan with cells is a plan. A machine without the cells' bytes, whose inputs are the cells'
@@ -25,6 +25,6 @@ pub fn cell_definition_laws()
 /// lesser is one in the greater. One fault is enough to break the rule.
 pub fn cell_fault_laws()
     ensures grow { CellFaultsAreMonotone }
-    ensures lesser { LesserCertKeepsCells }
-    ensures refute { CellFaultMeansNotKept }
+    ensures lesser { LesserCertKeepsCellBounds }
+    ensures refute { CellFaultBreaksRule16 }
 {}

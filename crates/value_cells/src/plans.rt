@@ -1,7 +1,7 @@
 // The plan with cells.
 ghost use Rattle.std.specs.Prelude.{◌≡◌, ◌≤◌, ◌++◌, ◌↔◌, IsTrue, map, length};
 ghost use Rattle.tcd_base.specs.Ranges.{IsInOneRange, RangesDoNotWrap};
-ghost use Rattle.tcd_plan.specs.Cutting.{cut_plan_ranges};
+ghost use Rattle.tcd_plan.specs.Cutting.{ranges_outside};
 ghost use Rattle.value_cells.specs.Cells.{AreCells, cell_device, ram_without_cells, with_cells};
 
 use crate::cells::{Cell, Cells};
@@ -60,8 +60,8 @@ pub fn with_cells(plan: &Plan, cells: &Cells) -> Plan
 fn ranges_without_cell(ranges: &[Range], at: u32) -> ArrayVec<Range, 16>
     requires few { length ranges.now ≤ 16 }
     requires fit { RangesDoNotWrap ranges.now }
-    requires room { length (cut_plan_ranges at 4 ranges.now) ≤ 16 }
-    ensures { result.items ≡ cut_plan_ranges at 4 ranges.now }
+    requires room { length (ranges_outside at 4 ranges.now) ≤ 16 }
+    ensures { result.items ≡ ranges_outside at 4 ranges.now }
 {
     let left = ranges_outside(ranges, at, 4);
     ArrayVec::try_from(left.as_slice()).unwrap()

@@ -2,7 +2,7 @@
 ghost use Rattle.std.specs.Prelude.{◌↔◌, IsTrue};
 ghost use Rattle.value_domain.specs.State.{AreInLattice};
 ghost use Rattle.value_cells.specs.Cells.{CellsDoNotWrap};
-ghost use Rattle.value_cells.specs.Keeping.{PointKeepsCells};
+ghost use Rattle.value_cells.specs.Keeping.{PointKeepsCellBounds};
 
 use crate::cells::Cell;
 use crate::keeping::keeps_all_cell_bounds;
@@ -33,7 +33,7 @@ pub(crate) fn keeps_rule_16(rule: &CellsRule, codes: &mut KnownCodes, addr: u32,
     requires cells { CellsDoNotWrap rule.now.cells.now }
     ensures { let r = rule.now in
         IsTrue result
-        ↔ PointKeepsCells r.bounds.now r.image.now r.plan.now r.cells.now
+        ↔ PointKeepsCellBounds r.bounds.now r.image.now r.plan.now r.cells.now
         (record { addr = addr; state = s.now }) }
 {
     let Some(found) = codes.decode_cached(rule.image, rule.plan, addr) else {

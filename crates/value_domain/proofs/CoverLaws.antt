@@ -5,7 +5,7 @@ use Rattle.std.proofs.lemmas.Bool.{cases_eq, cases_lt, le-leb, lt-leb}
 use Rattle.std.proofs.lemmas.Bool.Decides.{nat_tests}
 use Rattle.value_domain.specs.declared.values.Val.{Val}
 use Rattle.value_domain.specs.declared.values.Val.TheVariants.{Set, Span}
-use Rattle.value_domain.specs.Sets.{Among, Within, IsAscending, sorted_set_of, alignment_log2, least, greatest, step_of_set, multiples, AreCoverable}
+use Rattle.value_domain.specs.Sets.{Among, AreAmong, IsAscending, sorted_set_of, alignment_log2, least, greatest, step_of_set, multiples, AreCoverable}
 use Rattle.value_domain.specs.Limits.{Limits, AreLimits}
 use Rattle.value_domain.specs.Floors.{floor, threshold_above}
 use Rattle.value_domain.specs.Values.{IsMember, IsWellFormed, IsBelow, cover, value_of_words, members, multiples_in_range, first_member_quotient, span_len}
@@ -177,7 +177,7 @@ cover_step b xs =
       | inr few ↦ rw (cover-few b xs few) tt
     ]
 
-span_mono : (b : Limits) (ws vs : List ℕ) → IsAscending vs → 1 ≤ length ws → Within ws vs → (z : ℕ) → IsMember z (span_of b ws) → IsMember z (span_of b vs)
+span_mono : (b : Limits) (ws vs : List ℕ) → IsAscending vs → 1 ≤ length ws → AreAmong ws vs → (z : ℕ) → IsMember z (span_of b ws) → IsMember z (span_of b vs)
 span_mono b ws vs r some there z m =
     let low : least vs ≤ least ws = least_least vs r (least ws) (there (least ws) (least_among ws some)) in
     let high : greatest ws ≤ greatest vs = greatest_greatest vs (greatest ws) (there (greatest ws) (greatest_among ws some)) in
@@ -186,10 +186,10 @@ span_mono b ws vs r some there z m =
     let s : step_of_set vs ≤ step_of_set ws = step_greatest ws (step_of_set vs) (step_le vs) (λ x i. step_least vs x (there x i)) in
     (omega arith, omega arith, omega arith)
 
-pub within_distinct : (xs ys : List ℕ) → Within xs ys → Within (sorted_set_of xs) (sorted_set_of ys)
+pub within_distinct : (xs ys : List ℕ) → AreAmong xs ys → AreAmong (sorted_set_of xs) (sorted_set_of ys)
 within_distinct xs ys there z i = distinct_has z ys (there z (among_distinct z xs i))
 
-pub cover_mono : (b : Limits) (xs ys : List ℕ) → 1 ≤ length xs → Within xs ys → IsBelow (cover b xs) (cover b ys)
+pub cover_mono : (b : Limits) (xs ys : List ℕ) → 1 ≤ length xs → AreAmong xs ys → IsBelow (cover b xs) (cover b ys)
 cover_mono b xs ys some there z m =
     elim (cases_lt b.most_words (length (sorted_set_of xs))) [
       | inl many ↦
@@ -202,12 +202,12 @@ cover_mono b xs ys some there z m =
           cover_holds b ys z (there z (among_distinct z xs m2))
     ]
 
-pub cover-same : (b : Limits) (xs ys : List ℕ) → Within xs ys → Within ys xs → cover b xs ≡ cover b ys
+pub cover-same : (b : Limits) (xs ys : List ℕ) → AreAmong xs ys → AreAmong ys xs → cover b xs ≡ cover b ys
 unfolding cover
 cover-same b xs ys there back = ap (value_of_words b) (distinct_same xs ys there back)
 
 -- a cover is the cover of its members
-span_own : (b : Limits) (ws ms : List ℕ) → IsAscending ws → IsAscending ms → 1 ≤ length ws → Within ws ms
+span_own : (b : Limits) (ws ms : List ℕ) → IsAscending ws → IsAscending ms → 1 ≤ length ws → AreAmong ws ms
     → ((z : ℕ) → Among z ms → IsMember z (span_of b ws)) → span_of b ms ≡ span_of b ws
 span_own b ws ms rw_ rm some there held =
     let some_m : 1 ≤ length ms = omega (arith, length_within ws ms rw_ rm there) in
@@ -226,7 +226,7 @@ span_own b ws ms rw_ rm some there held =
 
 pub cover_own : (b : Limits) (xs : List ℕ) → 1 ≤ length xs → cover b (members (cover b xs)) ≡ cover b xs
 cover_own b xs some =
-    let there : Within xs (members (cover b xs)) = λ z i. among_member (cover b xs) z (cover_step b xs) (cover_holds b xs z i) in
+    let there : AreAmong xs (members (cover b xs)) = λ z i. among_member (cover b xs) z (cover_step b xs) (cover_holds b xs z i) in
     elim (cases_lt b.most_words (length (sorted_set_of xs))) [
       | inl many ↦
           let longer : length (sorted_set_of xs) ≤ length (sorted_set_of (members (cover b xs))) = length-distinct xs (members (cover b xs)) there in
@@ -248,7 +248,7 @@ cover_well b xs limits good =
           let some : 1 ≤ length (sorted_set_of xs) = some_distinct xs good.some in
           let ts : List ℕ = b.thresholds in
           let ws : List ℕ = sorted_set_of xs in
-          let held : Within (sorted_set_of xs) (multiples_in_range (floor b.thresholds (least (sorted_set_of xs))) (threshold_above b.thresholds (greatest (sorted_set_of xs)) - 1) (step_of_set (sorted_set_of xs))) =
+          let held : AreAmong (sorted_set_of xs) (multiples_in_range (floor b.thresholds (least (sorted_set_of xs))) (threshold_above b.thresholds (greatest (sorted_set_of xs)) - 1) (step_of_set (sorted_set_of xs))) =
           λ z i. among_range z (floor b.thresholds (least (sorted_set_of xs))) (threshold_above b.thresholds (greatest (sorted_set_of xs)) - 1) (step_of_set (sorted_set_of xs)) (step_le (sorted_set_of xs))
           (span_holds b (sorted_set_of xs) (rising_distinct xs) z i)
           in
@@ -270,7 +270,7 @@ cover_well b xs limits good =
           })
     ]
   where
-    wide_range : (ws : List ℕ) (lo last step : ℕ) → IsAscending ws → Within ws (multiples_in_range lo last step) → 64 < length ws → 64 < span_len lo last step
+    wide_range : (ws : List ℕ) (lo last step : ℕ) → IsAscending ws → AreAmong ws (multiples_in_range lo last step) → 64 < length ws → 64 < span_len lo last step
     wide_range ws lo last step r there many =
         let shorter : length ws ≤ length (multiples_in_range lo last step) = length_within ws (multiples_in_range lo last step) r (rising_multiples (span_len lo last step) (first_member_quotient lo step) (2 ^ step) (unit_some step)) there in
         omega (arith, length-multiples (span_len lo last step) (first_member_quotient lo step) (2 ^ step))

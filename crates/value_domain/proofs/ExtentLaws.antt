@@ -3,7 +3,7 @@ use Rattle.std.proofs.Common.{◌≡◌, ℕ, ◌+◌, ◌-◌, ◌*◌, ◌/◌
 use Rattle.std.proofs.Math.Nat.{mul-le-mul_right, mul-one}
 use Rattle.std.proofs.lemmas.Bool.{cases_lt}
 use Rattle.value_domain.specs.declared.values.Val.TheVariants.{Set, Span}
-use Rattle.value_domain.specs.Sets.{Among, Within, IsAscending, sorted_set_of, alignment_log2, least, greatest, step_of_set, IsExtent}
+use Rattle.value_domain.specs.Sets.{Among, AreAmong, IsAscending, sorted_set_of, alignment_log2, least, greatest, step_of_set, IsExtent}
 use Rattle.value_domain.specs.Limits.{Limits}
 use Rattle.value_domain.specs.Floors.{floor, threshold_above}
 use Rattle.value_domain.specs.Values.{IsMember, IsInLattice, IsBelow, cover, members, multiples_in_range, first_member_quotient, span_len}
@@ -86,7 +86,7 @@ extent_rising ws r some = record {
   full = step_greatest ws;
 }
 
-pub extent_same : {lo hi s : ℕ} (xs ys : List ℕ) → Within xs ys → Within ys xs → IsExtent xs lo hi s → IsExtent ys lo hi s
+pub extent_same : {lo hi s : ℕ} (xs ys : List ℕ) → AreAmong xs ys → AreAmong ys xs → IsExtent xs lo hi s → IsExtent ys lo hi s
 extent_same {lo} {hi} {s} xs ys there back e = record {
   low_in = there lo e.low_in;
   high_in = there hi e.high_in;

@@ -8,7 +8,7 @@ use Rattle.std.proofs.lemmas.List.Sorted.{Contains-permutation, IsPermutation-sy
 use Rattle.std.proofs.lemmas.List.{get_or_default, take-append-le, take_all}
 use Rattle.value_domain.proofs.Loops.{among_get}
 use Rattle.value_domain.proofs.WordLaws.{among_place}
-use Rattle.value_domain.specs.Sets.{Among, Within}
+use Rattle.value_domain.specs.Sets.{Among, AreAmong}
 use Rattle.value_domain.specs.Thresholds.{AreSortedThresholds, range_ends, powers_of_two, thresholds_of, HasNearestThresholds}
 use Rattle.value_domain.specs.Floors.{floor, threshold_above}
 use Rattle.value_domain.proofs.LimitLaws.{floor_le, above_lt, above_le}
@@ -170,22 +170,22 @@ above-first ws x at small ordered parted some =
     ])
 
 -- lists with equal numbers have equal thresholds next to a word
-pub floor-same : (ws ts : List ℕ) (x : ℕ) → Within ws ts → Within ts ws → floor ws x ≡ floor ts x
+pub floor-same : (ws ts : List ℕ) (x : ℕ) → AreAmong ws ts → AreAmong ts ws → floor ws x ≡ floor ts x
 floor-same ws ts x there back =
     let low : floor ws x ≤ floor ts x = half ws ts x there in
     let high : floor ts x ≤ floor ws x = half ts ws x back in
     omega arith
   where
-    half : (ws ts : List ℕ) (x : ℕ) → Within ws ts → floor ws x ≤ floor ts x
+    half : (ws ts : List ℕ) (x : ℕ) → AreAmong ws ts → floor ws x ≤ floor ts x
     half ws ts x there = unfind ws 0 (floor ws x) (floor_found ws x) (λ e. omega arith) (λ i. floor_greatest ts x (floor ws x) (there (floor ws x) i) (floor_le ws x))
 
-pub above-same : (ws ts : List ℕ) (x : ℕ) → x < 2 ^ 32 → Within ws ts → Within ts ws → threshold_above ws x ≡ threshold_above ts x
+pub above-same : (ws ts : List ℕ) (x : ℕ) → x < 2 ^ 32 → AreAmong ws ts → AreAmong ts ws → threshold_above ws x ≡ threshold_above ts x
 above-same ws ts x small there back =
     let low : threshold_above ws x ≤ threshold_above ts x = half ts ws x small back in
     let high : threshold_above ts x ≤ threshold_above ws x = half ws ts x small there in
     omega arith
   where
-    half : (ws ts : List ℕ) (x : ℕ) → x < 2 ^ 32 → Within ws ts → threshold_above ts x ≤ threshold_above ws x
+    half : (ws ts : List ℕ) (x : ℕ) → x < 2 ^ 32 → AreAmong ws ts → threshold_above ts x ≤ threshold_above ws x
     half ws ts x small there =
         unfind ws (2 ^ 32) (threshold_above ws x) (above_found ws x small) (λ e. let most : threshold_above ts x ≤ 2 ^ 32 = above_le ts x small in omega arith)
         (λ i. above_least ts x (threshold_above ws x) (there (threshold_above ws x) i) (above_lt ws x))

@@ -7,7 +7,7 @@ use Rattle.std.specs.List.{insert}
 use Rattle.value_domain.proofs.ExtentLaws.{some_length, extent_rising, extent_range}
 use Rattle.value_domain.proofs.CoverLaws.{step_cases}
 use Rattle.value_domain.specs.Values.{IsWellFormed, multiples_in_range}
-use Rattle.value_domain.specs.Sets.{IsExtent, Among, IsAscending, alignment_log2, step_of_set, least, greatest, sorted_insert, AreSetWords}
+use Rattle.value_domain.specs.Sets.{IsExtent, Among, IsAscending, alignment_log2, step_of_set, least, greatest, sorted_set_insert, AreSetWords}
 use Rattle.value_domain.specs.declared.values.Val.TheVariants.{Span}
 use Rattle.value_domain.proofs.SetLaws.{put-lt, put-gt, rising_put, among_put, length_put, put_has, greatest_greatest}
 
@@ -33,8 +33,8 @@ among_get (w ∷ ws) (suc i) h = inr (among_get ws i (omega arith))
 
 -- a word that isn't there goes before the first greater one
 pub put-insert : (x : ℕ) (ws : List ℕ) (at : ℕ) → IsAscending ws → at ≤ length ws → (0 < at → get_or ws (at - 1) 0 < x) → (at < length ws → x < get_or ws at 0)
-    → sorted_insert x ws ≡ insert ws at x
-unfolding sorted_insert
+    → sorted_set_insert x ws ≡ insert ws at x
+unfolding sorted_set_insert
 put-insert x [] zero r within before after = refl
 put-insert x [] (suc at) r within before after = absurd (omega arith)
 put-insert x (y ∷ ys) zero r within before after = put-lt x y ys (after (omega arith))
@@ -48,9 +48,9 @@ put-insert x (y ∷ ys) (suc (suc at)) r within before after =
     put-gt x y ys (omega arith)
     ∙ ap (λ (l : List ℕ). y ∷ l) (put-insert x ys (suc at) r.1 (omega arith) (λ h. let e : suc at - 1 ≡ at = omega arith in rw e last) (λ h. after (omega arith)))
 
-pub words_put : (x : ℕ) (ws : List ℕ) → AreSetWords ws → length ws < 128 → x < 2 ^ 32 → AreSetWords (sorted_insert x ws)
+pub words_put : (x : ℕ) (ws : List ℕ) → AreSetWords ws → length ws < 128 → x < 2 ^ 32 → AreSetWords (sorted_set_insert x ws)
 words_put x ws a room small = record {
-  some = some_length (sorted_insert x ws) x (put_has x ws);
+  some = some_length (sorted_set_insert x ws) x (put_has x ws);
   few = omega (arith, length_put x ws);
   rising = rising_put x ws a.rising;
   below = λ z i. elim (among_put z x ws i) [ inl e ↦ let e2 : z ≡ x = e in omega arith | inr j ↦ a.below z j ];

@@ -5,7 +5,7 @@ use Rattle.std.proofs.lemmas.Bool.{cases_Bool, and_parts, and_from, leb-true, le
 use Rattle.tcd_base.proofs.OptionLaws.{some_same}
 use Rattle.value_domain.specs.declared.values.Val.{Val}
 use Rattle.value_domain.specs.declared.values.Val.TheVariants.{Set, Span}
-use Rattle.value_domain.specs.Sets.{Among, Within, alignment_log2, multiples}
+use Rattle.value_domain.specs.Sets.{Among, AreAmong, alignment_log2, multiples}
 use Rattle.value_domain.specs.Limits.{Limits, AreLimits}
 use Rattle.value_domain.specs.Values.{IsWellFormed, cover, members, multiples_in_range, span_len, first_member_quotient, is_in_span, is_member}
 use Rattle.value_domain.specs.Meets.{cover_if_any}
@@ -13,7 +13,7 @@ use Rattle.value_domain.proofs.CoverLaws.{cover-same, range_among, among_range, 
 use Rattle.value_domain.proofs.ExtentLaws.{cover-more, cover-part, append_left, append_right, among_append}
 use Rattle.value_domain.proofs.RangeLaws.{cover-one}
 
-pub cover_some-same : (b : Limits) (xs ys : List ℕ) → Within xs ys → Within ys xs → cover_if_any b xs ≡ cover_if_any b ys
+pub cover_some-same : (b : Limits) (xs ys : List ℕ) → AreAmong xs ys → AreAmong ys xs → cover_if_any b xs ≡ cover_if_any b ys
 cover_some-same b [] [] there back = refl
 cover_some-same b [] (y ∷ ys) there back = absurd (back y (inl refl))
 cover_some-same b (x ∷ xs) [] there back = absurd (there x (inl refl))
@@ -29,7 +29,7 @@ add_more b v x (y ∷ ys) e =
     let same : v ≡ cover b (y ∷ ys) = some_same v (cover b (y ∷ ys)) e in
     ap (λ (v : Val). Some v) (ap (λ (w : Val). cover b (x ∷ members w)) same ∙ cover-more b (y ∷ ys) x (omega arith))
 
-swap_within : (xs ys : List ℕ) → Within (xs ++ ys) (ys ++ xs)
+swap_within : (xs ys : List ℕ) → AreAmong (xs ++ ys) (ys ++ xs)
 swap_within xs ys z i = elim (among_append z xs ys i) [ inl j ↦ append_right z ys xs j | inr j ↦ append_left z ys xs j ]
 
 pub cover-parts : (b : Limits) (xs ys : List ℕ) → 1 ≤ length xs → 1 ≤ length ys → cover b (members (cover b xs) ++ members (cover b ys)) ≡ cover b (xs ++ ys)

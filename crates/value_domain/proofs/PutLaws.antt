@@ -3,7 +3,7 @@ use Rattle.std.proofs.Common.{◌≡◌, ℕ, ◌-◌, ◌<◌, ◌≤◌, inl, 
 use Rattle.std.proofs.lemmas.List.{take_more, take_all, take-append-drop}
 use Rattle.value_domain.specs.declared.values.Val.{Val}
 use Rattle.value_domain.specs.declared.values.Val.TheVariants.{Set, Span}
-use Rattle.value_domain.specs.Sets.{Among, IsAscending, AreSetWords, sorted_insert, sorted_set_of, alignment_log2, IsExtent, least}
+use Rattle.value_domain.specs.Sets.{Among, IsAscending, AreSetWords, sorted_set_insert, sorted_set_of, alignment_log2, IsExtent, least}
 use Rattle.value_domain.specs.Limits.{Limits, AreLimits}
 use Rattle.value_domain.specs.Floors.{floor, threshold_above}
 use Rattle.value_domain.specs.Values.{IsMember, IsWellFormed, IsInLattice, cover, members, multiples_in_range, words_of}
@@ -20,11 +20,11 @@ with_member b v x value m =
     ∙ cover-same b (members v) (x ∷ members v) (λ z i. inr i)
     (λ z i. elim i [ inl e ↦ subst (λ (y : ℕ). Among y (members v)) (sym e) (among_member v x (has_step v value.well) m) | inr j ↦ j ])
 
-distinct-more : (x : ℕ) (ws : List ℕ) → IsAscending ws → sorted_set_of (x ∷ ws) ≡ sorted_insert x ws
+distinct-more : (x : ℕ) (ws : List ℕ) → IsAscending ws → sorted_set_of (x ∷ ws) ≡ sorted_set_insert x ws
 unfolding sorted_set_of
-distinct-more x ws r = ap (sorted_insert x) (distinct-rising ws r)
+distinct-more x ws r = ap (sorted_set_insert x) (distinct-rising ws r)
 
-pub with_room : (b : Limits) (ws : List ℕ) (x : ℕ) → AreSetWords ws → length ws < b.most_words → Set (sorted_insert x ws) ≡ cover b (x ∷ ws)
+pub with_room : (b : Limits) (ws : List ℕ) (x : ℕ) → AreSetWords ws → length ws < b.most_words → Set (sorted_set_insert x ws) ≡ cover b (x ∷ ws)
 with_room b ws x a room =
     let e = distinct-more x ws a.rising in
     ap (λ (l : List ℕ). Set l) (sym e) ∙ sym (cover-few b (x ∷ ws) (rw e (omega (arith, length_put x ws))))

@@ -4,7 +4,7 @@ use Rattle.std.proofs.lemmas.Bool.{cases_lt}
 use Rattle.std.proofs.lemmas.List.{take_more}
 use Rattle.value_domain.specs.declared.values.Val.{Val}
 use Rattle.value_domain.specs.declared.values.Val.TheVariants.{Set, Span}
-use Rattle.value_domain.specs.Sets.{Among, Within, IsAscending, AreSetWords, sorted_set_of, multiples, IsExtent}
+use Rattle.value_domain.specs.Sets.{Among, AreAmong, IsAscending, AreSetWords, sorted_set_of, multiples, IsExtent}
 use Rattle.value_domain.specs.Limits.{Limits, AreLimits}
 use Rattle.value_domain.specs.Floors.{floor, threshold_above}
 use Rattle.value_domain.specs.Values.{IsWellFormed, IsInLattice, IsBelow, cover, value_of_words, members, multiples_in_range, first_member_quotient, span_len, any_val}
@@ -14,7 +14,7 @@ use Rattle.value_domain.proofs.LimitLaws.{floor_le, above_lt, above_le}
 use Rattle.value_domain.proofs.ExtentLaws.{cover_span, extent_append, many_span, some_length, cover-more, among_append, append_left, append_right, extent_range, extent_only}
 use Rattle.value_domain.proofs.Loops.{among_get}
 
-pub within_range : (lo last s : ℕ) (ws : List ℕ) → ((j : ℕ) → first_member_quotient lo s ≤ j → j < last / 2 ^ s + 1 → Among (j * 2 ^ s) ws) → Within (multiples_in_range lo last s) ws
+pub within_range : (lo last s : ℕ) (ws : List ℕ) → ((j : ℕ) → first_member_quotient lo s ≤ j → j < last / 2 ^ s + 1 → Among (j * 2 ^ s) ws) → AreAmong (multiples_in_range lo last s) ws
 within_range lo last s ws each z i =
     let k = multiples_among z (span_len lo last s) (first_member_quotient lo s) (2 ^ s) i in
     let e : z ≡ k.0 * 2 ^ s = k.3 in

@@ -4,7 +4,7 @@ use Rattle.tcd_plan.specs.PlanData.{PlanData, all_ranges}
 use Rattle.tcd_base.specs.declared.range.Range.{Range}
 use Rattle.value_domain.specs.Floors.{floor, threshold_above, IsFloor, IsThresholdAbove}
 use Rattle.std.specs.List.Sorted.{IsNonDecreasing}
-use Rattle.value_domain.specs.Sets.{Within}
+use Rattle.value_domain.specs.Sets.{AreAmong}
 
 -- the first n powers of two, from 1 on
 unfoldable pub powers_of_two : ℕ → List ℕ
@@ -33,5 +33,5 @@ ThresholdsAreNearest = (plan : PlanData) (x : ℕ) → x < 2 ^ 32 → HasNearest
 -- the first list has the thresholds of the second in ascending order
 pub record AreSortedThresholds (ascending xs : List ℕ) : Type 0 where
   pub ordered : IsNonDecreasing ascending
-  pub within : Within ascending xs
-  pub back : Within xs ascending
+  pub within : AreAmong ascending xs
+  pub back : AreAmong xs ascending

@@ -1,7 +1,7 @@
 // Operations of the lattice of values: order, join, and the least value that holds a set.
 ghost use Rattle.std.specs.Prelude.{◌≡◌, ◌==◌, ◌≤◌, ◌<◌, ◌+◌, ◌-◌, ◌*◌, ◌/◌, IsTrue, length, min, max, ◌∷◌, ◌++◌, List, ℕ, ◌↔◌, IsSome, IsNone, slice_index};
 ghost use Rattle.value_domain.specs.Values as values;
-ghost use Rattle.value_domain.specs.Sets.{AreSetWords, Within, IsAscending, least, greatest, step_of_set, IsExtent};
+ghost use Rattle.value_domain.specs.Sets.{AreSetWords, AreAmong, IsAscending, least, greatest, step_of_set, IsExtent};
 ghost use Rattle.value_domain.specs.Sets as sets;
 ghost use Rattle.value_domain.specs.Limits.{AreLimits};
 ghost use Rattle.value_domain.specs.Values.{IsWellFormed, IsInLattice, IsBelow, cover, members, multiples_in_range, span_between_thresholds, span_len, words_of};
@@ -392,7 +392,7 @@ fn is_below_span(v: &Val, lo: u32, last: u32, step: u8) -> bool
 fn is_set_below_set(own: &[u32], words: &[u32]) -> bool
     requires own { IsAscending own.now }
     requires words { IsAscending words.now }
-    ensures { IsTrue result ↔ Within own.now words.now }
+    ensures { IsTrue result ↔ AreAmong own.now words.now }
 {
     let mut k = 0;
     for x in own {
@@ -409,7 +409,7 @@ fn is_set_below_set(own: &[u32], words: &[u32]) -> bool
 fn is_span_below_set(lo: u32, last: u32, step: u8, words: &[u32]) -> bool
     requires step { step ≤ 2 }
     requires words { IsAscending words.now }
-    ensures { IsTrue result ↔ Within (multiples_in_range lo last step) words.now }
+    ensures { IsTrue result ↔ AreAmong (multiples_in_range lo last step) words.now }
 {
     let unit = 1u64 << step;
     let start = (u64::from(lo) + (unit - 1)) / unit;

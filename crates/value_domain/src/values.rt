@@ -3,7 +3,7 @@
 ghost use Rattle.std.specs.Prelude.{◌≡◌, ◌≤◌, ◌<◌, ◌+◌, ◌-◌, IsTrue, length, IfSome, [], ◌∷◌, List, ℕ, option_map, ◌↔◌, slice_index, IsSome, ◌==◌, ◌*◌, ◌/◌};
 ghost use Rattle.std.specs.List.{list_any};
 ghost use Rattle.std.specs.List.Sorted.{IsStrictlyIncreasing};
-ghost use Rattle.value_domain.specs.Sets.{AreSetWords, Among, sorted_insert, IsAscending};
+ghost use Rattle.value_domain.specs.Sets.{AreSetWords, Among, sorted_set_insert, IsAscending};
 ghost use Rattle.value_domain.specs.declared.values.Val.TheVariants.{Set, Span};
 ghost use Rattle.value_domain.specs.Sets as sets;
 ghost use Rattle.value_domain.specs.Values.{IsMember, IsWellFormed, span_len, any_val, words_of, is_in_span, is_member};
@@ -106,7 +106,7 @@ impl Words {
     pub fn insert(&mut self, x: u32)
         requires room { length self.old < 128 }
         requires absent { ¬ Among x self.old }
-        ensures { self.new ≡ sorted_insert x self.old }
+        ensures { self.new ≡ sorted_set_insert x self.old }
     {
         let at = count_words_below(self.words.as_slice(), x);
         self.words.insert(at, x);

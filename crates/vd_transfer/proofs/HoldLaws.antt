@@ -12,7 +12,7 @@ use Rattle.tc_isa.specs.declared.shapes.Cond.{Cond}
 use Rattle.tc_isa.specs.declared.shapes.Op.TheVariants.{Add, Sub, Sh}
 use Rattle.tc_isa.specs.declared.shapes.Shape.TheVariants.{Compute, Scaled, Load, Store, Svlcx, Bisr, Enable, Disable, Mfcr, Mtcr, Nothing}
 use Rattle.tc_isa.specs.Arithmetic.{alu_of, taken_of, logical_shift}
-use Rattle.tc_isa.specs.InBounds.{IsArg}
+use Rattle.tc_isa.specs.InBounds.{IsArgInBounds}
 use Rattle.value_domain.specs.declared.values.Val.{Val}
 use Rattle.value_domain.specs.declared.states.State.{State}
 use Rattle.value_domain.specs.Limits.{Limits, AreLimits}
@@ -24,8 +24,8 @@ use Rattle.value_domain.proofs.RangeLaws.{one_value, cover_value, members_below}
 use Rattle.vd_transfer.specs.Operations.{operation_value}
 use Rattle.vd_transfer.specs.Refinement.{kept_left_words, kept_right_words, kept_self_compared_words, is_side_taken}
 use Rattle.value_domain.specs.Meets.{cover_if_any}
-use Rattle.vd_transfer.specs.Registers.{register_slot, reg_of, arg_of, register_value_at, fixed_register_value, with_slot_value, with_reg_value, state_after_reg_write, is_lower_register, RegisterHasValue, with_arg_value, IncreasesNoFixedRegister, is_same_register}
-use Rattle.vd_transfer.specs.EffectsOnStates.{state_with_increased_base, access_of, state_after_lower_save, state_after_lower_restore, transfer_of, address_of_access}
+use Rattle.vd_transfer.specs.Registers.{register_slot, reg_of, arg_of, register_value_at, fixed_register_value, with_slot_value, with_reg_value, state_after_reg_write, is_lower_register, IsNotFixedRegister, with_arg_value, IncreasesNoFixedRegister, is_same_register}
+use Rattle.vd_transfer.specs.EffectsOnStates.{state_with_increased_base, address_by_mode, state_after_lower_save, state_after_lower_restore, transfer_of, address_of_access}
 use Rattle.vd_transfer.specs.EffectsOnWords.{ie_after, words_with_register, operand_word, accessed_address, words_with_increased_base, words_after, ccpn_after}
 use Rattle.vd_transfer.specs.Branches.{state_with_narrowed_register, state_with_narrowed_operands, state_on_side, with_decremented_counter, refine_of}
 use Rattle.vd_transfer.specs.Holding.{Holds}
@@ -85,7 +85,7 @@ set_word-other : (word : ℕ → ℕ) (r w q : ℕ) → (q ≡ r → ⊥) → wo
 set_word-other word r w q apart = rw (ne_eqb q r apart) refl
 
 -- register r gets the word w and a value of which it is a member
-pub holds_set : (p : PlanData) (s : State) (word : ℕ → ℕ) (ie : Bool) (ccpn r w : ℕ) (v : Val) → length s.regs ≡ 27 → RegisterHasValue r → IsMember w v → Holds p word ie ccpn s
+pub holds_set : (p : PlanData) (s : State) (word : ℕ → ℕ) (ie : Bool) (ccpn r w : ℕ) (v : Val) → length s.regs ≡ 27 → IsNotFixedRegister r → IsMember w v → Holds p word ie ccpn s
     → Holds p (words_with_register word r w) ie ccpn (with_reg_value s r v)
 holds_set p s word ie ccpn r w v len has m h =
     held_set p s word (words_with_register word r w) ie ccpn r v
@@ -107,14 +107,14 @@ const_member w = inl refl
 const_value : (b : Limits) (w : ℕ) → AreLimits b → w < 2 ^ 32 → IsInLattice b (word_val w)
 const_value b w limits small = one_value b w limits small
 
-pub arg_member : (p : PlanData) (s : State) (word : ℕ → ℕ) (ie : Bool) (ccpn : ℕ) (y : Arg) → IsArg y → Holds p word ie ccpn s → IsMember (operand_word word y) (arg_of p s y)
+pub arg_member : (p : PlanData) (s : State) (word : ℕ → ℕ) (ie : Bool) (ccpn : ℕ) (y : Arg) → IsArgInBounds y → Holds p word ie ccpn s → IsMember (operand_word word y) (arg_of p s y)
 arg_member p s word ie ccpn (Reg r) small h = h.regs r small
 arg_member p s word ie ccpn (Word w) small h = const_member w
 
 pub reg_value : (b : Limits) (p : PlanData) (s : State) (r : ℕ) → MeetSoundnessPremises b p s → IsInLattice b (reg_of p s r)
 reg_value b p s r set = reg_is_value b p s r set.limits set.plan.words.globals set.values
 
-pub arg_value : (b : Limits) (p : PlanData) (s : State) (y : Arg) → MeetSoundnessPremises b p s → IsArg y → IsInLattice b (arg_of p s y)
+pub arg_value : (b : Limits) (p : PlanData) (s : State) (y : Arg) → MeetSoundnessPremises b p s → IsArgInBounds y → IsInLattice b (arg_of p s y)
 arg_value b p s (Reg r) set small = reg_value b p s r set
 arg_value b p s (Word w) set small = const_value b w set.limits small
 
@@ -140,11 +140,11 @@ moved p s t word ie ie2 ccpn ccpn2 same enabled priority h = record {
 written : (p : PlanData) (s : State) (word : ℕ → ℕ) (ie : Bool) (ccpn r : ℕ) (v : Val) → Holds p word ie ccpn (with_reg_value s r v) → Holds p word ie ccpn (state_after_reg_write s r v)
 written p s word ie ccpn r v h = moved p (with_reg_value s r v) (state_after_reg_write s r v) word ie ie ccpn ccpn refl h.enabled h.priority h
 
-holds_write : (p : PlanData) (s : State) (word : ℕ → ℕ) (ie : Bool) (ccpn r w : ℕ) (v : Val) → length s.regs ≡ 27 → RegisterHasValue r → IsMember w v → Holds p word ie ccpn s
+holds_write : (p : PlanData) (s : State) (word : ℕ → ℕ) (ie : Bool) (ccpn r w : ℕ) (v : Val) → length s.regs ≡ 27 → IsNotFixedRegister r → IsMember w v → Holds p word ie ccpn s
     → Holds p (words_with_register word r w) ie ccpn (state_after_reg_write s r v)
 holds_write p s word ie ccpn r w v len has m h = written p s (words_with_register word r w) ie ccpn r v (holds_set p s word ie ccpn r w v len has m h)
 
-base_holds : (b : Limits) (p : PlanData) (s : State) (word : ℕ → ℕ) (ie : Bool) (ccpn : ℕ) (base : Arg) (offset : ℕ) (after : Bool) → MeetSoundnessPremises b p s → IsArg base → offset < 2 ^ 32 → IncreasesNoFixedRegister base after
+base_holds : (b : Limits) (p : PlanData) (s : State) (word : ℕ → ℕ) (ie : Bool) (ccpn : ℕ) (base : Arg) (offset : ℕ) (after : Bool) → MeetSoundnessPremises b p s → IsArgInBounds base → offset < 2 ^ 32 → IncreasesNoFixedRegister base after
     → Holds p word ie ccpn s → Holds p (words_with_increased_base word base offset after) ie ccpn (state_with_increased_base b p s base offset after)
 base_holds b p s word ie ccpn (Word w) offset after set small off has h = h
 base_holds b p s word ie ccpn (Reg r) offset false set small off has h = h
@@ -233,8 +233,8 @@ address_holds = record {
   store = λ b p src base offset size after s word ie ccpn set is off h. access_member b p s word ie ccpn base offset after set is off h;
 }
   where
-    access_member : (b : Limits) (p : PlanData) (s : State) (word : ℕ → ℕ) (ie : Bool) (ccpn : ℕ) (base : Arg) (offset : ℕ) (after : Bool) → MeetSoundnessPremises b p s → IsArg base → offset < 2 ^ 32 → Holds p word ie ccpn s
-        → IsMember (accessed_address word base offset after) (access_of b p s base offset after)
+    access_member : (b : Limits) (p : PlanData) (s : State) (word : ℕ → ℕ) (ie : Bool) (ccpn : ℕ) (base : Arg) (offset : ℕ) (after : Bool) → MeetSoundnessPremises b p s → IsArgInBounds base → offset < 2 ^ 32 → Holds p word ie ccpn s
+        → IsMember (accessed_address word base offset after) (address_by_mode b p s base offset after)
     access_member b p s word ie ccpn base offset true set is off h = arg_member p s word ie ccpn base is h
     access_member b p s word ie ccpn base offset false set is off h = sum_member b (arg_of p s base) (operand_word word base) offset set.limits (arg_value b p s base set is) off (arg_member p s word ie ccpn base is h)
 
@@ -298,7 +298,7 @@ narrowed_reg b p s word ie ccpn r v small m h = record {
   setting = record { limits = h.setting.limits; plan = h.setting.plan; regs = same_length s v (register_slot r) ∙ h.setting.regs; values = set_values_at b s v (register_slot r) h.setting.values m.value };
 }
 
-narrowed_arg : (b : Limits) (p : PlanData) (s : State) (word : ℕ → ℕ) (ie : Bool) (ccpn : ℕ) (y : Arg) (v : Val) → IsArg y → HasMember b (operand_word word y) v → HoldsWell b p word ie ccpn s → HoldsWell b p word ie ccpn (with_arg_value s y v)
+narrowed_arg : (b : Limits) (p : PlanData) (s : State) (word : ℕ → ℕ) (ie : Bool) (ccpn : ℕ) (y : Arg) (v : Val) → IsArgInBounds y → HasMember b (operand_word word y) v → HoldsWell b p word ie ccpn s → HoldsWell b p word ie ccpn (with_arg_value s y v)
 narrowed_arg b p s word ie ccpn (Reg r) v small m h = narrowed_reg b p s word ie ccpn r v small m h
 narrowed_arg b p s word ie ccpn (Word w) v small m h = h
 
@@ -306,7 +306,7 @@ one_holds : (b : Limits) (p : PlanData) (s : State) (word : ℕ → ℕ) (ie : B
 one_holds b p s word ie ccpn x None small m h = m
 one_holds b p s word ie ccpn x (Some z) small m h = narrowed_reg b p s word ie ccpn x z small m h
 
-two_holds : (b : Limits) (p : PlanData) (s : State) (word : ℕ → ℕ) (ie : Bool) (ccpn x : ℕ) (y : Arg) (v w : Option Val) → x < 32 → IsArg y → IsSomeAnd v (HasMember b (word x)) → IsSomeAnd w (HasMember b (operand_word word y))
+two_holds : (b : Limits) (p : PlanData) (s : State) (word : ℕ → ℕ) (ie : Bool) (ccpn x : ℕ) (y : Arg) (v w : Option Val) → x < 32 → IsArgInBounds y → IsSomeAnd v (HasMember b (word x)) → IsSomeAnd w (HasMember b (operand_word word y))
     → HoldsWell b p word ie ccpn s → IsSomeAnd (state_with_narrowed_operands s x y v w) (HoldsWell b p word ie ccpn)
 two_holds b p s word ie ccpn x y None w small is m n h = m
 two_holds b p s word ie ccpn x y (Some v) None small is m n h = n
@@ -316,7 +316,7 @@ same_reg : (x : ℕ) (y : Arg) (word : ℕ → ℕ) → is_same_register x y ≡
 same_reg x (Reg r) word e = ap word (sym (eqb-true x r e))
 same_reg x (Word w) word e = absurd (let f : false ≡ true = e in cc)
 
-refined_holds : (b : Limits) (p : PlanData) (cond : Cond) (x : ℕ) (y : Arg) (s : State) (side : Bool) (word : ℕ → ℕ) (ie : Bool) (ccpn : ℕ) → x < 32 → IsArg y → HoldsWell b p word ie ccpn s
+refined_holds : (b : Limits) (p : PlanData) (cond : Cond) (x : ℕ) (y : Arg) (s : State) (side : Bool) (word : ℕ → ℕ) (ie : Bool) (ccpn : ℕ) → x < 32 → IsArgInBounds y → HoldsWell b p word ie ccpn s
     → taken_of cond (word x) (operand_word word y) ≡ side → IsSomeAnd (state_on_side b p cond x y s side) (HoldsWell b p word ie ccpn)
 refined_holds b p cond x y s side word ie ccpn small is h e =
     let set = h.setting in
@@ -341,7 +341,7 @@ less_member b v x limits vv m =
     let same : (x + 2 ^ 32 - 1) % 2 ^ 32 ≡ (x + (2 ^ 32 - 1)) % 2 ^ 32 = omega arith in
     subst (λ (w : ℕ). IsMember w (operation_value b Sub v (word_val 1))) same (sound b Sub v (word_val 1) limits vv (const_value b 1 limits (omega arith)) x 1 m (const_member 1))
 
-lowered_holds : (b : Limits) (p : PlanData) (x : ℕ) (lowers : Bool) (t : Option State) (word : ℕ → ℕ) (ie : Bool) (ccpn : ℕ) → x < 32 → (IsTrue lowers → RegisterHasValue x) → IsSomeAnd t (HoldsWell b p word ie ccpn)
+lowered_holds : (b : Limits) (p : PlanData) (x : ℕ) (lowers : Bool) (t : Option State) (word : ℕ → ℕ) (ie : Bool) (ccpn : ℕ) → x < 32 → (IsTrue lowers → IsNotFixedRegister x) → IsSomeAnd t (HoldsWell b p word ie ccpn)
     → IsSomeAnd (with_decremented_counter b p x lowers t) (Holds p (if lowers then words_with_register word x ((word x + (2 ^ 32 - 1)) % 2 ^ 32) else word) ie ccpn)
 lowered_holds b p x lowers None word ie ccpn small has h = h
 lowered_holds b p x false (Some s) word ie ccpn small has h = h.holds

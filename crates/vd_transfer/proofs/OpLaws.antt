@@ -10,7 +10,7 @@ use Rattle.std.specs.Int.Bits.{xor_add_and}
 use Rattle.std.proofs.lemmas.Nat.{shl_below, shr_le, or_of_32, xor_of_32, and_le_l, and_le_r, le_or_l, le_or_r}
 use Rattle.value_domain.specs.declared.values.Val.{Val}
 use Rattle.value_domain.specs.declared.values.Val.TheVariants.{Set, Span}
-use Rattle.value_domain.specs.Sets.{Among, Within, IsAscending, IsExtent}
+use Rattle.value_domain.specs.Sets.{Among, AreAmong, IsAscending, IsExtent}
 use Rattle.value_domain.specs.Limits.{Limits, AreLimits}
 use Rattle.value_domain.specs.Values.{IsMember, IsWellFormed, IsInLattice, IsBelow, cover, members, multiples_in_range, span_len, first_member_quotient, least_member, greatest_member, step_of_value}
 use Rattle.value_domain.proofs.SetLaws.{length_within}
@@ -49,7 +49,7 @@ pub record Narrower (v v2 : Val) : Type 0 where
   pub high_in : greatest_member v ≤ greatest_member v2
   pub step_in : step_of_value v2 ≤ step_of_value v
 
-pub narrower : (v v2 : Val) → IsWellFormed v → IsWellFormed v2 → Within (members v) (members v2) → Narrower v v2
+pub narrower : (v v2 : Val) → IsWellFormed v → IsWellFormed v2 → AreAmong (members v) (members v2) → Narrower v v2
 narrower v v2 w w2 there =
     let e = bounds_of v w in
     let f = bounds_of v2 w2 in
@@ -70,7 +70,7 @@ all_have x h = among_range x 0 (2 ^ 32 - 1) 0 (omega arith) (omega arith, omega 
 -- words below 2 ^ 32
 pub record AreShifts (shift : IntervalShift) (by : ℕ → ℕ → ℕ) : Type 0 where
   pub have : (x a b p n : ℕ) → p ≤ 2 → Lies x a b p → b < 2 ^ 32 → Among (by x n) (interval_words (shift a b p n))
-  pub grow : (a b p n a2 b2 p2 : ℕ) → p ≤ 2 → b < 2 ^ 32 → a2 ≤ a → b ≤ b2 → p2 ≤ p → Within (interval_words (shift a b p n)) (interval_words (shift a2 b2 p2 n))
+  pub grow : (a b p n a2 b2 p2 : ℕ) → p ≤ 2 → b < 2 ^ 32 → a2 ≤ a → b ≤ b2 → p2 ≤ p → AreAmong (interval_words (shift a b p n)) (interval_words (shift a2 b2 p2 n))
   pub below : (a b p n z : ℕ) → p ≤ 2 → b < 2 ^ 32 → Among z (interval_words (shift a b p n)) → z < 2 ^ 32
   pub word : (x n : ℕ) → x < 2 ^ 32 → by x n < 2 ^ 32
   pub small : (a b p n : ℕ) → (shift a b p n).step ≤ 2
@@ -285,7 +285,7 @@ span_not_below b lo last s ws vs vw below =
     let few : length ws ≤ b.most_words = (set_value b ws vw.well).1 vw in
     absurd (omega (arith, span_count b lo last s vs, length-multiples (span_len lo last s) (first_member_quotient lo s) (2 ^ s)))
 
-into_all : (xs : List ℕ) → ((z : ℕ) → Among z xs → z < 2 ^ 32) → Within xs (words_of_all_multiples 0)
+into_all : (xs : List ℕ) → ((z : ℕ) → Among z xs → z < 2 ^ 32) → AreAmong xs (words_of_all_multiples 0)
 into_all xs below z i = all_have z (below z i)
 
 all_below : (z s : ℕ) → s ≤ 2 → Among z (words_of_all_multiples s) → z < 2 ^ 32
@@ -296,8 +296,8 @@ by_below are v (Set (y ∷ [])) wv z i = are.below (least_member v) (greatest_me
 by_below are v _ wv z i = all_below z 0 (omega arith) i
 
 by_one : {shift : IntervalShift} {by : ℕ → ℕ → ℕ} (are : AreShifts shift by) (b : Limits) (v w v2 : Val) (y : ℕ) → IsInLattice b v → IsInLattice b w → IsInLattice b v2 → IsInLattice b (Set (y ∷ []))
-    → Within (members v) (members v2) → Within (members w) (y ∷ [])
-    → Within (interval_words (shifted_interval shift (least_member v) (greatest_member v) (step_of_value v) w)) (interval_words (shifted_interval shift (least_member v2) (greatest_member v2) (step_of_value v2) (Set (y ∷ []))))
+    → AreAmong (members v) (members v2) → AreAmong (members w) (y ∷ [])
+    → AreAmong (interval_words (shifted_interval shift (least_member v) (greatest_member v) (step_of_value v) w)) (interval_words (shifted_interval shift (least_member v2) (greatest_member v2) (step_of_value v2) (Set (y ∷ []))))
 by_one are b v (Set []) v2 y vv vw vv2 vy there here = absurd (omega (arith, vw.well.some))
 by_one are b v (Set (u ∷ [])) v2 y vv vw vv2 vy there here =
     let e : u ≡ y = elim (here u (inl refl)) [ inl e ↦ e | inr n ↦ absurd n ] in
@@ -312,15 +312,15 @@ by_one are b v (Span lo last s) v2 y vv vw vv2 vy there here =
     absurd (span_not_below b lo last s (y ∷ []) vw vy (λ z m. here z (among_member (Span lo last s) z vw.well.0 m)))
 
 by_grows : {shift : IntervalShift} {by : ℕ → ℕ → ℕ} (are : AreShifts shift by) (b : Limits) (v w v2 w2 : Val) → IsInLattice b v → IsInLattice b w → IsInLattice b v2 → IsInLattice b w2
-    → Within (members v) (members v2) → Within (members w) (members w2)
-    → Within (interval_words (shifted_interval shift (least_member v) (greatest_member v) (step_of_value v) w)) (interval_words (shifted_interval shift (least_member v2) (greatest_member v2) (step_of_value v2) w2))
+    → AreAmong (members v) (members v2) → AreAmong (members w) (members w2)
+    → AreAmong (interval_words (shifted_interval shift (least_member v) (greatest_member v) (step_of_value v) w)) (interval_words (shifted_interval shift (least_member v2) (greatest_member v2) (step_of_value v2) w2))
 by_grows are b v w v2 (Set []) vv vw vv2 vw2 there here = absurd (omega (arith, vw2.well.some))
 by_grows are b v w v2 (Set (y ∷ [])) vv vw vv2 vw2 there here = by_one are b v w v2 y vv vw vv2 vw2 there here
 by_grows {shift} are b v w v2 (Set (y ∷ u ∷ ys)) vv vw vv2 vw2 there here = into_all (interval_words (shifted_interval shift (least_member v) (greatest_member v) (step_of_value v) w)) (by_below are v w vv.well)
 by_grows {shift} are b v w v2 (Span lo last s) vv vw vv2 vw2 there here = into_all (interval_words (shifted_interval shift (least_member v) (greatest_member v) (step_of_value v) w)) (by_below are v w vv.well)
 
-pub row_grows : (b : Limits) (op : Op) (v w v2 w2 : Val) → IsInLattice b v → IsInLattice b w → IsInLattice b v2 → IsInLattice b w2 → Within (members v) (members v2) → Within (members w) (members w2)
-    → Within (results_by_extents op v w) (results_by_extents op v2 w2)
+pub row_grows : (b : Limits) (op : Op) (v w v2 w2 : Val) → IsInLattice b v → IsInLattice b w → IsInLattice b v2 → IsInLattice b w2 → AreAmong (members v) (members v2) → AreAmong (members w) (members w2)
+    → AreAmong (results_by_extents op v w) (results_by_extents op v2 w2)
 unfolding results_by_extents result_interval is_comparison
 row_grows b Second v w v2 w2 vv vw vv2 vw2 there here = here
 row_grows b Add v w v2 w2 vv vw vv2 vw2 there here =
@@ -348,7 +348,7 @@ pub some_results : (op : Op) (v w : Val) → IsWellFormed v → IsWellFormed w �
 some_results op v w wv ww =
     some_length (possible_results op v w) (alu_of op (least_member v) (least_member w)) (results_have op v w wv ww (least_member v) (least_member w) (bounds_of v wv).low_in (bounds_of w ww).low_in)
 
-pub within_members : (b : Limits) (v w : Val) → IsInLattice b v → IsInLattice b w → IsBelow v w → Within (members v) (members w)
+pub within_members : (b : Limits) (v w : Val) → IsInLattice b v → IsInLattice b w → IsBelow v w → AreAmong (members v) (members w)
 within_members b v w vv vw below z i = among_member w z (has_step w vw.well) (below z (member_among v z (has_step v vv.well) i))
 
 -- if both are Sets, each result is a result of the larger pair
@@ -485,7 +485,7 @@ results_more b v out op x i ys well h e =
 
 -- ---- words that were met lately
 -- what a value has stays when words are added to it
-stays : (b : Limits) (v : Val) (xs : List ℕ) (y : ℕ) → IsWellFormed v → Within (members v) xs → IsMember y v → IsMember y (cover b xs)
+stays : (b : Limits) (v : Val) (xs : List ℕ) (y : ℕ) → IsWellFormed v → AreAmong (members v) xs → IsMember y v → IsMember y (cover b xs)
 stays b v xs y well there m = cover_holds b xs y (there y (among_member v y (has_step v well) m))
 
 pub met_more : (b : Limits) (v : Val) (ms : List ℕ) (k z : ℕ) → IsWellFormed v → k < length ms → HasMembers v ms → HasMembers (cover b (z ∷ members v)) (set ms k z)
@@ -522,7 +522,7 @@ same_next ms ws k i j missed before none n lt =
     ]
 
 -- words that equal some that were added lately are among these
-same_within : (ms ws : List ℕ) (k i n : ℕ) → k + n ≤ length ms → ((m : ℕ) → m < n → get_or ms (k + m) 0 ≡ get_or ws (i + m) 0) → Within (take n (drop i ws)) ms
+same_within : (ms ws : List ℕ) (k i n : ℕ) → k + n ≤ length ms → ((m : ℕ) → m < n → get_or ms (k + m) 0 ≡ get_or ws (i + m) 0) → AreAmong (take n (drop i ws)) ms
 same_within ms ws k i n fits same z a =
     let p = among_place (take n (drop i ws)) z a in
     let lt : p.0 < n = omega (arith, p.1, length-take n (drop i ws)) in
@@ -537,7 +537,7 @@ words_next b v out words i j n well e same =
     ∙ cover-part b (members v ++ take i words) (take n (drop i words)) (omega (arith, length-append (members v) (take i words), some_members v well))
     ∙ ap (cover b) (append_assoc (members v) (take i words) (take n (drop i words)) ∙ ap (λ (l : List ℕ). members v ++ l) (sym (take-add i n words) ∙ ap (λ (k : ℕ). take k words) (sym e)))
 
-pub met_all : (b : Limits) (v : Val) (ms ws : List ℕ) → IsInLattice b v → HasMembers v ms → Within ws ms → v ≡ cover b (members v ++ ws)
+pub met_all : (b : Limits) (v : Val) (ms ws : List ℕ) → IsInLattice b v → HasMembers v ms → AreAmong ws ms → v ≡ cover b (members v ++ ws)
 met_all b v ms ws value met within =
     sym value.own
     ∙ cover-same b (members v) (members v ++ ws)

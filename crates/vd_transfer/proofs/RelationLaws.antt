@@ -11,7 +11,7 @@ use Rattle.value_domain.specs.Values.{IsInLattice, members}
 use Rattle.value_domain.proofs.RangeLaws.{some_members}
 use Rattle.vd_transfer.specs.declared.refinement.Relation.{Relation}
 use Rattle.vd_transfer.specs.declared.refinement.Relation.TheVariants.{Same, Other}
-use Rattle.vd_transfer.specs.Relations.{is_related, related_words, relation_on_side, converse}
+use Rattle.vd_transfer.specs.Relations.{is_related, related_words, operand_relation, converse}
 use Rattle.vd_transfer.specs.Signs.{is_signed_condition, signed_related_words}
 use Rattle.vd_transfer.specs.Branches.{is_side_taken_by_equal_words}
 use Rattle.vd_transfer.specs.Refinement.{is_side_taken, kept_left_words, kept_right_words, kept_self_compared_words}
@@ -36,8 +36,8 @@ eqb_swapped x y =
     ]
 
 -- the relation of a condition's side
-pub related_holds : (c : Cond) (side : Bool) (x y : ℕ) → is_signed_condition c ≡ false → is_related (relation_on_side c side) x y ≡ is_side_taken c side x y
-unfolding is_related relation_on_side is_signed_condition taken_of
+pub related_holds : (c : Cond) (side : Bool) (x y : ℕ) → is_signed_condition c ≡ false → is_related (operand_relation c side) x y ≡ is_side_taken c side x y
+unfolding is_related operand_relation is_signed_condition taken_of
 related_holds cond.Eq true x y e = refl
 related_holds cond.Eq false x y e = refl
 related_holds cond.Ne true x y e = refl
@@ -50,8 +50,8 @@ related_holds cond.GeU true x y e = refl
 related_holds cond.GeU false x y e = sym (not_leb y x)
 
 -- the laws in the signed order
-pub related_signed : (c : Cond) (side : Bool) (x y : ℕ) → is_signed_condition c ≡ true → is_related (relation_on_side c side) (signed_rank x) (signed_rank y) ≡ is_side_taken c side x y
-unfolding is_related relation_on_side is_signed_condition taken_of
+pub related_signed : (c : Cond) (side : Bool) (x y : ℕ) → is_signed_condition c ≡ true → is_related (operand_relation c side) (signed_rank x) (signed_rank y) ≡ is_side_taken c side x y
+unfolding is_related operand_relation is_signed_condition taken_of
 related_signed cond.Eq side x y e = cc
 related_signed cond.Ne side x y e = cc
 related_signed cond.Lt true x y e = refl
@@ -68,8 +68,8 @@ converse_related Other x y = ap not (eqb_swapped x y)
 converse_related _ x y = refl
 
 -- a signed condition isn't equality
-pub signed_order : (c : Cond) (side : Bool) → is_signed_condition c ≡ true → relation_on_side c side ≡ Same → ⊥
-unfolding relation_on_side is_signed_condition
+pub signed_order : (c : Cond) (side : Bool) → is_signed_condition c ≡ true → operand_relation c side ≡ Same → ⊥
+unfolding operand_relation is_signed_condition
 signed_order cond.Eq side e f = absurd (let g : false ≡ true = e in cc)
 signed_order cond.Ne side e f = absurd (let g : false ≡ true = e in cc)
 signed_order cond.Lt true e f = cc
@@ -93,21 +93,21 @@ filter_same : (p q : ℕ → Bool) (vs : List ℕ) → ((x : ℕ) → p x ≡ q 
 filter_same p q [] h = refl
 filter_same p q (v ∷ vs) h = rw (h v, filter_same p q vs h) refl
 
-pub left_plain : (c : Cond) (side : Bool) (vs ws : List ℕ) → is_signed_condition c ≡ false → related_words (relation_on_side c side) vs ws ≡ kept_left_words c side vs ws
+pub left_plain : (c : Cond) (side : Bool) (vs ws : List ℕ) → is_signed_condition c ≡ false → related_words (operand_relation c side) vs ws ≡ kept_left_words c side vs ws
 unfolding related_words kept_left_words
 left_plain c side vs ws e = filter_same _ _ vs (λ x. any_same _ _ ws (λ y. related_holds c side x y e))
 
-pub left_signed : (c : Cond) (side : Bool) (vs ws : List ℕ) → is_signed_condition c ≡ true → signed_related_words (relation_on_side c side) vs ws ≡ kept_left_words c side vs ws
+pub left_signed : (c : Cond) (side : Bool) (vs ws : List ℕ) → is_signed_condition c ≡ true → signed_related_words (operand_relation c side) vs ws ≡ kept_left_words c side vs ws
 unfolding signed_related_words kept_left_words
 left_signed c side vs ws e = filter_same _ _ vs (λ x. any_same _ _ ws (λ y. related_signed c side x y e))
 
-pub right_plain : (c : Cond) (side : Bool) (vs ws : List ℕ) → is_signed_condition c ≡ false → related_words (converse (relation_on_side c side)) ws vs ≡ kept_right_words c side vs ws
+pub right_plain : (c : Cond) (side : Bool) (vs ws : List ℕ) → is_signed_condition c ≡ false → related_words (converse (operand_relation c side)) ws vs ≡ kept_right_words c side vs ws
 unfolding related_words kept_right_words
-right_plain c side vs ws e = filter_same _ _ ws (λ y. any_same _ _ vs (λ x. converse_related (relation_on_side c side) x y ∙ related_holds c side x y e))
+right_plain c side vs ws e = filter_same _ _ ws (λ y. any_same _ _ vs (λ x. converse_related (operand_relation c side) x y ∙ related_holds c side x y e))
 
-pub right_signed : (c : Cond) (side : Bool) (vs ws : List ℕ) → is_signed_condition c ≡ true → signed_related_words (converse (relation_on_side c side)) ws vs ≡ kept_right_words c side vs ws
+pub right_signed : (c : Cond) (side : Bool) (vs ws : List ℕ) → is_signed_condition c ≡ true → signed_related_words (converse (operand_relation c side)) ws vs ≡ kept_right_words c side vs ws
 unfolding signed_related_words kept_right_words
-right_signed c side vs ws e = filter_same _ _ ws (λ y. any_same _ _ vs (λ x. converse_related (relation_on_side c side) (signed_rank x) (signed_rank y) ∙ related_signed c side x y e))
+right_signed c side vs ws e = filter_same _ _ ws (λ y. any_same _ _ vs (λ x. converse_related (operand_relation c side) (signed_rank x) (signed_rank y) ∙ related_signed c side x y e))
 
 -- ---- one register twice
 ltb_self : (z : ℕ) → ltb z z ≡ false

@@ -4,7 +4,7 @@ use Rattle.std.proofs.lemmas.Bool.{cases_lt, lt-ltb, le-ltb, le-leb, lt-leb}
 use Rattle.std.proofs.lemmas.Nat.{and_le_l, and_le_r, shr_le}
 use Rattle.std.proofs.Math.Pow.{shr_mono}
 use Rattle.std.proofs.Math.Nat.{mul-le-mul_right}
-use Rattle.value_domain.specs.Sets.{Among, Within, alignment_log2}
+use Rattle.value_domain.specs.Sets.{Among, AreAmong, alignment_log2}
 use Rattle.value_domain.specs.Values.{multiples_in_range}
 use Rattle.value_domain.proofs.CoverLaws.{range_among, among_range, from_units}
 use Rattle.tc_isa.specs.Arithmetic.{logical_shift}
@@ -12,7 +12,7 @@ use Rattle.vd_transfer.specs.Intervals.{sum_interval, difference_interval, logic
 use Rattle.vd_transfer.proofs.Steps.{twos_add, twos_sub, twos_mod, twos_and_both, twos_shift}
 
 -- a range inside another
-pub range_inside : (lo last s lo2 last2 s2 : ℕ) → s ≤ 2 → lo2 ≤ lo → last ≤ last2 → s2 ≤ s → Within (multiples_in_range lo last s) (multiples_in_range lo2 last2 s2)
+pub range_inside : (lo last s lo2 last2 s2 : ℕ) → s ≤ 2 → lo2 ≤ lo → last ≤ last2 → s2 ≤ s → AreAmong (multiples_in_range lo last s) (multiples_in_range lo2 last2 s2)
 range_inside lo last s lo2 last2 s2 small a b c z i =
     let m = range_among z lo last s small i in
     among_range z lo2 last2 s2 (omega arith) (omega (arith, m.0), omega (arith, m.1), omega (arith, m.2))
@@ -42,7 +42,7 @@ sums_have x y a b c d m small lx ly bb dd =
     ]
 
 pub sums_grow : (a b c d m a2 b2 c2 d2 m2 : ℕ) → m ≤ 2 → m2 ≤ m → a ≤ b → c ≤ d → a2 ≤ a → b ≤ b2 → c2 ≤ c → d ≤ d2 → b2 < 2 ^ 32 → d2 < 2 ^ 32
-    → Within (interval_words (sum_interval a b c d m)) (interval_words (sum_interval a2 b2 c2 d2 m2))
+    → AreAmong (interval_words (sum_interval a b c d m)) (interval_words (sum_interval a2 b2 c2 d2 m2))
 unfolding sum_interval
 sums_grow a b c d m a2 b2 c2 d2 m2 small step ab cd la hb lc hd bb dd =
     elim (cases_lt (b2 + d2) (2 ^ 32)) [
@@ -75,7 +75,7 @@ ands_have x y b d p q sp sq hx hy fx fy =
     among_range (bit_and x y) 0 (min b d) (max p q) (omega arith)
     (omega arith, omega (arith, and_le_l x y, and_le_r x y), twos_and_both x y p q sp sq fx fy)
 
-pub ands_grow : (b d p q b2 d2 p2 q2 : ℕ) → p ≤ 2 → q ≤ 2 → b ≤ b2 → d ≤ d2 → p2 ≤ p → q2 ≤ q → Within (multiples_in_range 0 (min b d) (max p q)) (multiples_in_range 0 (min b2 d2) (max p2 q2))
+pub ands_grow : (b d p q b2 d2 p2 q2 : ℕ) → p ≤ 2 → q ≤ 2 → b ≤ b2 → d ≤ d2 → p2 ≤ p → q2 ≤ q → AreAmong (multiples_in_range 0 (min b d) (max p q)) (multiples_in_range 0 (min b2 d2) (max p2 q2))
 ands_grow b d p q b2 d2 p2 q2 sp sq hb hd hp hq = range_inside 0 (min b d) (max p q) 0 (min b2 d2) (max p2 q2) (omega arith) (omega arith) (omega arith) (omega arith)
 
 -- ---- Sh by n
@@ -103,7 +103,7 @@ shifts_have x a b p n small l bb =
           (shr_mono (64 - n) l.from, shr_mono (64 - n) l.to, omega arith))
     ]
 
-pub shifts_grow : (a b p n a2 b2 p2 : ℕ) → p ≤ 2 → a2 ≤ a → b ≤ b2 → p2 ≤ p → Within (interval_words (logical_shift_interval a b p n)) (interval_words (logical_shift_interval a2 b2 p2 n))
+pub shifts_grow : (a b p n a2 b2 p2 : ℕ) → p ≤ 2 → a2 ≤ a → b ≤ b2 → p2 ≤ p → AreAmong (interval_words (logical_shift_interval a b p n)) (interval_words (logical_shift_interval a2 b2 p2 n))
 unfolding logical_shift_interval
 shifts_grow a b p n a2 b2 p2 small la hb hp =
     let low : a2 * 2 ^ n ≤ a * 2 ^ n = mul-le-mul_right (2 ^ n) la in
@@ -169,7 +169,7 @@ differences_have x y a b c d m small lx ly bb dd =
     le_trans_2 m small = let t : 2 ≤ alignment_log2 (2 ^ 32) = from_units 2 (omega arith) (2 ^ 30) (2 ^ 32) refl in omega arith
 
 pub differences_grow : (a b c d m a2 b2 c2 d2 m2 : ℕ) → m ≤ 2 → m2 ≤ m → a ≤ b → c ≤ d → a2 ≤ a → b ≤ b2 → c2 ≤ c → d ≤ d2 → b2 < 2 ^ 32 → d2 < 2 ^ 32
-    → Within (interval_words (difference_interval a b c d m)) (interval_words (difference_interval a2 b2 c2 d2 m2))
+    → AreAmong (interval_words (difference_interval a b c d m)) (interval_words (difference_interval a2 b2 c2 d2 m2))
 unfolding difference_interval
 differences_grow a b c d m a2 b2 c2 d2 m2 small step ab cd la hb lc hd bb dd =
     elim (cases_lt a2 d2) [

@@ -29,8 +29,8 @@ state_with_increased_base b p s (Reg r) offset after = if after then state_after
 state_with_increased_base b p s (Word w) offset after = s
 
 -- the addresses of an access: base plus offset, or the base alone with post-increment
-abbrev pub access_of : Limits → PlanData → State → Arg → ℕ → Bool → Val
-access_of b p s base offset after = if after then arg_of p s base else operation_value b Add (arg_of p s base) (word_val offset)
+abbrev pub address_by_mode : Limits → PlanData → State → Arg → ℕ → Bool → Val
+address_by_mode b p s base offset after = if after then arg_of p s base else operation_value b Add (arg_of p s base) (word_val offset)
 
 -- a lower context is saved: the mark that the lower registers are those of the entry becomes a
 -- local
@@ -80,8 +80,8 @@ transfer_of b p Nothing s loaded = s
 
 -- the addresses that a load or a store may access in a state; any word for other instructions
 unfoldable pub address_of_access : Limits → PlanData → Shape → State → Val
-address_of_access b p (Load dst base offset size signed after) s = access_of b p s base offset after
-address_of_access b p (Store src base offset size after) s = access_of b p s base offset after
+address_of_access b p (Load dst base offset size signed after) s = address_by_mode b p s base offset after
+address_of_access b p (Store src base offset size after) s = address_by_mode b p s base offset after
 address_of_access b p _ s = any_val
 
 -- a state has room for another saved lower context if the instruction saves one, and has one if the

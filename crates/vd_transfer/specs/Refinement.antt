@@ -3,7 +3,7 @@ use Rattle.std.specs.Prelude.{ℕ, Bool, not, if◌then◌else◌, List, filter,
 use Rattle.std.specs.List.{list_any}
 use Rattle.tc_isa.specs.declared.shapes.Cond.{Cond}
 use Rattle.tc_isa.specs.Arithmetic.{taken_of, signed_rank}
-use Rattle.value_domain.specs.Sets.{Among, Within}
+use Rattle.value_domain.specs.Sets.{Among, AreAmong}
 use Rattle.vd_transfer.specs.declared.refinement.Relation.{Relation}
 use Rattle.vd_transfer.specs.Relations.{is_related, related_words}
 use Rattle.vd_transfer.specs.Signs.{signed_related_words}
@@ -31,11 +31,11 @@ kept_self_compared_words cond side zs = filter (λ z. is_side_taken cond side z 
 -- grows with both lists. The order of words is unsigned or signed.
 pub record HasSoundMonotoneRefinement (rel : Relation) : Type 0 where
   pub sound : (vs ws : List ℕ) (x y : ℕ) → Among x vs → Among y ws → is_related rel x y ≡ true → Among x (related_words rel vs ws)
-  pub monotone : (vs ws vs2 ws2 : List ℕ) → Within vs vs2 → Within ws ws2 → Within (related_words rel vs ws) (related_words rel vs2 ws2)
+  pub monotone : (vs ws vs2 ws2 : List ℕ) → AreAmong vs vs2 → AreAmong ws ws2 → AreAmong (related_words rel vs ws) (related_words rel vs2 ws2)
   pub signed_sound :
       (vs ws : List ℕ) (x y : ℕ) → Among x vs → Among y ws → is_related rel (signed_rank x) (signed_rank y) ≡ true
       → Among x (signed_related_words rel vs ws)
-  pub signed_monotone : (vs ws vs2 ws2 : List ℕ) → Within vs vs2 → Within ws ws2 → Within (signed_related_words rel vs ws) (signed_related_words rel vs2 ws2)
+  pub signed_monotone : (vs ws vs2 ws2 : List ℕ) → AreAmong vs vs2 → AreAmong ws ws2 → AreAmong (signed_related_words rel vs ws) (signed_related_words rel vs2 ws2)
 
 -- refinement by each relation is sound and monotone
 abbrev pub RefinementIsSoundAndMonotone : Type 0

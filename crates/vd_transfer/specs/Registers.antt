@@ -57,8 +57,8 @@ abbrev pub state_after_reg_write : State → ℕ → Val → State
 state_after_reg_write s r v = record (with_reg_value s r v) { lower = s.lower && not (is_lower_register r) }
 
 -- states have a value for the register: the number is none of A0, A1, A8, A9 and A11
-abbrev pub RegisterHasValue : ℕ → Type 0
-RegisterHasValue r = IsSome (register_slot r)
+abbrev pub IsNotFixedRegister : ℕ → Type 0
+IsNotFixedRegister r = IsSome (register_slot r)
 
 -- the state with a value in the register that an operand names; unchanged for a constant
 abbrev pub with_arg_value : State → Arg → Val → State
@@ -72,17 +72,17 @@ arg_slot (Word w) = None
 
 -- if the access increases its base register, as `after` says, states have a value for it
 abbrev pub IncreasesNoFixedRegister : Arg → Bool → Type 0
-IncreasesNoFixedRegister (Reg r) after = IsTrue after → RegisterHasValue r
+IncreasesNoFixedRegister (Reg r) after = IsTrue after → IsNotFixedRegister r
 IncreasesNoFixedRegister (Word w) after = Unit {0}
 
 -- states have a value for each register that the instruction writes, and the instruction isn't MTCR
 abbrev pub WritesNoFixedRegister : Shape → Type 0
-WritesNoFixedRegister (Compute op dst x y) = RegisterHasValue dst
-WritesNoFixedRegister (Scaled dst base index n) = RegisterHasValue dst
-WritesNoFixedRegister (Load dst base offset size signed after) = RegisterHasValue dst × IncreasesNoFixedRegister base after
+WritesNoFixedRegister (Compute op dst x y) = IsNotFixedRegister dst
+WritesNoFixedRegister (Scaled dst base index n) = IsNotFixedRegister dst
+WritesNoFixedRegister (Load dst base offset size signed after) = IsNotFixedRegister dst × IncreasesNoFixedRegister base after
 WritesNoFixedRegister (Store src base offset size after) = IncreasesNoFixedRegister base after
-WritesNoFixedRegister (Branch cond x y by lowers) = IsTrue lowers → RegisterHasValue x
-WritesNoFixedRegister (Mfcr dst number) = RegisterHasValue dst
+WritesNoFixedRegister (Branch cond x y by lowers) = IsTrue lowers → IsNotFixedRegister x
+WritesNoFixedRegister (Mfcr dst number) = IsNotFixedRegister dst
 WritesNoFixedRegister (Mtcr src number) = ⊥
 WritesNoFixedRegister _ = Unit {0}
 

@@ -7,13 +7,13 @@ use Rattle.vd_transfer.specs.declared.refinement.Relation.TheVariants.{Same, Oth
 use Rattle.std.specs.List.{list_any}
 
 -- the relation that a branch's operands are in if the branch is taken (the side is true) or isn't
-unfoldable pub relation_on_side : Cond → Bool → Relation
-relation_on_side cond.Eq side = if side then Same else Other
-relation_on_side cond.Ne side = if side then Other else Same
-relation_on_side cond.Lt side = if side then Less else AtLeast
-relation_on_side cond.LtU side = if side then Less else AtLeast
-relation_on_side cond.Ge side = if side then AtLeast else Less
-relation_on_side cond.GeU side = if side then AtLeast else Less
+unfoldable pub operand_relation : Cond → Bool → Relation
+operand_relation cond.Eq side = if side then Same else Other
+operand_relation cond.Ne side = if side then Other else Same
+operand_relation cond.Lt side = if side then Less else AtLeast
+operand_relation cond.LtU side = if side then Less else AtLeast
+operand_relation cond.Ge side = if side then AtLeast else Less
+operand_relation cond.GeU side = if side then AtLeast else Less
 
 -- the relation with its operands exchanged
 unfoldable pub converse : Relation → Relation

@@ -6,7 +6,7 @@ use Rattle.tc_isa.specs.declared.shapes.Cond.{Cond}
 use Rattle.tc_isa.specs.declared.shapes.Shape.{Shape}
 use Rattle.tc_isa.specs.declared.shapes.Shape.TheVariants.{Load, Store, Branch, Jump, Call, Ret, Rfe, Rslcx, Syscall}
 use Rattle.tc_isa.specs.Arithmetic.{taken_of}
-use Rattle.tc_isa.specs.InBounds.{IsShape, IsArg}
+use Rattle.tc_isa.specs.InBounds.{IsShapeInBounds, IsArgInBounds}
 use Rattle.value_domain.specs.declared.values.Val.{Val}
 use Rattle.value_domain.specs.declared.states.State.{State}
 use Rattle.value_domain.specs.Limits.{Limits, AreLimits}
@@ -47,7 +47,7 @@ LoadedIsMember _ input loaded = Unit {0}
 abbrev pub TransferIsSound : Type 0
 TransferIsSound =
     (b : Limits) (p : PlanData) (shape : Shape) (s : State) (loaded : Val) (word : ℕ → ℕ) (ie : Bool) (ccpn input : ℕ) → MeetSoundnessPremises b p s
-    → IsShape shape → WritesNoFixedRegister shape → IsStraightLine shape → input < 2 ^ 32 → LoadedIsMember shape input loaded → Holds p word ie ccpn s
+    → IsShapeInBounds shape → WritesNoFixedRegister shape → IsStraightLine shape → input < 2 ^ 32 → LoadedIsMember shape input loaded → Holds p word ie ccpn s
     → Holds p (words_after shape input word) (ie_after shape ie) (ccpn_after shape ccpn) (transfer_of b p shape s loaded)
 
 -- after a lower context was restored, the changed state holds the words, whatever the context had
@@ -60,7 +60,7 @@ RestoreIsSound =
 abbrev pub BranchIsSound : Type 0
 BranchIsSound =
     (b : Limits) (p : PlanData) (cond : Cond) (x : ℕ) (y : Arg) (by : ℕ) (lowers : Bool) (s : State) (side : Bool) (word : ℕ → ℕ) (ie : Bool) (ccpn : ℕ)
-    → MeetSoundnessPremises b p s → IsShape (Branch cond x y by lowers) → WritesNoFixedRegister (Branch cond x y by lowers) → Holds p word ie ccpn s
+    → MeetSoundnessPremises b p s → IsShapeInBounds (Branch cond x y by lowers) → WritesNoFixedRegister (Branch cond x y by lowers) → Holds p word ie ccpn s
     → taken_of cond (word x) (operand_word word y) ≡ side
     → IsSomeAnd (refine_of b p (Branch cond x y by lowers) s side) (Holds p (words_after (Branch cond x y by lowers) 0 word) ie ccpn)
 
@@ -68,9 +68,9 @@ BranchIsSound =
 pub record AddressIsSound : Type 0 where
   pub load :
       (b : Limits) (p : PlanData) (dst : ℕ) (base : Arg) (offset size : ℕ) (signed after : Bool) (s : State) (word : ℕ → ℕ) (ie : Bool) (ccpn : ℕ)
-      → MeetSoundnessPremises b p s → IsArg base → offset < 2 ^ 32 → Holds p word ie ccpn s
+      → MeetSoundnessPremises b p s → IsArgInBounds base → offset < 2 ^ 32 → Holds p word ie ccpn s
       → IsMember (accessed_address word base offset after) (address_of_access b p (Load dst base offset size signed after) s)
   pub store :
       (b : Limits) (p : PlanData) (src : ℕ) (base : Arg) (offset size : ℕ) (after : Bool) (s : State) (word : ℕ → ℕ) (ie : Bool) (ccpn : ℕ)
-      → MeetSoundnessPremises b p s → IsArg base → offset < 2 ^ 32 → Holds p word ie ccpn s
+      → MeetSoundnessPremises b p s → IsArgInBounds base → offset < 2 ^ 32 → Holds p word ie ccpn s
       → IsMember (accessed_address word base offset after) (address_of_access b p (Store src base offset size after) s)

@@ -2,8 +2,8 @@
 ghost use Rattle.std.specs.Prelude.{◌≡◌};
 ghost use Rattle.value_domain.specs.Values.{IsInLattice};
 ghost use Rattle.value_domain.specs.State.{AreInLattice};
-ghost use Rattle.tc_isa.specs.InBounds.{IsShape, IsArg};
-ghost use Rattle.vd_transfer.specs.EffectsOnStates.{address_of_access, access_of};
+ghost use Rattle.tc_isa.specs.InBounds.{IsShapeInBounds, IsArgInBounds};
+ghost use Rattle.vd_transfer.specs.EffectsOnStates.{address_of_access, address_by_mode};
 
 use crate::operands::{Operation, write_arg};
 use crate::operations::evaluate_operation;
@@ -38,7 +38,7 @@ impl Addressing {
 /// with any word for other shapes.
 #[tactic(auto, unfolding(crate::specs::EffectsOnStates::address_of_access))]
 pub fn write_address_by_shape(b: &Bounds, plan: &Plan, shape: Shape, s: &State, out: &mut Val)
-    requires shape { IsShape shape }
+    requires shape { IsShapeInBounds shape }
     requires values { AreInLattice b.now s.now.regs }
     ensures address { out.new ≡ address_of_access b.now plan.now shape s.now }
     ensures value { IsInLattice b.now out.new }
@@ -65,7 +65,7 @@ pub fn write_address_by_shape(b: &Bounds, plan: &Plan, shape: Shape, s: &State, 
 /// value; any word for other shapes.
 #[inline(always)]
 pub fn address_by_shape(b: &Bounds, plan: &Plan, shape: Shape, s: &State) -> Val
-    requires shape { IsShape shape }
+    requires shape { IsShapeInBounds shape }
     requires values { AreInLattice b.now s.now.regs }
     ensures address { result ≡ address_of_access b.now plan.now shape s.now }
     ensures value { IsInLattice b.now result }
@@ -78,9 +78,9 @@ pub fn address_by_shape(b: &Bounds, plan: &Plan, shape: Shape, s: &State) -> Val
 /// Overwrites `out` with the addresses of an access by its addressing mode: base plus offset, or
 /// the base alone with post-increment.
 fn write_address_by_mode(b: &Bounds, plan: &Plan, s: &State, at: Addressing, out: &mut Val)
-    requires base { IsArg at.base }
+    requires base { IsArgInBounds at.base }
     requires values { AreInLattice b.now s.now.regs }
-    ensures access { out.new ≡ access_of b.now plan.now s.now at.base at.offset at.after }
+    ensures access { out.new ≡ address_by_mode b.now plan.now s.now at.base at.offset at.after }
     ensures value { IsInLattice b.now out.new }
 {
     if at.after {

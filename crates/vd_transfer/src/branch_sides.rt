@@ -2,10 +2,10 @@
 ghost use Rattle.std.specs.Prelude.{◌≡◌, ◌<◌, Some, None};
 ghost use Rattle.value_domain.specs.Values.{IsInLattice, word_val};
 ghost use Rattle.value_domain.specs.State.{AreInLattice};
-ghost use Rattle.tc_isa.specs.InBounds.{IsArg, IsShape};
+ghost use Rattle.tc_isa.specs.InBounds.{IsArgInBounds, IsShapeInBounds};
 ghost use Rattle.tc_isa.specs.declared.shapes.Arg.TheVariants.{Word};
 ghost use Rattle.vd_transfer.specs.Refinement.{is_side_taken};
-ghost use Rattle.vd_transfer.specs.Relations.{relation_on_side};
+ghost use Rattle.vd_transfer.specs.Relations.{operand_relation};
 ghost use Rattle.vd_transfer.specs.Branches.{is_side_taken_by_equal_words, narrowed_left_value, refine_of, state_if_possible, state_narrowed_by_values, state_with_narrowed_register, state_on_side, with_decremented_counter, with_decremented_register};
 ghost use Rattle.vd_transfer.specs.Registers.{reg_of, arg_of};
 ghost use Rattle.vd_transfer.specs.Changes.{state_after};
@@ -30,9 +30,9 @@ pub(crate) struct Comparison {
 }
 
 /// Returns the relation that a branch's operands are in on this side (true: the branch is taken).
-#[tactic(auto, unfolding(crate::specs::Relations::relation_on_side))]
+#[tactic(auto, unfolding(crate::specs::Relations::operand_relation))]
 pub(crate) fn operand_relation(cond: Cond, side: bool) -> Relation
-    ensures { result ≡ relation_on_side cond side }
+    ensures { result ≡ operand_relation cond side }
 {
     match cond {
         Cond::Eq => {
@@ -129,7 +129,7 @@ pub fn write_branch_change(
     side: bool,
     c: &mut Change,
 ) -> bool
-    requires shape { IsShape shape }
+    requires shape { IsShapeInBounds shape }
     requires values { AreInLattice b.now s.now.regs }
     ensures refine { state_if_possible result (state_after s.now c.new)
         ≡ refine_of b.now plan.now shape s.now side }
@@ -160,7 +160,7 @@ fn write_comparison_change(
     s: &State,
     c: &mut Change,
 ) -> bool
-    requires operands { (test.x < 32) × IsArg test.y }
+    requires operands { (test.x < 32) × IsArgInBounds test.y }
     requires values { AreInLattice b.now s.now.regs }
     ensures refine { state_if_possible result (state_after s.now c.new)
         ≡ with_decremented_counter b.now plan.now test.x lowers
@@ -177,7 +177,7 @@ fn write_comparison_change(
 /// Writes into `c` how a branch's comparison narrows its operands on a side. Returns false if the
 /// side isn't possible. Two single words stay as they are.
 fn narrow_operands(b: &Bounds, plan: &Plan, test: Comparison, s: &State, c: &mut Change) -> bool
-    requires operands { (test.x < 32) × IsArg test.y }
+    requires operands { (test.x < 32) × IsArgInBounds test.y }
     requires values { AreInLattice b.now s.now.regs }
     ensures refined { state_if_possible result (state_after s.now c.new)
         ≡ state_on_side b.now plan.now test.cond test.x test.y s.now test.side }
@@ -220,7 +220,7 @@ fn decrement_if_loop(b: &Bounds, plan: &Plan, x: u8, lowers: bool, s: &State, c:
 /// Narrows the operands of a branch on a side by their abstract values. One that the state has
 /// isn't copied. Returns false if the side isn't possible.
 fn narrow_by_values(b: &Bounds, plan: &Plan, test: Comparison, s: &State, c: &mut Change) -> bool
-    requires operands { (test.x < 32) × IsArg test.y }
+    requires operands { (test.x < 32) × IsArgInBounds test.y }
     requires values { AreInLattice b.now s.now.regs }
     ensures two { state_if_possible result (state_after s.now c.new)
         ≡ state_narrowed_by_values b.now test.cond test.side test.x test.y s.now
@@ -277,7 +277,7 @@ fn narrow_built_operands(
     s: &State,
     c: &mut Change,
 ) -> bool
-    requires operands { (test.x < 32) × IsArg test.y }
+    requires operands { (test.x < 32) × IsArgInBounds test.y }
     requires values { AreInLattice b.now s.now.regs }
     ensures two { state_if_possible result (state_after s.now c.new)
         ≡ state_narrowed_by_values b.now test.cond test.side test.x test.y s.now

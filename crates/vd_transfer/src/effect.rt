@@ -2,7 +2,7 @@
 ghost use Rattle.std.specs.Prelude.{◌≡◌, ◌<◌, ◌≤◌, length, true, None};
 ghost use Rattle.value_domain.specs.Values.{IsInLattice, any_val};
 ghost use Rattle.value_domain.specs.State.{AreInLattice};
-ghost use Rattle.tc_isa.specs.InBounds.{IsArg, IsShape};
+ghost use Rattle.tc_isa.specs.InBounds.{IsArgInBounds, IsShapeInBounds};
 ghost use Rattle.vd_transfer.specs.Registers.{state_after_reg_write};
 ghost use Rattle.vd_transfer.specs.EffectsOnStates.{operation_in_state, scaled_address_of, state_with_increased_base, state_after_lower_save, state_after_lower_restore, LocalsFitInstruction, transfer_of, LoadedIsInLattice};
 ghost use Rattle.vd_transfer.specs.Changes.{state_after};
@@ -36,7 +36,7 @@ pub(crate) fn write_operation_change(
     of: Operation,
     c: &mut Change,
 )
-    requires operands { IsArg of.x × IsArg of.y }
+    requires operands { IsArgInBounds of.x × IsArgInBounds of.y }
     requires values { AreInLattice b.now s.now.regs }
     ensures write { state_after s.now c.new
         ≡ state_after_reg_write s.now dst
@@ -87,7 +87,7 @@ pub(crate) fn write_scaled_address_change(
 /// Writes into `c` the change of a state by post-increment of a load or store: the offset is added
 /// to its base. Without post-increment nothing changes.
 pub(crate) fn write_post_increment_change(b: &Bounds, plan: &Plan, s: &State, at: Addressing, c: &mut Change)
-    requires base { IsArg at.base }
+    requires base { IsArgInBounds at.base }
     requires values { AreInLattice b.now s.now.regs }
     ensures base { state_after s.now c.new
         ≡ state_with_increased_base b.now plan.now s.now at.base at.offset at.after }
@@ -119,7 +119,7 @@ pub(crate) fn write_load_change(
     dst: u8,
     c: &mut Change,
 )
-    requires base { IsArg at.base }
+    requires base { IsArgInBounds at.base }
     requires values { AreInLattice b.now s.now.regs }
     requires loaded { IsInLattice b.now c.old.third.value }
     ensures write { state_after s.now c.new ≡ state_after_reg_write (state_with_increased_base b.now
@@ -192,7 +192,7 @@ pub(crate) fn write_ie_change(s: &State, ie: bool, c: &mut Change)
 /// load writes the value of the third write in `c` to its register.
 #[tactic(auto, unfolding(crate::specs::EffectsOnStates::transfer_of))]
 pub fn write_instruction_change(b: &Bounds, plan: &Plan, shape: Shape, s: &State, c: &mut Change)
-    requires shape { IsShape shape }
+    requires shape { IsShapeInBounds shape }
     requires values { AreInLattice b.now s.now.regs }
     requires loaded { LoadedIsInLattice b.now shape c.old.third.value }
     requires room { LocalsFitInstruction b.now shape s.now }

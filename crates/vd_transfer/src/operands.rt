@@ -2,7 +2,7 @@
 ghost use Rattle.std.specs.Prelude.{◌≡◌, ◌<◌, IfSome};
 ghost use Rattle.value_domain.specs.Values.{IsInLattice, word_val};
 ghost use Rattle.value_domain.specs.State.{AreInLattice};
-ghost use Rattle.tc_isa.specs.InBounds.{IsArg};
+ghost use Rattle.tc_isa.specs.InBounds.{IsArgInBounds};
 ghost use Rattle.vd_transfer.specs.Registers.{arg_of, arg_slot, is_same_register};
 ghost use Rattle.tc_isa.specs.declared.shapes.Arg.TheVariants.{Word};
 
@@ -35,7 +35,7 @@ pub(crate) fn arg_slot(a: Arg) -> Option<usize>
 /// for A0, A1, A8, A9 and A11.
 #[inline(always)]
 pub(crate) fn arg_in_state<'a>(b: &Bounds, plan: &Plan, s: &'a State, a: Arg) -> Option<&'a Val>
-    requires operand { IsArg a }
+    requires operand { IsArgInBounds a }
     requires values { AreInLattice b.now s.now.regs }
     ensures arg { IfSome result (λ v. v.now ≡ arg_of plan.now s.now a) }
     ensures value { IfSome result (λ v. IsInLattice b.now v.now) }
@@ -50,7 +50,7 @@ pub(crate) fn arg_in_state<'a>(b: &Bounds, plan: &Plan, s: &'a State, a: Arg) ->
 /// one word. For other operands returns `None`.
 #[inline(always)]
 pub fn arg_word(b: &Bounds, plan: &Plan, s: &State, a: Arg) -> Option<u32>
-    requires operand { IsArg a }
+    requires operand { IsArgInBounds a }
     requires values { AreInLattice b.now s.now.regs }
     ensures arg { IfSome result (λ w. arg_of plan.now s.now a ≡ word_val w) }
     ensures value { IfSome result (λ w. IsInLattice b.now (word_val w)) }
@@ -79,7 +79,7 @@ pub(crate) fn constant_value(b: &Bounds, w: u32) -> Val
 /// that needs none built needs no stack for one.
 #[inline(never)]
 pub(crate) fn build_arg(b: &Bounds, plan: &Plan, s: &State, a: Arg) -> Val
-    requires operand { IsArg a }
+    requires operand { IsArgInBounds a }
     requires values { AreInLattice b.now s.now.regs }
     ensures arg { result ≡ arg_of plan.now s.now a }
     ensures value { IsInLattice b.now result }
@@ -92,7 +92,7 @@ pub(crate) fn build_arg(b: &Bounds, plan: &Plan, s: &State, a: Arg) -> Val
 
 /// Overwrites `out` with the abstract value of an instruction's operand.
 pub(crate) fn write_arg(b: &Bounds, plan: &Plan, s: &State, a: Arg, out: &mut Val)
-    requires operand { IsArg a }
+    requires operand { IsArgInBounds a }
     requires values { AreInLattice b.now s.now.regs }
     ensures arg { out.new ≡ arg_of plan.now s.now a }
     ensures value { IsInLattice b.now out.new }
@@ -127,7 +127,7 @@ pub(crate) fn write_constant(b: &Bounds, x: u32, out: &mut Val)
 /// that its callers need no stack for a value.
 #[inline(never)]
 fn write_built_arg(b: &Bounds, plan: &Plan, s: &State, a: Arg, out: &mut Val)
-    requires operand { IsArg a }
+    requires operand { IsArgInBounds a }
     requires values { AreInLattice b.now s.now.regs }
     ensures arg { out.new ≡ arg_of plan.now s.now a }
     ensures value { IsInLattice b.now out.new }

@@ -6,7 +6,7 @@ ghost use Rattle.vd_transfer.specs.Operations.{possible_results, results_by_exte
 ghost use Rattle.vd_transfer.specs.Registers.{arg_of};
 ghost use Rattle.vd_transfer.specs.EffectsOnStates.{operation_in_state};
 ghost use Rattle.value_domain.specs.State.{AreInLattice};
-ghost use Rattle.tc_isa.specs.InBounds.{IsArg};
+ghost use Rattle.tc_isa.specs.InBounds.{IsArgInBounds};
 
 use crate::operands::{Operation, arg_in_state, arg_word, build_arg, write_constant};
 use crate::strided_interval::result_interval;
@@ -37,7 +37,7 @@ pub fn write_operation_value(b: &Bounds, op: Op, v: &Val, w: &Val, out: &mut Val
 /// Overwrites `out` with the abstract value of an operation on a state's operands. Single words are
 /// computed directly; a value that the state has isn't copied.
 pub(crate) fn evaluate_operation(b: &Bounds, plan: &Plan, s: &State, of: Operation, out: &mut Val)
-    requires operands { IsArg of.x × IsArg of.y }
+    requires operands { IsArgInBounds of.x × IsArgInBounds of.y }
     requires values { AreInLattice b.now s.now.regs }
     ensures of { out.new ≡ operation_in_state b.now plan.now s.now of.op of.x of.y }
     ensures value { IsInLattice b.now out.new }
@@ -310,7 +310,7 @@ fn join_result(b: &Bounds, v: &mut Val, met: &mut [u32; 512], z: u32)
 /// Evaluates an operation as `evaluate_operation` does, from abstract values. One that the state
 /// has isn't copied; any other is built first.
 fn evaluate_on_state_values(b: &Bounds, plan: &Plan, s: &State, of: Operation, out: &mut Val)
-    requires operands { IsArg of.x × IsArg of.y }
+    requires operands { IsArgInBounds of.x × IsArgInBounds of.y }
     requires values { AreInLattice b.now s.now.regs }
     ensures of { out.new ≡ operation_in_state b.now plan.now s.now of.op of.x of.y }
     ensures value { IsInLattice b.now out.new }
@@ -328,7 +328,7 @@ fn evaluate_on_state_values(b: &Bounds, plan: &Plan, s: &State, of: Operation, o
 /// have the value of the right operand.
 #[inline(never)]
 fn evaluate_built_right(b: &Bounds, plan: &Plan, s: &State, of: Operation, v: &Val, out: &mut Val)
-    requires operand { IsArg of.y }
+    requires operand { IsArgInBounds of.y }
     requires values { AreInLattice b.now s.now.regs }
     requires left { IsInLattice b.now v.now }
     ensures of { out.new ≡ operation_value b.now of.op v.now (arg_of plan.now s.now of.y) }
@@ -341,7 +341,7 @@ fn evaluate_built_right(b: &Bounds, plan: &Plan, s: &State, of: Operation, v: &V
 /// left operand.
 #[inline(never)]
 fn evaluate_built_both(b: &Bounds, plan: &Plan, s: &State, of: Operation, out: &mut Val)
-    requires operands { IsArg of.x × IsArg of.y }
+    requires operands { IsArgInBounds of.x × IsArgInBounds of.y }
     requires values { AreInLattice b.now s.now.regs }
     ensures of { out.new ≡ operation_in_state b.now plan.now s.now of.op of.x of.y }
     ensures value { IsInLattice b.now out.new }

@@ -1,7 +1,7 @@
 // The call graph of frames, by the numbers of its nodes: which nodes are reached from which. Its
 // edges are entries of frames by calls, interrupts and traps.
 ghost use Rattle.std.specs.Prelude.{◌≡◌, ◌<◌, ◌↔◌, ℕ, IsTrue, IfOk, OnOk, length, slice_index_or, false, Contains, [], ◌∷◌, ◌+◌};
-ghost use Rattle.frame_places.specs.NodeGraph.{AddsEdges, AddsPredecessor, ArePredecessorsBelow, AreEdgesBelow, AreEdgesOfRows, AreReachingMarks, AreReachingByPredecessors, ArePredecessors, HasMarkedSuccessor, IsFirstRecursiveNodeBefore, IsFirstRecursiveNode, IsRecursiveNode, MarksAndQueues, FinishesMarking, IsNodeMarked};
+ghost use Rattle.frame_places.specs.NodeGraph.{AddsEdges, AddsPredecessor, ArePredecessorsBelow, AreEdgesBelow, AreEdgesOfRows, AreReachingMarks, AreReachingByPredecessors, ArePredecessors, HasMarkedSuccessor, IsFirstRecursiveNodeBefore, IsFirstRecursiveNode, IsRecursiveNode, MarksAndQueuesUnmarked, CompletesBackwardSearch, IsNodeMarked};
 
 use crate::needs::ranks::are_ranks_rising;
 use crate::needs::row::NeedRow;
@@ -154,7 +154,7 @@ fn mark_reaching_nodes(
     sources: &IndexMap<usize, Vec<usize>>,
 ) -> Result<(), AllocError>
     requires { ArePredecessorsBelow sources.now (length marks.old) }
-    ensures { OnOk result (FinishesMarking sources.now marks.old marks.new work.old.items) }
+    ensures { OnOk result (CompletesBackwardSearch sources.now marks.old marks.new work.old.items) }
 {
     while let Some(node) = work.pop() {
         if let Some(list) = sources.get(&node) {
@@ -171,7 +171,7 @@ fn mark_and_queue_nodes(
     nodes: &[usize],
 ) -> Result<(), AllocError>
     requires { (k : ℕ) → Contains nodes.now k → k < length marks.old }
-    ensures { OnOk result (MarksAndQueues nodes.now marks.old marks.new work.old.items
+    ensures { OnOk result (MarksAndQueuesUnmarked nodes.now marks.old marks.new work.old.items
         work.new.items) }
 {
     for node in nodes {
@@ -188,7 +188,7 @@ fn mark_and_queue_node(
 ) -> Result<(), AllocError>
     requires { node < length marks.old }
     ensures { OnOk result
-        (MarksAndQueues (node ∷ []) marks.old marks.new work.old.items work.new.items) }
+        (MarksAndQueuesUnmarked (node ∷ []) marks.old marks.new work.old.items work.new.items) }
 {
     if !marks[node] {
         marks[node] = true;

@@ -8,7 +8,7 @@ use Rattle.cfg_recover.specs.RulesHoldOrFail.{Accepts}
 use Rattle.tcd_text.specs.HexNumbers.{hex_number_of}
 use Rattle.tc_disasm.specs.Listing.{listing_of}
 use Rattle.tc_boot.specs.declared.judging.BootErr.{BootErr}
-use Rattle.tc_boot.specs.Judging.{IsResultOfBootTest, HasBoot}
+use Rattle.tc_boot.specs.Judging.{IsBootEventCountOrFirstFault, HasBoot}
 use Rattle.tc_boot.specs.Reset.{BootsSafely}
 use Rattle.tc_boot.specs.Sequence.{boot_image_of}
 use Rattle.tcd_base.specs.Files.{FileMap}
@@ -45,7 +45,7 @@ pub record IsBootSequenceRefused (elf_name plan_name cert_name at_word : List �
   pub files : AreCheckFiles before elf_name plan_name cert_name image plan cert
   pub at_is : hex_number_of at_word ≡ Some at
   pub accepted : Accepts image plan cert
-  pub judged : IsResultOfBootTest image plan at (Err against)
+  pub judged : IsBootEventCountOrFirstFault image plan at (Err against)
   pub prints : printed ≡ refused_boot_line against
   pub stays : after ≡ before
 

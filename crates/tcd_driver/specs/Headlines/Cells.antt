@@ -11,7 +11,7 @@ use Rattle.cfg_recover.specs.RulesHoldOrFail.{Accepts, IsFirstFault}
 use Rattle.cfg_recover.specs.CertRefusals.{IsRefusal}
 use Rattle.value_cells.specs.declared.cells.Cell.{Cell}
 use Rattle.value_cells.specs.Cells.{with_cells}
-use Rattle.value_cells.specs.Keeping.{CertKeepsCells, IsFirstRule16Fault}
+use Rattle.value_cells.specs.Keeping.{CertKeepsCellBounds, IsFirstRule16Fault}
 use Rattle.value_cells.specs.CellListText.{IsResultOfCellText}
 use Rattle.value_cells.specs.Safe.{SafeWithCells}
 use Rattle.tcd_base.specs.Files.{FileMap}
@@ -30,7 +30,7 @@ pub record AreCellFiles (before : FileMap) (elf_name plan_name cells_name : List
 -- each cell starts in its bounds, and each cell stays in them.
 pub record AreCellsKeptWithNeed (image : ImageData) (plan : PlanData) (list : List Cell) (cert : CertData) (need : ℕ) : Type 0 where
   pub accepted : IsAcceptedWithNeed image (with_cells plan list) cert need
-  pub keeps : CertKeepsCells image (with_cells plan list) list cert
+  pub keeps : CertKeepsCellBounds image (with_cells plan list) list cert
   pub safe : SafeWithCells image plan list need
 
 -- the line in the headlines of `cells` and `cellcert`: the need, the areas without the reserve, and
@@ -89,7 +89,7 @@ pub record HeadlineOfCellcert (elf_name plan_name cells_name cert_name : List �
 -- in the headline of a refusal by `cellcert`: by each accepted certificate of format 2 a store may
 -- leave a cell's bounds, and here is the first such store by the least one
 pub record NoneKeepsCellBounds (image : ImageData) (plan : PlanData) (list : List Cell) (frame : Key) (address : ℕ) : Type 0 where
-  pub each : (other : CertData) → IsCert other → other.version ≡ 2 → Accepts image (with_cells plan list) other → CertKeepsCells image (with_cells plan list) list other → ⊥
+  pub each : (other : CertData) → IsCert other → other.version ≡ 2 → Accepts image (with_cells plan list) other → CertKeepsCellBounds image (with_cells plan list) list other → ⊥
   pub cert : CertData
   pub version : cert.version ≡ 2
   pub accepted : Accepts image (with_cells plan list) cert

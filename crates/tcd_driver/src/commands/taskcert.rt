@@ -1,7 +1,7 @@
 // The command `taskcert`.
 ghost use Rattle.std.specs.Prelude.{◌≡◌, ◌<◌, ◌++◌, ◌∷◌, [], length, map, string_bytes, OnOk};
 ghost use Rattle.task_chains.specs.Tasks.{count};
-ghost use Rattle.task_chains.specs.Views.{FitPlan};
+ghost use Rattle.task_chains.specs.Views.{TasksFitPlan};
 ghost use Rattle.tcd_reading.specs.Outcomes.{IsCommandOutcome, IsReportOrNoMemory};
 ghost use Rattle.tcd_driver.specs.Taskcert.{IsTaskcertReport, IsTaskViewCertOrErr, IsTaskCertOrErr, AreTaskCertsOrErr, taskcert_reading};
 
@@ -60,7 +60,7 @@ fn taskcert_report(
     tasks: &Tasks,
     names: &[String],
 ) -> Outcome
-    requires fit { FitPlan plan.now tasks.now }
+    requires fit { TasksFitPlan plan.now tasks.now }
     requires many { length names.now ≡ count tasks.now }
     ensures { IsReportOrNoMemory
         (IsTaskcertReport (map string_bytes names.now) image.now plan.now tasks.now) result }
@@ -100,7 +100,7 @@ fn make_each_task_cert(
     tasks: &Tasks,
     names: &[String],
 ) -> Result<(Vec<Write>, u64), (usize, MakeErr)>
-    requires fit { FitPlan plan.now tasks.now }
+    requires fit { TasksFitPlan plan.now tasks.now }
     requires many { length names.now ≡ count tasks.now }
     ensures { AreTaskCertsOrErr (map string_bytes names.now) image.now plan.now tasks.now result }
 {
@@ -132,7 +132,7 @@ fn make_task_cert(
     u: usize,
 ) -> Result<(Cert, u32), MakeErr>
     requires task { u < count tasks.now }
-    requires fit { FitPlan plan.now tasks.now }
+    requires fit { TasksFitPlan plan.now tasks.now }
     ensures { IsTaskCertOrErr image.now plan.now tasks.now u result }
 {
     // What holds of plans and tasks is known after they are read.

@@ -1,7 +1,7 @@
 // The command `tasks`.
 ghost use Rattle.std.specs.Prelude.{◌≡◌, ◌<◌, ◌==◌, max, if◌then◌else◌, length, map, string_bytes, IfOk};
 ghost use Rattle.task_chains.specs.Tasks.{count};
-ghost use Rattle.task_chains.specs.Views.{FitPlan};
+ghost use Rattle.task_chains.specs.Views.{TasksFitPlan};
 ghost use Rattle.tcd_reading.specs.Outcomes.{IsCommandOutcome, IsReportOrNoMemory};
 ghost use Rattle.tcd_driver.specs.Tasks.{IsTasksVerdict, IsVerdictOnTask, IsTallyOfTasks, IsWrongCertCountReport, named_certs_reading, task_certs_reading, tasks_reading};
 
@@ -86,7 +86,7 @@ fn check_task_cert_files<F: Files>(
     names: &[String],
     files: &mut F,
 ) -> Outcome
-    requires { FitPlan plan.now tasks.now }
+    requires { TasksFitPlan plan.now tasks.now }
     ensures { IsCommandOutcome
         (task_certs_reading (map string_bytes names.now) image.now plan.now tasks.now)
         (F.seen files.old) (F.seen files.new) result }
@@ -107,7 +107,7 @@ fn verdict_on_cert_files<F: Files>(
     names: &[String],
     files: &mut F,
 ) -> Outcome
-    requires fit { FitPlan plan.now tasks.now }
+    requires fit { TasksFitPlan plan.now tasks.now }
     requires many { length names.now ≡ count tasks.now }
     ensures { IsCommandOutcome
         (named_certs_reading (map string_bytes names.now) image.now plan.now tasks.now)
@@ -133,7 +133,7 @@ fn tasks_verdict(
     tasks: &Tasks,
     certs: &[Cert],
 ) -> Outcome
-    requires fit { FitPlan plan.now tasks.now }
+    requires fit { TasksFitPlan plan.now tasks.now }
     requires many { length certs.now ≡ count tasks.now }
     ensures { IsReportOrNoMemory (IsTasksVerdict image.now plan.now tasks.now certs.now) result }
 {
@@ -172,7 +172,7 @@ fn check_each_task_cert(
     tasks: &Tasks,
     certs: &[Cert],
 ) -> Result<Tally, NoMemory>
-    requires fit { FitPlan plan.now tasks.now }
+    requires fit { TasksFitPlan plan.now tasks.now }
     requires many { length certs.now ≡ count tasks.now }
     ensures { IfOk result (IsTallyOfTasks image.now plan.now tasks.now certs.now) }
 {
@@ -206,7 +206,7 @@ fn check_task_cert(
     cert: &Cert,
 ) -> Result<Verdict, NoMemory>
     requires task { u < count tasks.now }
-    requires fit { FitPlan plan.now tasks.now }
+    requires fit { TasksFitPlan plan.now tasks.now }
     ensures { IfOk result (IsVerdictOnTask image.now plan.now tasks.now cert.now u) }
 {
     // What holds of plans and tasks is known after they are read, and what holds of certificates

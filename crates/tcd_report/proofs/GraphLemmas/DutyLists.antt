@@ -14,9 +14,9 @@ use Rattle.vd_transfer.specs.Branches.{state_if_possible}
 use Rattle.depth_cert.specs.declared.keys.Key.{Key}
 use Rattle.depth_cert.specs.Certs.{CertData}
 use Rattle.cfg_recover.specs.Entries.{call_key, irq_entry, irq_key, possible_irqs_of, entered_key}
-use Rattle.tcd_report.specs.Graphs.KnownHandlers.{irq_entry_vectors}
+use Rattle.tcd_report.specs.Graphs.KnownHandlers.{irq_handler_entries}
 use Rattle.cfg_recover.specs.LocalRules.{targets_of}
-use Rattle.cfg_recover.specs.Duties.{Owed, owed, jump, enter, resume, jump_on, jumps_to, successor_duties_of, entry_duties_of, may_be_misaligned, misaligned_entry, misaligned_duties_of, interrupt_duties_of, exit_duties_of, duties_of, keys_entered_by_duty, entered_keys}
+use Rattle.cfg_recover.specs.Duties.{Owed, owed, jump, enter, resume, branch_duty, jump_duties_to, successor_duties_of, entry_duties_of, may_be_misaligned, misaligned_entry, misaligned_duties_of, interrupt_duties_of, exit_duties_of, duties_of, keys_entered_by_duty, entered_keys}
 use Rattle.cfg_recover.proofs.DutyLists.{flat_flat, flat_mapped, flat_each, flat_self, successors_none, calls_are, entries_none, misaligned_none, interrupts_none, leavings_none, parts}
 use Rattle.tcd_report.specs.Graphs.{jump_target_of_duty, entry_of_duty, entries_by_rule, return_address_of_duty, unique_addresses, jump_targets_of, return_addresses_of, call_targets_of, entries_of_kind, return_addresses_after}
 use Rattle.tcd_report.specs.Reports.Calls.{called_keys_of}
@@ -27,15 +27,15 @@ possible_some true s = refl
 possible_some false s = refl
 
 -- one side of a branch
-pub side_there : (q : ℕ) (o : Option State) (r : Bool) → r ≡ is_some o → r ≡ true → jump_targets_of (jump_on q o) ≡ q ∷ []
+pub side_there : (q : ℕ) (o : Option State) (r : Bool) → r ≡ is_some o → r ≡ true → jump_targets_of (branch_duty q o) ≡ q ∷ []
 side_there q None r e t = absurd (let no : false ≡ true = sym e ∙ t in cc)
 side_there q (Some s) r e t = refl
 
-pub side_missing : (q : ℕ) (o : Option State) (r : Bool) → r ≡ is_some o → r ≡ false → jump_targets_of (jump_on q o) ≡ []
+pub side_missing : (q : ℕ) (o : Option State) (r : Bool) → r ≡ is_some o → r ≡ false → jump_targets_of (branch_duty q o) ≡ []
 side_missing q None r e t = refl
 side_missing q (Some s) r e t = absurd (let no : true ≡ false = sym e ∙ t in cc)
 
-pub jumps_are : (s : State) (ts : List ℕ) → jump_targets_of (jumps_to s ts) ≡ ts
+pub jumps_are : (s : State) (ts : List ℕ) → jump_targets_of (jump_duties_to s ts) ≡ ts
 jumps_are s ts = flat_mapped (λ d. jump_target_of_duty d.duty) (λ t. owed 4 (jump t s)) (λ t. t ∷ []) (λ t. refl) ts ∙ flat_self ts
 
 -- ---- entries
@@ -149,11 +149,11 @@ module _ (b : Limits) (image : ImageData) (plan : PlanData) (cert : CertData) (k
       (interrupts_none g (λ k t. refl) plan key s) (leavings_none g (λ x. refl) (λ x. refl) key s shape)
       ∙ append-nil (x ++ []) ∙ append-nil x
 
-  pub interrupts_told : entries_by_rule 11 (duties_of b image plan key p s shape n) ≡ irq_entry_vectors plan (possible_irqs_of plan s)
+  pub interrupts_told : entries_by_rule 11 (duties_of b image plan key p s shape n) ≡ irq_handler_entries plan (possible_irqs_of plan s)
   unfolding succ ent acc irqs left duties_of entry_in
   interrupts_told =
       let g : Owed → List ℕ = entry_in 11 in
-      let y : List ℕ = irq_entry_vectors plan (possible_irqs_of plan s) in
+      let y : List ℕ = irq_handler_entries plan (possible_irqs_of plan s) in
       parts g succ ent acc irqs left [] [] [] y [] (successors_none g (λ q t. refl) b image plan p s shape n) (entries_none g (λ k t. refl) (λ k t. refl) (λ k q. refl) plan key p s shape n) (misaligned_none g (λ k t. refl) b plan key s shape)
       (flat_mapped g (λ i. owed 11 (enter (irq_key plan i) (irq_entry plan key s i))) (λ i. (irq_key plan i).entry ∷ []) (λ i. refl) (possible_irqs_of plan s) ∙ flat_each (λ i. (irq_key plan i).entry) (possible_irqs_of plan s))
       (leavings_none g (λ x. refl) (λ x. refl) key s shape)

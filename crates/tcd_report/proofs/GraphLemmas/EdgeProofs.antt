@@ -32,7 +32,7 @@ use Rattle.cfg_recover.specs.Code.{IsCode}
 use Rattle.cfg_recover.specs.Entries.{start_key, call_key, handler_key}
 use Rattle.cfg_recover.specs.Duties.{Owed, duties_of}
 use Rattle.cfg_recover.specs.RulesHoldOrFail.{limits_of_cert}
-use Rattle.cfg_recover.specs.Frames.{RunFrame, frames_after_edge, frames_after, frames_from, frames}
+use Rattle.cfg_recover.specs.Frames.{RunFrame, frames_after_edge, frames_after_step, frames_from, frames}
 use Rattle.cfg_recover.specs.EdgesAreOwed.{IsEdgeWayOwed, IsEdgeOwedByFrames}
 use Rattle.cfg_recover.specs.StepEdges.{EdgeWay, to, call, irq, sys, aln, ret, rfe, edge_way_of_shape, edge_way_by_trap, edge_way_in_fetch, edge_way_of_step}
 use Rattle.cfg_recover.proofs.CodeLaws.{IsCode-one}
@@ -131,7 +131,7 @@ keys_from ok m [] fs is fit k = k
 keys_from ok m (e ∷ es) fs is fit k =
     let small : e.irq < 2 ^ 8 = irq_lt ok m e fit.0 in
     let after : IsMachine (step m e) = stays_step m e is small fit.0.input fit.0.status in
-    keys_from ok (step m e) es (frames_after m e fs) after fit.1 (keys_by m.pc (wrapping_sum m.pc (fetched_size (fetched_instruction m))) e.irq (edge_way_of_step m e) fs small (step_below m e after.pc) k)
+    keys_from ok (step m e) es (frames_after_step m e fs) after fit.1 (keys_by m.pc (wrapping_sum m.pc (fetched_size (fetched_instruction m))) e.irq (edge_way_of_step m e) fs small (step_below m e after.pc) k)
 
 -- ---- the parts of joined lines
 part_at : {A : Type 0} (Has : A → List (List ℕ) → Type 0) (xs : List A) (ps : List (List (List ℕ))) (x : A) (k : ℕ) → AreLineParts Has xs ps → k < length xs → get_or xs k x ≡ x → (p : List (List ℕ)) × (Has x p × Contains ps p)

@@ -11,7 +11,7 @@ use Rattle.tcd_text.proofs.DigitLaws.{hex_word-ascii}
 use Rattle.depth_cert.specs.declared.keys.Key.{Key}
 use Rattle.depth_cert.specs.Keys.{start_kind, call_kind, irq_kind, sys_kind}
 use Rattle.tcd_report.specs.Texts.{key_kind_text, frame_name}
-use Rattle.tcd_report.specs.Graphs.{key_front, line_front}
+use Rattle.tcd_report.specs.Graphs.{node_line_prefix, point_line_prefix}
 
 both : (a b : Bool) → (a && b) ≡ true → (a ≡ true) × (b ≡ true)
 both true true e = (refl, refl)
@@ -56,9 +56,9 @@ key_ascii key entry prio =
     (IsAscii-append (codes " is ") stack (literal (codes " is ") refl) (digit_ascii key.is)))))
 
 -- the fronts of lines
-pub key_front_ascii : (key : Key) → key.entry < 2 ^ 32 → key.prio < 2 ^ 8 → IsAscii (key_front key)
+pub key_front_ascii : (key : Key) → key.entry < 2 ^ 32 → key.prio < 2 ^ 8 → IsAscii (node_line_prefix key)
 key_front_ascii key entry prio = IsAscii-append (frame_name key) (codes ": ") (key_ascii key entry prio) (literal (codes ": ") refl)
 
-pub line_front_ascii : (key : Key) (p : ℕ) → p < 2 ^ 32 → IsAscii (key_front key) → IsAscii (line_front key p)
+pub line_front_ascii : (key : Key) (p : ℕ) → p < 2 ^ 32 → IsAscii (node_line_prefix key) → IsAscii (point_line_prefix key p)
 line_front_ascii key p small is =
-    IsAscii-append (key_front key) (hex_word p ++ 32 ∷ []) is (IsAscii-append (hex_word p) (32 ∷ []) (hex_word-ascii p small) (literal (32 ∷ []) refl))
+    IsAscii-append (node_line_prefix key) (hex_word p ++ 32 ∷ []) is (IsAscii-append (hex_word p) (32 ∷ []) (hex_word-ascii p small) (literal (32 ∷ []) refl))

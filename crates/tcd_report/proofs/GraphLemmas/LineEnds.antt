@@ -11,7 +11,7 @@ use Rattle.std.proofs.lemmas.Str.Ascii.{IsAscii-nil, IsAscii-cons}
 use Rattle.tcd_text.specs.HexNumbers.{hex_byte, hex_word}
 use Rattle.tcd_text.proofs.DigitLaws.{hex_word-front}
 use Rattle.tcd_report.specs.Graphs.{line_end_to, lines_to}
-use Rattle.tcd_report.specs.Graphs.KnownHandlers.{with_handler_front}
+use Rattle.tcd_report.specs.Graphs.KnownHandlers.{with_line_prefix}
 
 -- an address and a line feed
 pub address_line : (x : ℕ) (w : List ℕ) → w ≡ hex_word x
@@ -67,7 +67,7 @@ lines_ascii front (q ∷ qs) is below =
     IsAscii-append (front ++ line_end_to (codes "irq ") q) (lines_to front (codes "irq ") qs) (IsAscii-append front (line_end_to (codes "irq ") q) is (handler_ascii q (below 0))) (lines_ascii front qs is (λ k. below (suc k)))
 
 -- a front that is written over another between lines before it and lines after it
-front_between : (a old front e b lines : List ℕ) (at : ℕ) → lines ≡ a ++ ((old ++ e) ++ b) → length a ≡ at → length old ≡ length front → with_handler_front lines at front ≡ a ++ ((front ++ e) ++ b)
+front_between : (a old front e b lines : List ℕ) (at : ℕ) → lines ≡ a ++ ((old ++ e) ++ b) → length a ≡ at → length old ≡ length front → with_line_prefix lines at front ≡ a ++ ((front ++ e) ++ b)
 front_between a old front e b lines at are size same =
     let flat : lines ≡ a ++ (old ++ (e ++ b)) = are ∙ ap (λ l. a ++ l) (append_assoc old e b) in
     let head : take at lines ≡ a = ap (take at) flat ∙ ap (λ n. take n (a ++ (old ++ (e ++ b)))) (sym size) ∙ take-append_seam a (old ++ (e ++ b)) in
@@ -79,7 +79,7 @@ front_between a old front e b lines at are size same =
 -- the front is written over that of one line more
 pub front_more : (front old entries lines : List ℕ) (i at : ℕ) → length old ≡ length front → at ≡ i * (length front + 13) → i < length entries
     → lines ≡ lines_to front (codes "irq ") (take i entries) ++ lines_to old (codes "irq ") (drop i entries)
-    → with_handler_front lines at front ≡ lines_to front (codes "irq ") (take (i + 1) entries) ++ lines_to old (codes "irq ") (drop (i + 1) entries)
+    → with_line_prefix lines at front ≡ lines_to front (codes "irq ") (take (i + 1) entries) ++ lines_to old (codes "irq ") (drop (i + 1) entries)
 front_more front old entries lines i at same place lt are =
     let q : ℕ = get_or entries i 0 in
     let e : List ℕ = line_end_to (codes "irq ") q in

@@ -6,8 +6,8 @@ use Rattle.serde_json.specs.Read.{read}
 use Rattle.serde_json.proofs.OnLiterals.{serde_json_on_literals}
 use Rattle.tcd_plan.specs.KeyRows.{key_rows}
 use Rattle.tcd_plan.specs.PlanReader.{GivesPlan, plan_of, unchecked_plan_of, plan_refusal}
-use Rattle.tcd_plan.specs.PlanData.{first_oversized_array, has_valid_areas, has_even_vectors, plan_range_overlap}
-use Rattle.tcd_plan.specs.KeyFaults.{first_missing_key, first_object_with_unknown_key, first_bad_key}
+use Rattle.tcd_plan.specs.PlanData.{first_oversized_array, has_valid_areas, has_even_vector_bases, plan_range_overlap}
+use Rattle.tcd_plan.specs.KeyFaults.{first_missing_key, first_object_with_unknown_key, first_key_with_bad_value}
 use Rattle.tcd_report.specs.Generated.Planned.{generated_plan, generated_plan_text}
 
 document : Data
@@ -18,7 +18,7 @@ unfolding document serde_json_on_literals
 read_is = refl
 
 plan_is : plan_of document ≡ Ok generated_plan
-unfolding document serde_json_on_literals key_rows first_missing_key first_object_with_unknown_key first_bad_key unchecked_plan_of first_oversized_array has_valid_areas has_even_vectors plan_range_overlap plan_refusal
+unfolding document serde_json_on_literals key_rows first_missing_key first_object_with_unknown_key first_key_with_bad_value unchecked_plan_of first_oversized_array has_valid_areas has_even_vector_bases plan_range_overlap plan_refusal
 plan_is = refl
 
 pub text_tells : IsUtf8 generated_plan_text → GivesPlan generated_plan_text (Ok generated_plan)

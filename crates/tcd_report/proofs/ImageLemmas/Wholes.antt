@@ -3,7 +3,7 @@ use Rattle.std.proofs.Common.{◌≡◌, ◌+◌, ◌^◌, ◌<◌, ◌≤◌, �
 use Rattle.std.specs.List.{list_all}
 use Rattle.std.proofs.lemmas.Bool.{and_from, lt-ltb, le-leb}
 use Rattle.std.specs.Prelude.{nat_le, sum_by, ◌||◌}
-use Rattle.elf_image.specs.Images.{AreSegmentBytes, IsImage, SegmentData, are_all_segments_disjoint, are_segments_disjoint, is_segment}
+use Rattle.elf_image.specs.Images.{HoldOnlyBytes, IsImage, SegmentData, are_all_segments_disjoint, are_segments_disjoint, is_segment}
 use Rattle.tcd_report.specs.Generated.{generated_functions, generated_image, generated_segments, generated_main_code, generated_segment, generated_system_call_handler, generated_function_table, generated_vectors}
 use Rattle.tcd_report.proofs.ImageLemmas.Instructions.{main_bytes, system_bytes}
 use Rattle.tcd_report.proofs.ImageLemmas.Lengths.{length-functions, length-table, length-vectors}
@@ -51,7 +51,7 @@ length-main = ap length main_bytes
 length-system : length generated_system_call_handler ≡ 2
 length-system = ap length system_bytes
 
-pub image_is : (n : ℕ) → 1 ≤ n → n ≤ 500 → AreSegmentBytes (generated_segments n) → IsImage (generated_image n)
+pub image_is : (n : ℕ) → 1 ≤ n → n ≤ 500 → HoldOnlyBytes (generated_segments n) → IsImage (generated_image n)
 unfolding five
 image_is n some few bytes =
     let long = length-functions n some in

@@ -18,7 +18,7 @@ use Rattle.depth_cert.specs.Certs.{CertData, IsCert}
 use Rattle.cfg_recover.specs.RulesHoldOrFail.{Accepts}
 use Rattle.cfg_recover.proofs.Members.{contains_map}
 use Rattle.tcd_report.specs.Reports.Calls.{CallsAt, NodeCalls, HasCallChain}
-use Rattle.tcd_report.specs.Reports.Heights.{IsGreatestHeightInList, IsHeightThroughCall, AreHeightsBounded, IsHeight, HasNodeHeight, AreNodeHeights, HasHeights, height_rank_of}
+use Rattle.tcd_report.specs.Reports.Heights.{IsGreatestHeightInList, IsHeightThroughCall, AreHeightsBounded, IsHeight, HasNodeHeight, AreNodeHeights, HasHeights, need_with_key}
 use Rattle.depth_cert.specs.Keys.{key_eq}
 use Rattle.tcd_report.proofs.ReportLemmas.NodeLaws.{map_contains, node_stands, one_node, callee_needs}
 use Rattle.tcd_report.proofs.ReportLemmas.RankLaws.{stands_before}
@@ -124,25 +124,25 @@ pub record IsRanked (cert : CertData) (r : ℕ × Key) (node : NodeData) : Type 
   pub need : node.need ≡ r.0
 
 -- a rank has the need of the node with its key
-pub ranked : (cert : CertData) → IsCert cert → (rs : List (ℕ × Key)) → IsPermutation (map height_rank_of cert.nodes) rs → (r : ℕ × Key) → Contains rs r → (node : NodeData) × ((find_node r.1 cert.nodes ≡ Some node) × IsRanked cert r node)
+pub ranked : (cert : CertData) → IsCert cert → (rs : List (ℕ × Key)) → IsPermutation (map need_with_key cert.nodes) rs → (r : ℕ × Key) → Contains rs r → (node : NodeData) × ((find_node r.1 cert.nodes ≡ Some node) × IsRanked cert r node)
 ranked cert is rs moved r c =
-    let n = map_contains height_rank_of cert.nodes r (Contains-permutation rs (map height_rank_of cert.nodes) r (IsPermutation-sym (map height_rank_of cert.nodes) rs moved) c) in
+    let n = map_contains need_with_key cert.nodes r (Contains-permutation rs (map need_with_key cert.nodes) r (IsPermutation-sym (map need_with_key cert.nodes) rs moved) c) in
     let node : NodeData = n.0 in
     let key : node.key ≡ r.1 = ap (λ q. q.1) (n.1).1 in
     (node, (ap (λ k. find_node k cert.nodes) (sym key) ∙ node_stands cert is node (n.1).0, record { stands = (n.1).0; key = key; need = ap (λ q. q.0) (n.1).1 }))
 
 -- the heights of called nodes are known before that of the caller
-pub callees_known : {S : Type 0} (image : ImageData) (plan : PlanData) (cert : CertData) → IsCert cert → Accepts image plan cert → (heights : HashMap Key ℕ S) (cmp : Key → Key → Ordering) (rs : List (ℕ × Key)) → IsPermutation (map height_rank_of cert.nodes) rs
+pub callees_known : {S : Type 0} (image : ImageData) (plan : PlanData) (cert : CertData) → IsCert cert → Accepts image plan cert → (heights : HashMap Key ℕ S) (cmp : Key → Key → Ordering) (rs : List (ℕ × Key)) → IsPermutation (map need_with_key cert.nodes) rs
     → IsSortedBy (λ x y. is_lt (ordering_then (nat_cmp x.0 y.0) (cmp x.1 y.1))) rs → (i : ℕ) (x : ℕ × Key) (node : NodeData) → i < length rs → x ≡ get_or rs i x → HasHeights heights (take i rs) → IsRanked cert x node → (callee : NodeData)
     → Contains cert.nodes callee → NodeCalls image plan cert node callee.key → (h : ℕ) × (get key_eq heights callee.key ≡ Some h)
 callees_known image plan cert is accepted heights cmp rs moved sorted i x node lt at has rank callee there calls =
     let less = callee_needs image plan cert is accepted node callee rank.stands there calls in
-    let c : Contains rs (height_rank_of callee) = Contains-permutation (map height_rank_of cert.nodes) rs (height_rank_of callee) moved (contains_map height_rank_of cert.nodes callee there) in
-    has (height_rank_of callee) (stands_before cmp rs sorted i (height_rank_of callee) x lt at c (omega (arith, less, rank.need)))
+    let c : Contains rs (need_with_key callee) = Contains-permutation (map need_with_key cert.nodes) rs (need_with_key callee) moved (contains_map need_with_key cert.nodes callee there) in
+    has (need_with_key callee) (stands_before cmp rs sorted i (need_with_key callee) x lt at c (omega (arith, less, rank.need)))
 
 -- all heights are known at the end
-pub all_known : {S : Type 0} (cert : CertData) (heights : HashMap Key ℕ S) (rs : List (ℕ × Key)) (i : ℕ) → IsPermutation (map height_rank_of cert.nodes) rs → length rs ≤ i → HasHeights heights (take i rs) → (n : NodeData) → Contains cert.nodes n
+pub all_known : {S : Type 0} (cert : CertData) (heights : HashMap Key ℕ S) (rs : List (ℕ × Key)) (i : ℕ) → IsPermutation (map need_with_key cert.nodes) rs → length rs ≤ i → HasHeights heights (take i rs) → (n : NodeData) → Contains cert.nodes n
     → (h : ℕ) × (get key_eq heights n.key ≡ Some h)
 all_known cert heights rs i moved ge has n c =
     let whole : HasHeights heights rs = subst (λ ys. HasHeights heights ys) (take_all i rs ge) has in
-    whole (height_rank_of n) (Contains-permutation (map height_rank_of cert.nodes) rs (height_rank_of n) moved (contains_map height_rank_of cert.nodes n c))
+    whole (need_with_key n) (Contains-permutation (map need_with_key cert.nodes) rs (need_with_key n) moved (contains_map need_with_key cert.nodes n c))

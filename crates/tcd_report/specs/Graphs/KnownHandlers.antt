@@ -14,15 +14,15 @@ pub record AreHandlerLines (size : ℕ) (entries lines : List ℕ) : Type 0 wher
 
 -- the addresses on the graph's `irq` lines for these interrupts, at which their handlers are
 -- entered: the entries of their keys
-abbrev pub irq_entry_vectors : PlanData → List ℕ → List ℕ
-irq_entry_vectors plan irqs = map (λ p. (irq_key plan p).entry) irqs
+abbrev pub irq_handler_entries : PlanData → List ℕ → List ℕ
+irq_handler_entries plan irqs = map (λ p. (irq_key plan p).entry) irqs
 
 -- known for the graph's lines: in each state with this IE and CCPN, the entries are those of the
 -- handlers of the interrupts that may come, each once, and the lines are theirs
-pub record KnowsHandlers (plan : PlanData) (known : Handlers) : Type 0 where
-  pub entries : (s : State) → s.ie ≡ known.ie → s.ccpn ≡ known.ccpn → known.entries.items ≡ unique_addresses (irq_entry_vectors plan (possible_irqs_of plan s))
+pub record AreValidHandlers (plan : PlanData) (known : Handlers) : Type 0 where
+  pub entries : (s : State) → s.ie ≡ known.ie → s.ccpn ≡ known.ccpn → known.entries.items ≡ unique_addresses (irq_handler_entries plan (possible_irqs_of plan s))
   pub lines : AreHandlerLines known.front known.entries.items known.lines.items
 
 -- the graph's `irq` lines of handlers with a front written at a place
-abbrev pub with_handler_front : List ℕ → ℕ → List ℕ → List ℕ
-with_handler_front lines at front = take at lines ++ (front ++ drop (at + length front) lines)
+abbrev pub with_line_prefix : List ℕ → ℕ → List ℕ → List ℕ
+with_line_prefix lines at front = take at lines ++ (front ++ drop (at + length front) lines)

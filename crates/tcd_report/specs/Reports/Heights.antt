@@ -64,5 +64,5 @@ abbrev pub HasHeights : {S : Type 0} → HashMap Key ℕ S → List (ℕ × Key)
 HasHeights heights ranks = (r : ℕ × Key) → Contains ranks r → (h : ℕ) × (get key_eq heights r.1 ≡ Some h)
 
 -- a node's need, and its key, by which the nodes are ordered to find their heights
-abbrev pub height_rank_of : NodeData → ℕ × Key
-height_rank_of n = (n.need, n.key)
+abbrev pub need_with_key : NodeData → ℕ × Key
+need_with_key n = (n.need, n.key)

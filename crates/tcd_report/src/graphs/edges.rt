@@ -1,9 +1,9 @@
 // The addresses where a point goes on, by the words of its lines.
 ghost use Rattle.std.specs.Prelude.{OnOk};
-ghost use Rattle.tc_isa.specs.InBounds.{IsShape};
+ghost use Rattle.tc_isa.specs.InBounds.{IsShapeInBounds};
 ghost use Rattle.value_domain.specs.State.{AreInLattice};
 ghost use Rattle.tcd_report.specs.Graphs.{AreEdges};
-ghost use Rattle.tcd_report.specs.Graphs.KnownHandlers.{KnowsHandlers};
+ghost use Rattle.tcd_report.specs.Graphs.KnownHandlers.{AreValidHandlers};
 ghost use Rattle.tcd_report.specs.Judging.{duties_at};
 ghost use Rattle.depth_cert.specs.Points.{point_of};
 
@@ -43,12 +43,12 @@ pub(crate) fn find_edges(
     s: &State,
     found: &Located,
 ) -> Result<(), NoMemory>
-    requires shape { IsShape found.now.shape }
+    requires shape { IsShapeInBounds found.now.shape }
     requires values { AreInLattice judged.now.bounds.now s.now.regs }
-    requires handlers { KnowsHandlers judged.now.plan.now ways.old.irq }
+    requires handlers { AreValidHandlers judged.now.plan.now ways.old.irq }
     ensures edges { let j = judged.now in OnOk result
         (AreEdges j.cert.now (duties_at j key.now (point_of addr s.now) found.now) ways.new) }
-    ensures handlers { OnOk result (KnowsHandlers judged.now.plan.now ways.new.irq) }
+    ensures handlers { OnOk result (AreValidHandlers judged.now.plan.now ways.new.irq) }
 {
     ways.found.clear();
     push_successors(&mut ways.found, judged, addr, s, found)?;

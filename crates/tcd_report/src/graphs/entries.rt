@@ -1,6 +1,6 @@
 // The entries of the frames that an instruction enters.
 ghost use Rattle.std.specs.Prelude.{◌≡◌, OnOk};
-ghost use Rattle.tc_isa.specs.InBounds.{IsShape};
+ghost use Rattle.tc_isa.specs.InBounds.{IsShapeInBounds};
 ghost use Rattle.value_domain.specs.State.{AreInLattice};
 ghost use Rattle.cfg_recover.specs.Duties.{misaligned_duties_of};
 ghost use Rattle.tcd_report.specs.Graphs.{entries_by_rule, misaligned_rule, entries_of_kind};
@@ -35,7 +35,7 @@ pub(crate) fn set_misaligned_entry(
     shape: Shape,
 ) -> Result<(), NoMemory>
     requires values { AreInLattice judged.now.bounds.now s.now.regs }
-    requires shape { IsShape shape }
+    requires shape { IsShapeInBounds shape }
     ensures { let j = judged.now in OnOk result (all.new.items
         ≡ entries_by_rule misaligned_rule
         (misaligned_duties_of j.bounds.now j.plan.now key.now s.now shape)) }

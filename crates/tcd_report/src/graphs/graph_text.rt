@@ -4,8 +4,8 @@ ghost use Rattle.tcd_plan.specs.PlanData.{PlanData};
 ghost use Rattle.std.specs.Str.{IsAscii};
 ghost use Rattle.value_domain.specs.State.{AreInLattice};
 ghost use Rattle.cfg_recover.specs.LocalFaults.{IsFaultless};
-ghost use Rattle.tcd_report.specs.Graphs.{ArePointLines, AreNodeLines, key_front};
-ghost use Rattle.tcd_report.specs.Graphs.KnownHandlers.{KnowsHandlers};
+ghost use Rattle.tcd_report.specs.Graphs.{ArePointLines, AreNodeLines, node_line_prefix};
+ghost use Rattle.tcd_report.specs.Graphs.KnownHandlers.{AreValidHandlers};
 ghost use Rattle.tcd_report.specs.Judging.{IsAcceptedWithLimits};
 ghost use Rattle.tcd_report.specs.Texts.{GrowsByLines};
 ghost use Rattle.depth_cert.specs.Points.{point_of};
@@ -37,7 +37,7 @@ pub(crate) struct Drawing {
 /// Returns a graph without lines, to which the lines of nodes are then appended.
 pub(crate) fn empty_drawing(alloc: Global) -> Drawing
     ensures text { string_bytes result.text ≡ [] }
-    ensures handlers { (plan : PlanData) → KnowsHandlers plan result.ways.irq }
+    ensures handlers { (plan : PlanData) → AreValidHandlers plan result.ways.irq }
 {
     Drawing {
         text: String::new(alloc),
@@ -66,11 +66,11 @@ pub(crate) fn append_node_lines<'a>(
 ) -> Result<(), NoMemory>
     requires judged { IsAcceptedWithLimits judged.now }
     requires stands { Contains judged.now.cert.now.nodes node.now }
-    requires handlers { KnowsHandlers judged.now.plan.now graph.old.ways.irq }
+    requires handlers { AreValidHandlers judged.now.plan.now graph.old.ways.irq }
     ensures lines { let j = judged.now in
         OnOk result (GrowsByLines (AreNodeLines j.image.now j.plan.now j.cert.now node.now)
         (string_bytes graph.old.text) (string_bytes graph.new.text)) }
-    ensures handlers { OnOk result (KnowsHandlers judged.now.plan.now graph.new.ways.irq) }
+    ensures handlers { OnOk result (AreValidHandlers judged.now.plan.now graph.new.ways.irq) }
 {
     set_node_line_prefix(&mut graph.key_front, &node.key)?;
     node.start_walk(walk);
@@ -93,15 +93,15 @@ fn append_point_lines(
     requires values { AreInLattice judged.now.bounds.now s.now.regs }
     requires faultless { let j = judged.now in
         IsFaultless j.bounds.now j.image.now j.plan.now key.now addr s.now }
-    requires front { string_bytes graph.old.key_front ≡ key_front key.now }
-    requires ascii { IsAscii (key_front key.now) }
-    requires handlers { KnowsHandlers judged.now.plan.now graph.old.ways.irq }
+    requires front { string_bytes graph.old.key_front ≡ node_line_prefix key.now }
+    requires ascii { IsAscii (node_line_prefix key.now) }
+    requires handlers { AreValidHandlers judged.now.plan.now graph.old.ways.irq }
     ensures lines { let j = judged.now in
         OnOk result (GrowsByLines
         (ArePointLines j.image.now j.plan.now j.cert.now key.now (point_of addr s.now))
         (string_bytes graph.old.text) (string_bytes graph.new.text)) }
-    ensures front { OnOk result (string_bytes graph.new.key_front ≡ key_front key.now) }
-    ensures handlers { OnOk result (KnowsHandlers judged.now.plan.now graph.new.ways.irq) }
+    ensures front { OnOk result (string_bytes graph.new.key_front ≡ node_line_prefix key.now) }
+    ensures handlers { OnOk result (AreValidHandlers judged.now.plan.now graph.new.ways.irq) }
 {
     let Some(found) = codes.decode_cached(judged.image, judged.plan, addr) else {
         unreachable!()

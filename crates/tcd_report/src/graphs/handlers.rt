@@ -1,7 +1,7 @@
 // The handlers of the interrupts that may come at a point, and their lines.
 ghost use Rattle.std.specs.Prelude.{◌≡◌, ◌+◌, ◌≤◌, OnOk, codes, length, ◌<◌, ◌++◌, string_bytes, ◌^◌, ℕ, slice_index};
 ghost use Rattle.cfg_recover.specs.Entries.{possible_irqs_of};
-ghost use Rattle.tcd_report.specs.Graphs.KnownHandlers.{irq_entry_vectors, AreHandlerLines, KnowsHandlers, with_handler_front};
+ghost use Rattle.tcd_report.specs.Graphs.KnownHandlers.{irq_handler_entries, AreHandlerLines, AreValidHandlers, with_line_prefix};
 ghost use Rattle.tcd_report.specs.Graphs.{unique_addresses, line_end_to, irq_lines};
 ghost use Rattle.tcd_plan.specs.PlanData.{PlanData};
 ghost use Rattle.std.specs.Str.{IsAscii};
@@ -33,7 +33,7 @@ pub(crate) struct Handlers {
 /// Returns the handlers that may come while interrupts are off: none, and no lines of them for the
 /// graph.
 pub(crate) fn no_handlers(alloc: Global) -> Handlers
-    ensures { (plan : PlanData) → KnowsHandlers plan result }
+    ensures { (plan : PlanData) → AreValidHandlers plan result }
 {
     Handlers {
         ie: false,
@@ -52,11 +52,11 @@ pub(crate) fn find_handlers(
     plan: &Plan,
     s: &State,
 ) -> Result<(), NoMemory>
-    requires { KnowsHandlers plan.now known.old }
+    requires { AreValidHandlers plan.now known.old }
     ensures entries { OnOk result
         (known.new.entries.items
-        ≡ unique_addresses (irq_entry_vectors plan.now (possible_irqs_of plan.now s.now))) }
-    ensures known { OnOk result (KnowsHandlers plan.now known.new) }
+        ≡ unique_addresses (irq_handler_entries plan.now (possible_irqs_of plan.now s.now))) }
+    ensures known { OnOk result (AreValidHandlers plan.now known.new) }
 {
     if known.ie == s.ie && known.ccpn == s.ccpn {
         return Ok(());
@@ -73,7 +73,7 @@ pub(crate) fn find_handlers(
 
 // Replaces what the list held by the entries of the handlers of these interrupts.
 fn set_handler_entries(all: &mut Vec<u32>, plan: &Plan, irqs: &[u8]) -> Result<(), NoMemory>
-    ensures { OnOk result (all.new.items ≡ irq_entry_vectors plan.now irqs.now) }
+    ensures { OnOk result (all.new.items ≡ irq_handler_entries plan.now irqs.now) }
 {
     all.clear();
     for irq in irqs {
@@ -89,7 +89,7 @@ pub(crate) fn set_handler_line_prefix(known: &mut Handlers, front: &str) -> Resu
     ensures lines { OnOk result
         (known.new.lines.items ≡ irq_lines front.now known.new.entries.items) }
     ensures known { OnOk result
-        ((plan : PlanData) → KnowsHandlers plan known.old → KnowsHandlers plan known.new) }
+        ((plan : PlanData) → AreValidHandlers plan known.old → AreValidHandlers plan known.new) }
     ensures entries { OnOk result (known.new.entries.items ≡ known.old.entries.items) }
 {
     if known.front == front.len() {
@@ -127,7 +127,7 @@ fn write_handler_prefixes(lines: &mut [u8], front: &[u8], entries: &[u32])
 /// Writes a front into the graph's `irq` lines at index `at`, where a line begins.
 fn write_handler_prefix(lines: &mut [u8], at: usize, front: &[u8])
     requires { at + length front.now ≤ length lines.old }
-    ensures { lines.new ≡ with_handler_front lines.old at front.now }
+    ensures { lines.new ≡ with_line_prefix lines.old at front.now }
 {
     lines[at..at + front.len()].copy_from_slice(front);
 }

@@ -1,7 +1,7 @@
 // The lines of a point in the graph.
 ghost use Rattle.std.specs.Prelude.{◌≡◌, ◌<◌, ◌++◌, ◌∷◌, [], OnOk, string_bytes};
 ghost use Rattle.tcd_text.specs.HexNumbers.{hex_word};
-ghost use Rattle.tcd_report.specs.Graphs.{key_front, lines_to, irq_lines, edge_lines_text, return_line_text};
+ghost use Rattle.tcd_report.specs.Graphs.{node_line_prefix, lines_to, irq_lines, edge_lines_text, return_line_text};
 ghost use Rattle.std.specs.Str.{IsAscii};
 
 use crate::graphs::edges::Edges;
@@ -14,8 +14,8 @@ use tcd_text::{append_ascii, append_hex_word, append_str, hex_word};
 
 /// Sets the front of all lines of a node in the graph: its key, a colon and a blank.
 pub(crate) fn set_node_line_prefix(front: &mut String, key: &Key) -> Result<(), NoMemory>
-    ensures front { OnOk result (string_bytes front.new ≡ key_front key.now) }
-    ensures ascii { OnOk result (IsAscii (key_front key.now)) }
+    ensures front { OnOk result (string_bytes front.new ≡ node_line_prefix key.now) }
+    ensures ascii { OnOk result (IsAscii (node_line_prefix key.now)) }
 {
     // Reading a field gives its limits, by which its digits are ASCII.
     let _entry = key.entry;

@@ -1,10 +1,10 @@
 // The addresses where a point goes on in its frame.
 ghost use Rattle.std.specs.Prelude.{◌≡◌, ◌++◌, [], OnOk, false, is_some, true, unwrap_or};
-ghost use Rattle.tc_isa.specs.InBounds.{IsShape, IsTarget};
+ghost use Rattle.tc_isa.specs.InBounds.{IsShapeInBounds, IsTargetInBounds};
 ghost use Rattle.value_domain.specs.State.{AreInLattice};
 ghost use Rattle.vd_transfer.specs.Branches.{refine_of};
 ghost use Rattle.cfg_recover.specs.LocalRules.{targets_of};
-ghost use Rattle.cfg_recover.specs.Duties.{jump_on, resume};
+ghost use Rattle.cfg_recover.specs.Duties.{branch_duty, resume};
 ghost use Rattle.tcd_report.specs.Graphs.{successors_at, jump_targets_of, return_address_of_duty, return_addresses_after};
 ghost use Rattle.depth_cert.specs.Points.{point_of};
 
@@ -27,7 +27,7 @@ pub(crate) fn push_successors(
     s: &State,
     found: &Located,
 ) -> Result<(), NoMemory>
-    requires shape { IsShape found.now.shape }
+    requires shape { IsShapeInBounds found.now.shape }
     requires values { AreInLattice judged.now.bounds.now s.now.regs }
     ensures { OnOk result (all.new.items ≡ all.old.items
         ++ jump_targets_of (successors_at judged.now (point_of addr s.now) found.now)) }
@@ -58,7 +58,7 @@ fn push_jump_targets(
     s: &State,
     to: Target,
 ) -> Result<(), NoMemory>
-    requires { IsTarget to }
+    requires { IsTargetInBounds to }
     ensures { OnOk result (all.new.items ≡ all.old.items
         ++ unwrap_or (targets_of plan.now s.now addr to) []) }
 {
@@ -93,10 +93,10 @@ fn push_branch_successor(
     taken: bool,
     to: u32,
 ) -> Result<(), NoMemory>
-    requires shape { IsShape shape }
+    requires shape { IsShapeInBounds shape }
     requires values { AreInLattice judged.now.bounds.now s.now.regs }
     ensures { let j = judged.now in OnOk result (all.new.items ≡ all.old.items
-        ++ jump_targets_of (jump_on to (refine_of j.bounds.now j.plan.now shape s.now taken))) }
+        ++ jump_targets_of (branch_duty to (refine_of j.bounds.now j.plan.now shape s.now taken))) }
 {
     if is_branch_edge_feasible(judged, shape, s, taken) {
         all.push(to)?;
@@ -107,7 +107,7 @@ fn push_branch_successor(
 // Returns true if a branch may go this way. Not inlined, so that a change takes stack only here.
 #[inline(never)]
 fn is_branch_edge_feasible(judged: &Judged, shape: Shape, s: &State, taken: bool) -> bool
-    requires shape { IsShape shape }
+    requires shape { IsShapeInBounds shape }
     requires values { AreInLattice judged.now.bounds.now s.now.regs }
     ensures { let j = judged.now in
         result ≡ is_some (refine_of j.bounds.now j.plan.now shape s.now taken) }

@@ -1,8 +1,8 @@
 // The length of the longest call chain that begins in each node.
 ghost use Rattle.std.specs.Prelude.{◌≡◌, [], Contains, IfOk, map, unwrap_or};
-ghost use Rattle.tcd_report.specs.Reports.Heights.{AreNodeHeights, HasHeightOfEachNode, IsGreatestHeight, IsGreatestHeightInList, IsHeightThroughTarget, IsHeightThroughCall, AreHeightsBounded, height_rank_of};
+ghost use Rattle.tcd_report.specs.Reports.Heights.{AreNodeHeights, HasHeightOfEachNode, IsGreatestHeight, IsGreatestHeightInList, IsHeightThroughTarget, IsHeightThroughCall, AreHeightsBounded, need_with_key};
 ghost use Rattle.tcd_report.specs.Judging.{IsAcceptedWithLimits};
-ghost use Rattle.tc_isa.specs.InBounds.{IsTarget};
+ghost use Rattle.tc_isa.specs.InBounds.{IsTargetInBounds};
 ghost use Rattle.cfg_recover.specs.LocalRules.{targets_of};
 ghost use Rattle.cfg_recover.specs.LocalFaults.{IsFaultless};
 ghost use Rattle.depth_cert.specs.Points.{point_of};
@@ -96,7 +96,7 @@ fn height_at_point(
 
 // Returns the need and the key of each node, by which nodes are sorted to find their heights.
 fn needs_with_keys(alloc: Global, cert: &Cert) -> Result<Vec<(u16, Key)>, NoMemory>
-    ensures { IfOk result (λ v. v.items ≡ map height_rank_of cert.now.nodes) }
+    ensures { IfOk result (λ v. v.items ≡ map need_with_key cert.now.nodes) }
 {
     let mut ranks = Vec::new(alloc);
     for i in 0..cert.len() {
@@ -120,7 +120,7 @@ fn height_of_call(
     to: Target,
 ) -> u32
     requires low { AreHeightsBounded heights.now }
-    requires target { IsTarget to }
+    requires target { IsTargetInBounds to }
     ensures { IsGreatestHeightInList (IsHeightThroughTarget heights.now key.now)
         (unwrap_or (targets_of plan.now s.now addr to) []) result }
 {

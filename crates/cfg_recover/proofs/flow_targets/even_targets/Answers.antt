@@ -1,5 +1,5 @@
 use Rattle.std.proofs.Common.{ℕ, List, length, sym, ◌∙◌, ap, arith, subst, map, take, get_or, ◌<◌}
-use Rattle.value_domain.specs.Sets.{Among, IsAscending, sorted_insert}
+use Rattle.value_domain.specs.Sets.{Among, IsAscending, sorted_set_insert}
 use Rattle.value_domain.proofs.SetLaws.{rising_distinct}
 use Rattle.cfg_recover.proofs.FlowTargets.{length_evens, evens_before, evens-more, evens-none, even_of}
 use Rattle.cfg_recover.proofs.flow_targets.even_targets.Goals as goal
@@ -22,4 +22,4 @@ add_target_once-requires-clause-greatest c =
 pub loop-word-preserved : goal.loop-word-preserved
 loop-word-preserved c =
     let x = even_of (get_or c.args.words.now c.loop-word.word-index 0) in
-    c.add_target_once.ensures ∙ ap (λ (l : List ℕ). sorted_insert x l) c.loop-word.invariant ∙ sym (evens-more c.args.words.now c.loop-word.word-index (omega arith))
+    c.add_target_once.ensures ∙ ap (λ (l : List ℕ). sorted_set_insert x l) c.loop-word.invariant ∙ sym (evens-more c.args.words.now c.loop-word.word-index (omega arith))

@@ -2,7 +2,7 @@ use Rattle.std.proofs.Common.{◌∙◌, List, [], ℕ, Option, Some, true, subs
 use Rattle.std.specs.Prelude.{IfSome, unwrap_or}
 use Rattle.vd_transfer.specs.Registers.{reg_of}
 use Rattle.cfg_recover.specs.LocalRules.{targets_of_value}
-use Rattle.cfg_recover.specs.Duties.{jumps_to}
+use Rattle.cfg_recover.specs.Duties.{jump_duties_to}
 use Rattle.depth_check.specs.CheckedRegisters.{RegisterJumpsHold}
 use Rattle.depth_check.specs.LeastBroken.{FindsLeastBroken}
 use Rattle.depth_check.specs.DutiesHold.{DutiesHold, HasCoveringPoints}
@@ -42,5 +42,5 @@ returns-else-has_covering_points-clause-found c =
     let t = point_check_data c.at.inside in
     let s = t.point.state in
     rw (← c.at.view_is)
-    (subst (λ (l : List ℕ). FindsLeastBroken (DutiesHold t.cert t.node s (jumps_to s l)) (Some 4)) (c.as_slice.ensures.value ∙ c.targets-targets.ensures)
+    (subst (λ (l : List ℕ). FindsLeastBroken (DutiesHold t.cert t.node s (jump_duties_to s l)) (Some 4)) (c.as_slice.ensures.value ∙ c.targets-targets.ensures)
     (rw c.if-has_covering_points.false at (points_found t.cert t.node s s c.as_slice.result.now c.has_covering_points.result (rw (← c.at.view_is) at c.has_covering_points.ensures))))

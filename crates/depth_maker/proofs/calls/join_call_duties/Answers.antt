@@ -5,7 +5,7 @@ use Rattle.vd_transfer.specs.Changes.{state_after}
 use Rattle.depth_cert.specs.declared.keys.Key.{Key}
 use Rattle.cfg_recover.specs.Duties.{enter, entry_and_return, resume}
 use Rattle.cfg_recover.specs.Entries.{call_entry, call_key}
-use Rattle.depth_maker.specs.VisitDuties.{OwesDuties, OwesDuty, JoinedBy, call_duties}
+use Rattle.depth_maker.specs.VisitDuties.{OwesDuties, OwesDuty, JoinsDuties, call_duties}
 use Rattle.depth_maker.proofs.PartLemmas.{owes_both}
 use Rattle.depth_maker.proofs.calls.join_call_duties.Goals as goal
 
@@ -29,6 +29,6 @@ returns-in-Some-clause-ok c =
     let v = c.args.v.now in
     let t = c.join_entry_and_return.new.table in
     let one = (rw c.in-Some.is at c.direct_target.ensures.one) v.ground.now.plan.now v.state.now in
-    subst (λ (o : Option (List ℕ)). OnOk c.join_entry_and_return.result (JoinedBy v c.args.table.now t (call_duties v c.args.back (unwrap_or o [])))) (sym one)
-    (subst (λ (k : Key). OnOk c.join_entry_and_return.result (JoinedBy v c.args.table.now t (entry_and_return 5 k (call_entry v.state.now) c.args.back))) c.entered_key-key.ensures
-    (subst (λ (s : State). OnOk c.join_entry_and_return.result (JoinedBy v c.args.table.now t (entry_and_return 5 c.entered_key-key.result s c.args.back))) c.write_call_entry_change.ensures (c.join_entry_and_return.ensures.ok 5)))
+    subst (λ (o : Option (List ℕ)). OnOk c.join_entry_and_return.result (JoinsDuties v c.args.table.now t (call_duties v c.args.back (unwrap_or o [])))) (sym one)
+    (subst (λ (k : Key). OnOk c.join_entry_and_return.result (JoinsDuties v c.args.table.now t (entry_and_return 5 k (call_entry v.state.now) c.args.back))) c.entered_key-key.ensures
+    (subst (λ (s : State). OnOk c.join_entry_and_return.result (JoinsDuties v c.args.table.now t (entry_and_return 5 c.entered_key-key.result s c.args.back))) c.write_call_entry_change.ensures (c.join_entry_and_return.ensures.ok 5)))

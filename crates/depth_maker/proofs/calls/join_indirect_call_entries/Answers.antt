@@ -1,5 +1,5 @@
 use Rattle.std.proofs.Common.{sym, subst, ℕ, List}
-use Rattle.depth_maker.specs.VisitDuties.{enter_duties, JoinedBy, OwesDuties}
+use Rattle.depth_maker.specs.VisitDuties.{enter_duties, JoinsDuties, OwesDuties}
 use Rattle.depth_maker.proofs.PartLemmas.{visited_after}
 use Rattle.depth_maker.proofs.calls.join_indirect_call_entries.Goals as goal
 
@@ -17,4 +17,4 @@ cache_covered_call-requires-clause-visited c =
 pub returns-clause-ok : goal.returns-clause-ok
 returns-clause-ok c =
     let v = c.args.v.now in
-    c.in_ok-cache_covered_call.ensures.ok c.args.table.now (subst (λ (l : List ℕ). JoinedBy v c.args.table.now c.join_call_entries.new.table (enter_duties v l)) c.as_slice.ensures.value c.in_ok-join_call_entries.ensures.ok)
+    c.in_ok-cache_covered_call.ensures.ok c.args.table.now (subst (λ (l : List ℕ). JoinsDuties v c.args.table.now c.join_call_entries.new.table (enter_duties v l)) c.as_slice.ensures.value c.in_ok-join_call_entries.ensures.ok)

@@ -1,6 +1,6 @@
 use Rattle.std.proofs.Common.{sym, subst, ℕ, List, ◌∙◌}
 use Rattle.std.specs.Prelude.{OnOk}
-use Rattle.depth_maker.specs.VisitDuties.{resume_duties, OwesDuties, JoinedBy, call_duties}
+use Rattle.depth_maker.specs.VisitDuties.{resume_duties, OwesDuties, JoinsDuties, call_duties}
 use Rattle.depth_maker.proofs.Lawful.{lawful}
 use Rattle.depth_maker.proofs.NotedCalls.{on_halves, owes_entered, owes_resumed}
 use Rattle.depth_maker.proofs.PartLemmas.{visited_after}
@@ -27,7 +27,7 @@ returns-clause-ok c =
     let v = c.args.v.now in
     let t = c.join_call_returns.new.table in
     let ts = c.targets-targets.result.items in
-    subst (λ (l : List ℕ). OnOk c.join_call_returns.result (JoinedBy v c.args.table.now t (call_duties v c.args.back l))) c.targets-targets.ensures
+    subst (λ (l : List ℕ). OnOk c.join_call_returns.result (JoinsDuties v c.args.table.now t (call_duties v c.args.back l))) c.targets-targets.ensures
     (on_halves _ _ _ v.key v.addr v.state.now (lawful _ _ _ v.ground.now.sound) c.args.table.now c.join_indirect_call_entries.new.table t c.args.back ts c.join_call_returns.result c.requires.visited
     (subst (λ (l : List ℕ). OwesDuties v (call_duties v c.args.back l)) (sym c.targets-targets.ensures) c.requires.owes) c.in_ok-join_indirect_call_entries.ensures.ok
-    (subst (λ (l : List ℕ). OnOk c.join_call_returns.result (JoinedBy v c.join_indirect_call_entries.new.table t (resume_duties v c.args.back l))) c.as_slice.ensures.value c.join_call_returns.ensures.ok))
+    (subst (λ (l : List ℕ). OnOk c.join_call_returns.result (JoinsDuties v c.join_indirect_call_entries.new.table t (resume_duties v c.args.back l))) c.as_slice.ensures.value c.join_call_returns.ensures.ok))

@@ -7,7 +7,7 @@ use Rattle.depth_cert.specs.declared.keys.Key.{Key}
 use Rattle.cfg_recover.specs.Entries as entries
 use Rattle.cfg_recover.specs.Duties.{owed, enter}
 use Rattle.cfg_recover.specs.FlowDuties.{duties_of_irqs}
-use Rattle.depth_maker.specs.VisitDuties.{OwesDuty, JoinedBy}
+use Rattle.depth_maker.specs.VisitDuties.{OwesDuty, JoinsDuties}
 use Rattle.depth_maker.proofs.Lawful.{lawful}
 use Rattle.depth_maker.proofs.PartLemmas.{owes_at_map, duties_more_map, duties_none, visited_after}
 use Rattle.depth_maker.proofs.join_entries.join_each_handler_entry.Goals as goal
@@ -42,12 +42,12 @@ loop-p-preserved c =
       paid =
           duties_more_map _ _ _ v.key v.addr v.state.now (lawful _ _ _ v.ground.now.sound) c.args.table.now c.loop-p.table c.join_entry.new.table (λ (n : ℕ). owed 11 (enter (entries.irq_key plan n) (record from { ccpn = n })))
           c.args.irqs.now c.loop-p.p-index c.loop-p-test.true c.requires.visited c.requires.owes c.loop-p.invariant.paid
-          (subst (λ (k : Key). JoinedBy v c.loop-p.table c.join_entry.new.table (owed 11 (enter k (record from { ccpn = p })) ∷ [])) c.irq_key.ensures
-          (subst (λ (s : State). JoinedBy v c.loop-p.table c.join_entry.new.table (owed 11 (enter c.irq_key.result s) ∷ [])) entry (c.in_ok-join_entry.ensures.ok 11)));
+          (subst (λ (k : Key). JoinsDuties v c.loop-p.table c.join_entry.new.table (owed 11 (enter k (record from { ccpn = p })) ∷ [])) c.irq_key.ensures
+          (subst (λ (s : State). JoinsDuties v c.loop-p.table c.join_entry.new.table (owed 11 (enter c.irq_key.result s) ∷ [])) entry (c.in_ok-join_entry.ensures.ok 11)));
       same = c.loop-p.invariant.same;
     }
 
 pub returns-clause-ok : goal.returns-clause-ok
 returns-clause-ok c =
     let v = c.args.v.now in
-    subst (λ (l : List ℕ). JoinedBy v c.args.table.now c.loop-p.table (duties_of_irqs v.ground.now.plan.now (state_after v.state.now c.args.entry) l)) (take_all c.loop-p.p-index c.args.irqs.now c.loop-p-test.false) c.loop-p.invariant.paid
+    subst (λ (l : List ℕ). JoinsDuties v c.args.table.now c.loop-p.table (duties_of_irqs v.ground.now.plan.now (state_after v.state.now c.args.entry) l)) (take_all c.loop-p.p-index c.args.irqs.now c.loop-p-test.false) c.loop-p.invariant.paid

@@ -1,7 +1,7 @@
 use Rattle.std.proofs.Common.{sym, subst, ◌∙◌, List}
 use Rattle.std.proofs.lemmas.Bool.{eqb-true}
 use Rattle.cfg_recover.specs.Duties.{Owed}
-use Rattle.depth_maker.specs.VisitDuties.{JoinedBy}
+use Rattle.depth_maker.specs.VisitDuties.{JoinsDuties}
 use Rattle.depth_maker.proofs.DutyParts.{interrupts_none, interrupts_off}
 use Rattle.depth_maker.proofs.InterruptLaws.{taken_on}
 use Rattle.depth_maker.proofs.PartLemmas.{duties_none}
@@ -10,7 +10,7 @@ use Rattle.depth_maker.proofs.join_entries.join_irq_duties.Goals as goal
 pub returns-then-not-v-clause-ok : goal.returns-then-not-v-clause-ok
 returns-then-not-v-clause-ok c =
     let v = c.args.v.now in
-    subst (λ (l : List Owed). JoinedBy v c.args.table.now c.args.table.now l) (interrupts_off v.ground.now.plan.now v.key v.state.now c.if-not-v.true)
+    subst (λ (l : List Owed). JoinsDuties v c.args.table.now c.args.table.now l) (interrupts_off v.ground.now.plan.now v.key v.state.now c.if-not-v.true)
     (duties_none _ _ _ v.key v.addr v.state.now c.args.table.now c.requires.visited.fine)
 
 pub returns-then-has_covering_context-clause-ok : goal.returns-then-has_covering_context-clause-ok
@@ -19,7 +19,7 @@ returns-then-has_covering_context-clause-ok c = c.has_covering_context.ensures c
 pub returns-then-is_empty-clause-ok : goal.returns-then-is_empty-clause-ok
 returns-then-is_empty-clause-ok c =
     let v = c.args.v.now in
-    subst (λ (l : List Owed). JoinedBy v c.args.table.now c.args.table.now l) (interrupts_none v.ground.now.plan.now v.key v.state.now c.possible_irqs-irqs.result.items c.possible_irqs-irqs.ensures (eqb-true _ _ (sym c.is_empty.ensures ∙ c.if-is_empty.true)))
+    subst (λ (l : List Owed). JoinsDuties v c.args.table.now c.args.table.now l) (interrupts_none v.ground.now.plan.now v.key v.state.now c.possible_irqs-irqs.result.items c.possible_irqs-irqs.ensures (eqb-true _ _ (sym c.is_empty.ensures ∙ c.if-is_empty.true)))
     (duties_none _ _ _ v.key v.addr v.state.now c.args.table.now c.requires.visited.fine)
 
 pub join_interrupt_entries-requires-clause-irqs : goal.join_interrupt_entries-requires-clause-irqs

@@ -5,7 +5,7 @@ use Rattle.vd_transfer.specs.Changes.{state_after}
 use Rattle.depth_cert.specs.declared.keys.Key.{Key}
 use Rattle.cfg_recover.specs.Entries as entries
 use Rattle.cfg_recover.specs.Duties.{enter, resume, entry_and_return}
-use Rattle.depth_maker.specs.VisitDuties.{OwesDuty, JoinedBy}
+use Rattle.depth_maker.specs.VisitDuties.{OwesDuty, JoinsDuties}
 use Rattle.depth_maker.proofs.PartLemmas.{owes_both}
 use Rattle.depth_maker.proofs.join_entries.join_system_call_duties.Goals as goal
 
@@ -28,5 +28,5 @@ pub returns-clause-ok : goal.returns-clause-ok
 returns-clause-ok c =
     let v = c.args.v.now in
     let g = v.ground.now in
-    subst (λ (k : Key). OnOk c.join_entry_and_return.result (JoinedBy v c.args.table.now c.join_entry_and_return.new.table (entry_and_return 12 k (entries.sys_entry g.plan.now v.key v.state.now c.args.tin) c.args.back))) c.sys_key.ensures
-    (subst (λ (s : State). OnOk c.join_entry_and_return.result (JoinedBy v c.args.table.now c.join_entry_and_return.new.table (entry_and_return 12 c.sys_key.result s c.args.back))) c.sys_entry_change-entry.ensures.entry (c.join_entry_and_return.ensures.ok 12))
+    subst (λ (k : Key). OnOk c.join_entry_and_return.result (JoinsDuties v c.args.table.now c.join_entry_and_return.new.table (entry_and_return 12 k (entries.sys_entry g.plan.now v.key v.state.now c.args.tin) c.args.back))) c.sys_key.ensures
+    (subst (λ (s : State). OnOk c.join_entry_and_return.result (JoinsDuties v c.args.table.now c.join_entry_and_return.new.table (entry_and_return 12 c.sys_key.result s c.args.back))) c.sys_entry_change-entry.ensures.entry (c.join_entry_and_return.ensures.ok 12))

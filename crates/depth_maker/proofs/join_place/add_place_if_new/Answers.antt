@@ -4,7 +4,7 @@ use Rattle.std.proofs.lemmas.Result.{err_from_is_err_and}
 use Rattle.cfg_recover.specs.Assignments.{joined_at_place}
 use Rattle.depth_cert.specs.Known.{Known}
 use Rattle.frame_places.proofs.MarkLemmas.{same_number}
-use Rattle.frame_places.specs.Counting.{IsRule15Refusal, frames_after_flow, points_after_flow}
+use Rattle.frame_places.specs.Counting.{IsLimitRefusal, frames_after_recording, points_after_recording}
 use Rattle.frame_places.specs.Work.{all_work}
 use Rattle.depth_maker.specs.TableView.{view_of_table}
 use Rattle.depth_maker.proofs.CountedLemmas.{are_few, few_spots, limit_passed}
@@ -29,7 +29,7 @@ returns-in_err-record_place-in-None c = λ g fine asks.
     let p = err_from_is_err_and c.from_residual-in_err-record_place-in-None.result c.from_residual-in_err-record_place-in-None.ensures.1 in
     rw (p.1, p.2)
     (limit_passed _ _ _ s.places s.points.items s.frames.items c.args.y c.args.value (fine.table).derived asks fine.counted _
-    (subst (λ (k : Bool). IsRule15Refusal k s.points.items s.frames.items c.args.y c.in_err-record_place-in-None.field-0.0) (sym (ap is_some new)) c.in_err-record_place-in-None.ensures.err))
+    (subst (λ (k : Bool). IsLimitRefusal k s.points.items s.frames.items c.args.y c.in_err-record_place-in-None.field-0.0) (sym (ap is_some new)) c.in_err-record_place-in-None.ensures.err))
 
 pub returns-in_ok-record_place-in-None : goal.returns-in_ok-record_place-in-None
 returns-in_ok-record_place-in-None c = λ g fine asks.
@@ -45,8 +45,8 @@ returns-in_ok-record_place-in-None c = λ g fine asks.
       near = refl;
       readers = refl;
       covered = refl;
-      points = c.in_ok-record_place-in-None.ensures.points ∙ ap (λ (k : Bool). points_after_flow k s.points.items c.args.y) (sym (ap is_some new));
-      frames = c.in_ok-record_place-in-None.ensures.frames ∙ ap (λ (k : Bool). frames_after_flow k s.frames.items c.args.y) (sym (ap is_some new));
+      points = c.in_ok-record_place-in-None.ensures.points ∙ ap (λ (k : Bool). points_after_recording k s.points.items c.args.y) (sym (ap is_some new));
+      frames = c.in_ok-record_place-in-None.ensures.frames ∙ ap (λ (k : Bool). frames_after_recording k s.frames.items c.args.y) (sym (ap is_some new));
       few = are_few _ _ c.in_ok-record_place-in-None.ensures.few_points c.in_ok-record_place-in-None.ensures.few_frames;
     }
 

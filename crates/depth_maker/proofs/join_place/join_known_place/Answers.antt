@@ -7,7 +7,7 @@ use Rattle.depth_cert.specs.Known.{CoversKnown, Known, state}
 use Rattle.value_domain.specs.declared.states.State.{State}
 use Rattle.frame_places.specs.declared.places.Spot.TheVariants.{Point}
 use Rattle.frame_places.specs.declared.places.Marked.{Marked}
-use Rattle.frame_places.specs.Counting.{frames_after_flow, points_after_flow}
+use Rattle.frame_places.specs.Counting.{frames_after_recording, points_after_recording}
 use Rattle.frame_places.specs.Marks.{value_of_place}
 use Rattle.frame_places.proofs.NearbyLemmas.{had_at, nowhere}
 use Rattle.small_states.specs.Incoming.{incoming_known}
@@ -90,8 +90,8 @@ returns c =
       near = refl;
       readers = refl;
       covered = refl;
-      points = ap (λ (k : Bool). points_after_flow k s.points.items c.args.y.now) (sym (ap is_some at));
-      frames = ap (λ (k : Bool). frames_after_flow k s.frames.items c.args.y.now) (sym (ap is_some at));
+      points = ap (λ (k : Bool). points_after_recording k s.points.items c.args.y.now) (sym (ap is_some at));
+      frames = ap (λ (k : Bool). frames_after_recording k s.frames.items c.args.y.now) (sym (ap is_some at));
       few = (c.requires.fine.counted).few;
     }
 

@@ -3,7 +3,7 @@ use Rattle.std.specs.Prelude.{OnOk}
 use Rattle.value_domain.specs.declared.states.State.{State}
 use Rattle.tc_machine.specs.Instructions.{wrapping_sum}
 use Rattle.cfg_recover.specs.Duties.{owed, jump}
-use Rattle.depth_maker.specs.VisitDuties.{OwesDuty, JoinedBy}
+use Rattle.depth_maker.specs.VisitDuties.{OwesDuty, JoinsDuties}
 use Rattle.depth_maker.proofs.PartLemmas.{owes_one}
 use Rattle.depth_maker.proofs.join_successors.join_next_instruction.Goals as goal
 
@@ -19,4 +19,4 @@ join_first_successor-requires-clause-owes c =
 pub returns-clause-ok : goal.returns-clause-ok
 returns-clause-ok c =
     let v = c.args.v.now in
-    subst (λ (s : State). OnOk c.join_first_successor.result (JoinedBy v c.args.table.now c.join_first_successor.new.table (owed 4 (jump (wrapping_sum v.addr c.args.found.now.size) s) ∷ []))) c.write_step_change.ensures.change c.join_first_successor.ensures.ok
+    subst (λ (s : State). OnOk c.join_first_successor.result (JoinsDuties v c.args.table.now c.join_first_successor.new.table (owed 4 (jump (wrapping_sum v.addr c.args.found.now.size) s) ∷ []))) c.write_step_change.ensures.change c.join_first_successor.ensures.ok

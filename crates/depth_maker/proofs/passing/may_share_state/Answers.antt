@@ -5,7 +5,7 @@ use Rattle.depth_cert.specs.Known.{Known, state}
 use Rattle.frame_places.specs.declared.places.Marked.{Marked}
 use Rattle.frame_places.specs.declared.places.Spot.TheVariants.{Point}
 use Rattle.frame_places.proofs.NearbyLemmas.{had_at}
-use Rattle.depth_maker.specs.InterruptHandlers.{AreInterruptsCoveredForCcpn}
+use Rattle.depth_maker.specs.InterruptHandlers.{HasCoveringContextForCcpn}
 use Rattle.depth_maker.proofs.PassingLaws.{quiet_noted, quiet_off}
 use Rattle.depth_maker.proofs.PlainRows.{off_of}
 use Rattle.depth_maker.proofs.passing.may_share_state.Goals as goal
@@ -30,4 +30,4 @@ returns-else-not-outline c t u at =
     let is : own.value ≡ state u = same_Some own.value (state u) (sym (ap (option_map (λ (m : Marked Known). m.value)) had) ∙ at) in
     let outline = rw (c.in-Some-outline.is, is) at c.outline.ensures in
     let byte = c.ccpn_fits_byte.ensures in
-    (quiet_noted _ _ _ v.key v.addr u s c.requires.fine (subst (λ (n : ℕ). AreInterruptsCoveredForCcpn s v.key.is n) (sym outline.1) (c.has_covering_context_for_ccpn.ensures t)), omega (arith, outline.1, byte))
+    (quiet_noted _ _ _ v.key v.addr u s c.requires.fine (subst (λ (n : ℕ). HasCoveringContextForCcpn s v.key.is n) (sym outline.1) (c.has_covering_context_for_ccpn.ensures t)), omega (arith, outline.1, byte))

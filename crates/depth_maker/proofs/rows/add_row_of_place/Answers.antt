@@ -3,7 +3,7 @@ use Rattle.indexmap.specs.IndexMap.{get}
 use Rattle.frame_places.specs.Spots.{spot_eq}
 use Rattle.frame_places.specs.declared.places.Spot.TheVariants.{Point}
 use Rattle.small_states.specs.declared.known.Outline.{Outline}
-use Rattle.depth_maker.specs.Rows.{IsRowOfOutline, HasEqualRow}
+use Rattle.depth_maker.specs.Rows.{IsRowOfOutline, HasListedOutline}
 use Rattle.depth_maker.specs.declared.rows.KnownPoint.{KnownPoint}
 use Rattle.depth_maker.proofs.PlainRows.{plain_point}
 use Rattle.depth_maker.proofs.RowSteps.{draft_more, draft_same, index_there, number_there, row_moves}
@@ -22,7 +22,7 @@ returns-then-has_listed_outline c =
     let p = c.in-Point.addr in
     let known = c.in-Some.known.now in
     let node = c.frame_number_with_hint-node.result in
-    let b = subst (λ (l : List (Option Outline)). HasEqualRow l node known) c.as_slice.ensures.value (c.has_listed_outline.ensures c.if-has_listed_outline.true) in
+    let b = subst (λ (l : List (Option Outline)). HasListedOutline l node known) c.as_slice.ensures.value (c.has_listed_outline.ensures c.if-has_listed_outline.true) in
     let at : get spot_eq s.table.now.places (Point k p) ≡ Some known = ap (get spot_eq s.table.now.places) (sym c.in-Point.is) ∙ c.in-Some.ensures.value in
     let number = number_there s c.requires.source k p known node at c.frame_number_with_hint-node.ensures in
     let r = (c.requires.draft).outlines node b.outline b.there in

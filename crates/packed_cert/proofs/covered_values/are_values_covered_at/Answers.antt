@@ -4,7 +4,7 @@ use Rattle.value_domain.specs.Values.{IsBelow, any_val}
 use Rattle.value_domain.proofs.RangeLaws.{below_any}
 use Rattle.value_domain.proofs.RegLaws.{below_more}
 use Rattle.packed_cert.specs.ToCover.{values_to_cover}
-use Rattle.packed_cert.specs.ValuesInBytes.{place_after_value, value_in_bytes, values_in_bytes}
+use Rattle.packed_cert.specs.ValuesInBytes.{offset_after_value, value_in_bytes, values_in_bytes}
 use Rattle.packed_cert.proofs.ValueShapes.{left_first, length-values_in, stands_at}
 use Rattle.packed_cert.proofs.covered_values.are_values_covered_at.Goals as goal
 use Rattle.packed_cert.proofs.covered_values.are_values_covered_at.Goals.{else-tag-ne0-via-then-tag-ne0+else-not-is_below_value_at, else-tag-ne0-via-else-tag-ne0}
@@ -25,7 +25,7 @@ bounds-bytes-at c =
 pub overflow_add-at : goal.overflow_add-at
 overflow_add-at c =
     let l = left_first c.args.version c.args.bytes.now c.loop-i.at c.args.n c.loop-i.i (values_in_bytes c.args.version c.args.bytes.now c.args.place c.args.n) (omega arith) (length-values_in c.args.version c.args.bytes.now c.args.place c.args.n) c.loop-i.invariant.have c.loop-i.invariant.left in
-    let next : c.loop-i.at + c.value_length_by_tag-at.result ≡ place_after_value c.args.bytes.now c.loop-i.at = ap (λ (k : ℕ). c.loop-i.at + k) c.value_length_by_tag-at.ensures in
+    let next : c.loop-i.at + c.value_length_by_tag-at.result ≡ offset_after_value c.args.bytes.now c.loop-i.at = ap (λ (k : ℕ). c.loop-i.at + k) c.value_length_by_tag-at.ensures in
     let within : c.loop-i.at + c.value_length_by_tag-at.result ≤ length c.args.bytes.now = rw next (stands_at c.args.version c.args.bytes.now c.loop-i.at (λ k. (c.type_inv.bytes k).fits) l.0).within in
     omega (arith, within)
 
@@ -43,7 +43,7 @@ loop-i-preserved c =
     let vs = values_in_bytes c.args.version c.args.bytes.now c.args.place c.args.n in
     let low = values_to_cover c.args.values.now in
     let l = left_first c.args.version c.args.bytes.now c.loop-i.at c.args.n c.loop-i.i vs (omega arith) (length-values_in c.args.version c.args.bytes.now c.args.place c.args.n) c.loop-i.invariant.have c.loop-i.invariant.left in
-    let next : c.loop-i.at + c.value_length_by_tag-at.result ≡ place_after_value c.args.bytes.now c.loop-i.at = ap (λ (k : ℕ). c.loop-i.at + k) c.value_length_by_tag-at.ensures in
+    let next : c.loop-i.at + c.value_length_by_tag-at.result ≡ offset_after_value c.args.bytes.now c.loop-i.at = ap (λ (k : ℕ). c.loop-i.at + k) c.value_length_by_tag-at.ensures in
     let s = stands_at c.args.version c.args.bytes.now c.loop-i.at (λ k. (c.type_inv.bytes k).fits) l.0 in
     let here : IsBelow (get_or low c.loop-i.i any_val) (value_in_bytes c.args.version c.args.bytes.now c.loop-i.at) =
     elim c.else-tag-ne0.branch [

@@ -5,7 +5,7 @@ use Rattle.value_domain.specs.Values.{IsBelow, any_val}
 use Rattle.value_domain.proofs.RangeLaws.{below_any}
 use Rattle.vd_transfer.specs.Changes.{state_after}
 use Rattle.vd_transfer.proofs.ChangeLaws.{length-changed}
-use Rattle.packed_cert.specs.ValuesInBytes.{place_after_value, value_in_bytes}
+use Rattle.packed_cert.specs.ValuesInBytes.{offset_after_value, value_in_bytes}
 use Rattle.packed_cert.specs.PointsInBytes.{state_in_bytes}
 use Rattle.packed_cert.proofs.ValueShapes.{left_first, stands_at}
 use Rattle.packed_cert.proofs.next_covers.is_changed_row_below.Goals as goal
@@ -44,7 +44,7 @@ overflow_add-at c =
     let vs = (state_in_bytes c.args.version c.args.bytes.now c.args.point.place).regs in
     let len : length vs ≡ 27 = omega (arith, c.requires.moved.row.count) in
     let l = left_first c.args.version c.args.bytes.now c.loop-i.at 27 c.loop-i.i vs (omega (arith, c.requires.moved.few)) len (c.loop-i.invariant.have (omega arith)) (c.loop-i.invariant.left (omega arith)) in
-    let next : c.loop-i.at + c.value_length_by_tag-at.result ≡ place_after_value c.args.bytes.now c.loop-i.at = ap (λ (k : ℕ). c.loop-i.at + k) c.value_length_by_tag-at.ensures in
+    let next : c.loop-i.at + c.value_length_by_tag-at.result ≡ offset_after_value c.args.bytes.now c.loop-i.at = ap (λ (k : ℕ). c.loop-i.at + k) c.value_length_by_tag-at.ensures in
     let within : c.loop-i.at + c.value_length_by_tag-at.result ≤ length c.args.bytes.now = rw next (stands_at c.args.version c.args.bytes.now c.loop-i.at (λ k. (c.type_inv.bytes k).fits) l.0).within in
     omega (arith, within)
 
@@ -55,7 +55,7 @@ loop-i-preserved c =
     let i = c.loop-i.i in
     let len : length vs ≡ 27 = omega (arith, c.requires.moved.row.count) in
     let l = left_first c.args.version c.args.bytes.now c.loop-i.at 27 i vs (omega (arith, c.requires.moved.few)) len (c.loop-i.invariant.have (omega arith)) (c.loop-i.invariant.left (omega arith)) in
-    let next : c.loop-i.at + c.value_length_by_tag-at.result ≡ place_after_value c.args.bytes.now c.loop-i.at = ap (λ (k : ℕ). c.loop-i.at + k) c.value_length_by_tag-at.ensures in
+    let next : c.loop-i.at + c.value_length_by_tag-at.result ≡ offset_after_value c.args.bytes.now c.loop-i.at = ap (λ (k : ℕ). c.loop-i.at + k) c.value_length_by_tag-at.ensures in
     let more : length low ≡ 27 = length-changed c.args.s.now c.args.c.now (omega arith) in
     let s = stands_at c.args.version c.args.bytes.now c.loop-i.at (λ k. (c.type_inv.bytes k).fits) l.0 in
     let here : IsBelow (get_or low i any_val) (value_in_bytes c.args.version c.args.bytes.now c.loop-i.at) =

@@ -3,7 +3,7 @@ use Rattle.std.proofs.Math.Seq.{get_or-append_seam}
 use Rattle.std.proofs.lemmas.Result.{err_from_is_err_and}
 use Rattle.std.proofs.lemmas.Bool.{ne_eqb}
 use Rattle.std.proofs.lemmas.List.Elements.{All-push}
-use Rattle.depth_cert.specs.Grammar.{points_at, point_after, last_number_read, address_after}
+use Rattle.depth_cert.specs.Grammar.{points_at, point_after, last_number, address_after}
 use Rattle.tcd_base.proofs.ManyLaws.{many_more, many_fail, many_end}
 use Rattle.depth_cert.proofs.ManyLaws.{rising_map_push, last_of-push}
 use Rattle.depth_cert.proofs.PointReads.{address_fails, state_fails}
@@ -12,7 +12,7 @@ use Rattle.value_domain.specs.declared.states.State.{State}
 use Rattle.std.specs.Prelude.{IsTrue}
 use Rattle.packed_cert.specs.declared.places.ReadState.{ReadState}
 use Rattle.packed_cert.specs.ChangedRows.{ChangesOnlyRow}
-use Rattle.packed_cert.specs.PointsInBytes.{state_in_bytes, points_in_bytes, HasStateInBytes}
+use Rattle.packed_cert.specs.PointsInBytes.{state_in_bytes, points_in_bytes, StateBeginsAt}
 use Rattle.packed_cert.specs.ValuesInBytes.{read_from_bytes_or}
 use Rattle.value_domain.specs.State.{no_state}
 use Rattle.packed_cert.specs.Moves.{IsStateBefore, DiffersOnlyInRow}
@@ -27,7 +27,7 @@ returns-in_err-addr-clause-err c =
     let before = points_in_bytes c.args.version c.args.bytes.now c.loop-i.points.items in
     let e = rw c.loop-i.invariant.last at c.in_err-addr.ensures.read.read in
     let fault = many_fail (point_after c.args.version) c.in_ok-count.count c.loop-i.i before c.read_point_count.new.c c.loop-i.c _ c.loop-i-test.true c.loop-i.invariant.read
-    (address_fails c.args.version before c.loop-i.c _ (ap (λ (l : _). address_after (last_number_read l) c.loop-i.c) (addresses_in c.args.version c.args.bytes.now c.loop-i.points.items) ∙ e)) in
+    (address_fails c.args.version before c.loop-i.c _ (ap (λ (l : _). address_after (last_number l) c.loop-i.c) (addresses_in c.args.version c.args.bytes.now c.loop-i.points.items) ∙ e)) in
     rw (p.1, p.2, c.in_ok-count.ensures.read.read) fault
 
 pub returns-in_err-read-clause-err : goal.returns-in_err-read-clause-err
@@ -37,7 +37,7 @@ returns-in_err-read-clause-err c =
     let before = points_in_bytes c.args.version c.args.bytes.now c.loop-i.points.items in
     let e = rw c.loop-i.invariant.last at c.in_ok-addr.ensures.read.read in
     let fault = many_fail (point_after c.args.version) c.in_ok-count.count c.loop-i.i before c.read_point_count.new.c c.loop-i.c _ c.loop-i-test.true c.loop-i.invariant.read
-    (state_fails c.args.version before c.loop-i.c _ _ _ (ap (λ (l : _). address_after (last_number_read l) c.loop-i.c) (addresses_in c.args.version c.args.bytes.now c.loop-i.points.items) ∙ e) c.in_err-read.ensures.err) in
+    (state_fails c.args.version before c.loop-i.c _ _ _ (ap (λ (l : _). address_after (last_number l) c.loop-i.c) (addresses_in c.args.version c.args.bytes.now c.loop-i.points.items) ∙ e) c.in_err-read.ensures.err) in
     rw (p.1, p.2, c.in_ok-count.ensures.read.read) fault
 
 pub loop-i-preserved : goal.loop-i-preserved
@@ -52,7 +52,7 @@ loop-i-preserved c =
     let item : PointPlace = record { addr = c.in_ok-addr.addr; place = c.in_ok-read.read.at.start; row = c.with_whole_row_if_first-kept.result.row; same = c.with_whole_row_if_first-kept.result.same } in
     let stands = c.in_ok-read.ensures.held in
     let is : state_in_bytes version bytes item.place ≡ c.read_or_skip_state.new.out = ap (read_from_bytes_or no_state) stands.read in
-    let there : HasStateInBytes version bytes item.place = (_, stands.read) in
+    let there : StateBeginsAt version bytes item.place = (_, stands.read) in
     let more = point_more version bytes ps item c.loop-i.c q _ _ is e c.in_ok-read.ensures.ok in
     let pushed : c.push.new.self.items ≡ ps ++ item ∷ [] = c.in_ok-push.ensures.items in
     let size = c.loop-i.invariant.count in
@@ -70,7 +70,7 @@ loop-i-preserved c =
           (many_more (point_after version) c.in_ok-count.count c.loop-i.i (points_in_bytes version bytes ps) c.read_point_count.new.c c.loop-i.c _ _ c.loop-i-test.true c.loop-i.invariant.read more);
       bytes = c.read_or_skip_state.ensures.bytes ∙ c.read_address.ensures.read.bytes ∙ c.loop-i.invariant.bytes;
       count = omega (arith, c.in_ok-push.ensures.len, c.loop-i.invariant.count);
-      states = rw pushed (All-push (λ (p : PointPlace). HasStateInBytes version bytes p.place) ps item c.loop-i.invariant.states there);
+      states = rw pushed (All-push (λ (p : PointPlace). StateBeginsAt version bytes p.place) ps item c.loop-i.invariant.states there);
       rising = rw pushed (rising_map_push (λ (p : PointPlace). p.addr) ps item c.loop-i.invariant.rising next);
       last = rw pushed (sym (last_of-push (λ (p : PointPlace). p.addr) ps item));
       used = c.loop-i.invariant.used;

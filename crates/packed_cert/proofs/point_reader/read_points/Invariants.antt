@@ -3,9 +3,9 @@ use Rattle.std.specs.Prelude.{IfSome}
 use Rattle.std.specs.List.{All}
 use Rattle.std.specs.List.Sorted.{IsStrictlyIncreasing}
 use Rattle.tcd_base.specs.FieldReaders.{many_fields_at}
-use Rattle.depth_cert.specs.Grammar.{last_number_read, point_after}
+use Rattle.depth_cert.specs.Grammar.{last_number, point_after}
 use Rattle.packed_cert.specs.declared.places.PointPlace.{PointPlace}
-use Rattle.packed_cert.specs.PointsInBytes.{state_in_bytes, points_in_bytes, HasStateInBytes, AreStatePlaces}
+use Rattle.packed_cert.specs.PointsInBytes.{state_in_bytes, points_in_bytes, StateBeginsAt, AreStatePlaces}
 use Rattle.packed_cert.specs.Moves.{AllDifferOnlyInRows}
 use Rattle.packed_cert.proofs.point_reader.read_points.Given as goal
 
@@ -14,9 +14,9 @@ invariant-loop-i l = record {
   read : many_fields_at (point_after l.version) l.count [] l.initial.c ≡ many_fields_at (point_after l.version) (l.count - l.i) (points_in_bytes l.version l.bytes l.points.items) l.c;
   bytes : l.c.bytes ≡ l.initial.c.bytes;
   count : length l.points.items ≡ l.i;
-  states : All (λ p. HasStateInBytes l.version l.bytes p.place) l.points.items;
+  states : All (λ p. StateBeginsAt l.version l.bytes p.place) l.points.items;
   rising : IsStrictlyIncreasing (map (λ p. p.addr) l.points.items);
-  last : l.last ≡ last_number_read (map (λ p. p.addr) l.points.items);
+  last : l.last ≡ last_number (map (λ p. p.addr) l.points.items);
   used : l.room.used ≡ l.initial.room.used;
   exit : l.room.exit ≡ l.initial.room.exit;
   state : IfSome l.room.last (AreStatePlaces l.version l.bytes l.room.state);

@@ -4,7 +4,7 @@ use Rattle.value_domain.specs.Values.{IsBelow, any_val}
 use Rattle.value_domain.proofs.RegLaws.{below_more}
 use Rattle.depth_cert.specs.Exits.{values_after_return_from}
 use Rattle.depth_cert.proofs.ExitValues.{with_lower_length}
-use Rattle.packed_cert.specs.ValuesInBytes.{place_after_value, value_in_bytes, values_in_bytes}
+use Rattle.packed_cert.specs.ValuesInBytes.{offset_after_value, value_in_bytes, values_in_bytes}
 use Rattle.packed_cert.proofs.ValueShapes.{left_first, length-values_in, stands_at}
 use Rattle.packed_cert.proofs.LowerLaws.{LeftBehind, lower_before, lower_step}
 use Rattle.packed_cert.proofs.restored_values.are_restored_below.Goals as goal
@@ -34,7 +34,7 @@ bounds-high-at c =
 pub overflow_add-at : goal.overflow_add-at
 overflow_add-at c =
     let l = left_first c.args.high.version c.args.high.bytes.now c.loop-i.at 27 c.loop-i.i (values_in_bytes c.args.high.version c.args.high.bytes.now c.args.high.place 27) (omega arith) (length-values_in c.args.high.version c.args.high.bytes.now c.args.high.place 27) c.loop-i.invariant.have c.loop-i.invariant.left in
-    let next : c.loop-i.at + c.value_length_by_tag-at.result ≡ place_after_value c.args.high.bytes.now c.loop-i.at = ap (λ (k : ℕ). c.loop-i.at + k) c.value_length_by_tag-at.ensures in
+    let next : c.loop-i.at + c.value_length_by_tag-at.result ≡ offset_after_value c.args.high.bytes.now c.loop-i.at = ap (λ (k : ℕ). c.loop-i.at + k) c.value_length_by_tag-at.ensures in
     let within : c.loop-i.at + c.value_length_by_tag-at.result ≤ length c.args.high.bytes.now = rw next (stands_at c.args.high.version c.args.high.bytes.now c.loop-i.at c.cert_bytes_below_256.ensures l.0).within in
     omega (arith, within)
 
@@ -55,7 +55,7 @@ loop-i-preserved c =
     let low = values_after_return_from 0 (values_in_bytes c.args.lower.version c.args.lower.bytes.now c.args.lower.place 14) c.args.regs.now in
     let l = left_first c.args.high.version c.args.high.bytes.now c.loop-i.at 27 c.loop-i.i (values_in_bytes c.args.high.version c.args.high.bytes.now c.args.high.place 27) (omega arith) (length-values_in c.args.high.version c.args.high.bytes.now c.args.high.place 27) c.loop-i.invariant.have c.loop-i.invariant.left in
     let step = lower_step c.args.lower.version c.args.lower.bytes.now c.args.lower.place c.loop-i.i c.loop-i.from c.args.regs.now (omega arith) (omega arith) c.loop-i.invariant.lower in
-    let next : c.loop-i.at + c.value_length_by_tag-at.result ≡ place_after_value c.args.high.bytes.now c.loop-i.at = ap (λ (k : ℕ). c.loop-i.at + k) c.value_length_by_tag-at.ensures in
+    let next : c.loop-i.at + c.value_length_by_tag-at.result ≡ offset_after_value c.args.high.bytes.now c.loop-i.at = ap (λ (k : ℕ). c.loop-i.at + k) c.value_length_by_tag-at.ensures in
     let here : IsBelow (get_or low c.loop-i.i any_val) (value_in_bytes c.args.high.version c.args.high.bytes.now c.loop-i.at) =
     subst (λ (v : Val). IsBelow v (value_in_bytes c.args.high.version c.args.high.bytes.now c.loop-i.at)) (sym step.is) (c.is_restored_below.ensures.0 c.if-not-is_restored_below.false)
     in

@@ -6,7 +6,7 @@ use Rattle.value_domain.specs.Values.{any_val}
 use Rattle.depth_cert.specs.Grammar.{value_at, values_at}
 use Rattle.tcd_base.proofs.ManyLaws.{many_more, many_fail, many_end}
 use Rattle.packed_cert.specs.RepeatedBytes.{AreBytesRepeated}
-use Rattle.packed_cert.specs.ValuesInBytes.{place_after_value, place_in_bytes}
+use Rattle.packed_cert.specs.ValuesInBytes.{offset_after_value, place_in_bytes}
 use Rattle.packed_cert.proofs.SameBytes.{stand_next, value_stands, alike_read, alike_behind, all_read}
 use Rattle.packed_cert.proofs.ReadRows.{row_and_more}
 use Rattle.packed_cert.proofs.RowLaws.{place_after-more}
@@ -86,7 +86,7 @@ loop-i-preserved c =
             few = rw w2.row-is (omega (arith, inv.few));
             placed =
                 let there = value_stands version bytes y _ _ (λ k. (c.type_inv.bytes k).fits) (omega (arith, inv.second)) one in
-                rw w2.place-is (place_after-more bytes c.args.c.now.place c.loop-i.i ∙ ap (place_after_value bytes) inv.placed ∙ ap (λ (p : Place). p.place) (sym there.end));
+                rw w2.place-is (place_after-more bytes c.args.c.now.place c.loop-i.i ∙ ap (offset_after_value bytes) inv.placed ∙ ap (λ (p : Place). p.place) (sym there.end));
             from = rw w2.row-is inv.from;
           }
       | else-next-stop+in_ok-read_value w2 ↦
@@ -112,7 +112,7 @@ loop-i-preserved c =
             placed =
                 let read = ap (value_at version) (sym moved) ∙ w2.in_ok-read_value.ensures.ok in
                 let stood = value_stands version bytes y _ _ (λ k. (c.type_inv.bytes k).fits) (omega (arith, inv.second)) read in
-                rw w2.place-is (place_after-more bytes c.args.c.now.place c.loop-i.i ∙ ap (place_after_value bytes) inv.placed ∙ sym (ap (λ (p : Place). p.place) stood.end) ∙ sym w2.place-place-else-next-stop.ensures.place);
+                rw w2.place-is (place_after-more bytes c.args.c.now.place c.loop-i.i ∙ ap (offset_after_value bytes) inv.placed ∙ sym (ap (λ (p : Place). p.place) stood.end) ∙ sym w2.place-place-else-next-stop.ensures.place);
             from = rw w2.row-is (w2.row_extended_to-row.ensures.from bytes c.args.c.now.place inv.from (sym inv.placed));
           }
     ]

@@ -2,8 +2,8 @@ use Rattle.std.proofs.Common.{◌≡◌, ◌≤◌, ◌+◌, ◌-◌, length, []
 use Rattle.tcd_base.specs.FieldReaders.{many_fields_at}
 use Rattle.depth_cert.specs.Grammar.{value_at}
 use Rattle.packed_cert.specs.RepeatedBytes.{AreBytesRepeated}
-use Rattle.packed_cert.specs.ValuesInBytes.{AreValuesBetween, place_in_bytes, place_after_values}
-use Rattle.packed_cert.specs.ChangedRows.{ChangesOnlyRow, RowBeginsAtPlace}
+use Rattle.packed_cert.specs.ValuesInBytes.{AreValuesBetween, place_in_bytes, offset_after_values}
+use Rattle.packed_cert.specs.ChangedRows.{ChangesOnlyRow, IsRowOfValuesAt}
 use Rattle.packed_cert.proofs.value_reader.read_changed_values.Given as goal
 
 abbrev pub invariant-loop-i : goal.invariant-loop-i
@@ -18,6 +18,6 @@ invariant-loop-i l = record {
   same : AreBytesRepeated l.bytes l.from l.place (l.stop - l.from);
   row : ChangesOnlyRow l.initial.out l.out l.row;
   few : (l.row).behind ≤ l.i;
-  placed : place_after_values l.bytes l.initial.c.place l.i ≡ l.place;
-  from : RowBeginsAtPlace l.bytes l.initial.c.place l.row;
+  placed : offset_after_values l.bytes l.initial.c.place l.i ≡ l.place;
+  from : IsRowOfValuesAt l.bytes l.initial.c.place l.row;
 }

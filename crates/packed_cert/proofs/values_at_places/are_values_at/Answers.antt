@@ -3,7 +3,7 @@ use Rattle.std.proofs.lemmas.Bool.{cases_lt}
 use Rattle.value_domain.specs.declared.values.Val.{Val}
 use Rattle.value_domain.specs.Values.{IsInLattice, any_val}
 use Rattle.value_domain.proofs.RangeLaws.{any_value}
-use Rattle.packed_cert.specs.ValuesInBytes.{place_after_value, value_in_bytes, values_in_bytes}
+use Rattle.packed_cert.specs.ValuesInBytes.{offset_after_value, value_in_bytes, values_in_bytes}
 use Rattle.packed_cert.proofs.ValueShapes.{left_first, length-values_in, stands_at}
 use Rattle.packed_cert.proofs.values_at_places.are_values_at.Goals as goal
 use Rattle.packed_cert.proofs.values_at_places.are_values_at.Goals.{else-tag-ne0-via-then-tag-ne0+else-not-is_value_at, else-tag-ne0-via-else-tag-ne0}
@@ -19,7 +19,7 @@ bounds-bytes-at c =
 pub overflow_add-at : goal.overflow_add-at
 overflow_add-at c =
     let l = left_first c.args.version c.args.bytes.now c.loop-i.at c.args.n c.loop-i._i (values_in_bytes c.args.version c.args.bytes.now c.args.place c.args.n) (omega arith) (length-values_in c.args.version c.args.bytes.now c.args.place c.args.n) c.loop-i.invariant.have c.loop-i.invariant.left in
-    let next : c.loop-i.at + c.value_length_by_tag-at.result ≡ place_after_value c.args.bytes.now c.loop-i.at = ap (λ (k : ℕ). c.loop-i.at + k) c.value_length_by_tag-at.ensures in
+    let next : c.loop-i.at + c.value_length_by_tag-at.result ≡ offset_after_value c.args.bytes.now c.loop-i.at = ap (λ (k : ℕ). c.loop-i.at + k) c.value_length_by_tag-at.ensures in
     let within : c.loop-i.at + c.value_length_by_tag-at.result ≤ length c.args.bytes.now = rw next (stands_at c.args.version c.args.bytes.now c.loop-i.at (λ k. (c.type_inv.bytes k).fits) l.0).within in
     omega (arith, within)
 
@@ -36,7 +36,7 @@ pub loop-i-preserved : goal.loop-i-preserved
 loop-i-preserved c =
     let vs = values_in_bytes c.args.version c.args.bytes.now c.args.place c.args.n in
     let l = left_first c.args.version c.args.bytes.now c.loop-i.at c.args.n c.loop-i._i (values_in_bytes c.args.version c.args.bytes.now c.args.place c.args.n) (omega arith) (length-values_in c.args.version c.args.bytes.now c.args.place c.args.n) c.loop-i.invariant.have c.loop-i.invariant.left in
-    let next : c.loop-i.at + c.value_length_by_tag-at.result ≡ place_after_value c.args.bytes.now c.loop-i.at = ap (λ (k : ℕ). c.loop-i.at + k) c.value_length_by_tag-at.ensures in
+    let next : c.loop-i.at + c.value_length_by_tag-at.result ≡ offset_after_value c.args.bytes.now c.loop-i.at = ap (λ (k : ℕ). c.loop-i.at + k) c.value_length_by_tag-at.ensures in
     let s = stands_at c.args.version c.args.bytes.now c.loop-i.at (λ k. (c.type_inv.bytes k).fits) l.0 in
     let here : IsInLattice c.args.b.now (value_in_bytes c.args.version c.args.bytes.now c.loop-i.at) =
     elim c.else-tag-ne0.branch [

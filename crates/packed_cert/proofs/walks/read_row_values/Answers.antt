@@ -3,7 +3,7 @@ use Rattle.std.proofs.lemmas.Bool.{cases_lt}
 use Rattle.std.proofs.lemmas.List.{ext_get_or, length-set, get_or-set_same, get_or-set_other}
 use Rattle.value_domain.specs.Values.{any_val}
 use Rattle.packed_cert.specs.PointsInBytes.{state_in_bytes}
-use Rattle.packed_cert.specs.ValuesInBytes.{place_after_value}
+use Rattle.packed_cert.specs.ValuesInBytes.{offset_after_value}
 use Rattle.packed_cert.proofs.ValueShapes.{left_first, stands_at}
 use Rattle.packed_cert.proofs.walks.read_row_values.Goals as goal
 
@@ -33,7 +33,7 @@ overflow_add-at c =
     let vs = (state_in_bytes c.args.version c.args.bytes.now c.args.point.place).regs in
     let len : length vs ≡ 27 = omega (arith, c.requires.row.count) in
     let l = left_first c.args.version c.args.bytes.now c.loop-i.at 27 c.loop-i.i vs (omega (arith, c.requires.few)) len (c.loop-i.invariant.have (omega arith)) (c.loop-i.invariant.left (omega arith)) in
-    let next : c.loop-i.at + c.value_length_by_tag-at.result ≡ place_after_value c.args.bytes.now c.loop-i.at = ap (λ (k : ℕ). c.loop-i.at + k) c.value_length_by_tag-at.ensures in
+    let next : c.loop-i.at + c.value_length_by_tag-at.result ≡ offset_after_value c.args.bytes.now c.loop-i.at = ap (λ (k : ℕ). c.loop-i.at + k) c.value_length_by_tag-at.ensures in
     let within : c.loop-i.at + c.value_length_by_tag-at.result ≤ length c.args.bytes.now = rw next (stands_at c.args.version c.args.bytes.now c.loop-i.at (λ k. (c.type_inv.bytes k).fits) l.0).within in
     omega (arith, within)
 
@@ -45,7 +45,7 @@ loop-i-preserved c =
     let inv = c.loop-i.invariant in
     let len : length vs ≡ 27 = omega (arith, c.requires.row.count) in
     let l = left_first c.args.version c.args.bytes.now c.loop-i.at 27 i vs (omega (arith, c.requires.few)) len (inv.have (omega arith)) (inv.left (omega arith)) in
-    let next : c.loop-i.at + c.value_length_by_tag-at.result ≡ place_after_value c.args.bytes.now c.loop-i.at = ap (λ (k : ℕ). c.loop-i.at + k) c.value_length_by_tag-at.ensures in
+    let next : c.loop-i.at + c.value_length_by_tag-at.result ≡ offset_after_value c.args.bytes.now c.loop-i.at = ap (λ (k : ℕ). c.loop-i.at + k) c.value_length_by_tag-at.ensures in
     record {
       count = length-set out i c.read_value_at_offset.new.out ∙ inv.count;
       have = λ some. rw next l.1;

@@ -1,5 +1,5 @@
 use Rattle.std.proofs.Common.{List, map, sym, ap, ◌∙◌, subst, slice_index_or}
-use Rattle.elf_image.specs.Images.{ImageData, IsImage, AreSegmentBytes, segment_data}
+use Rattle.elf_image.specs.Images.{ImageData, IsImage, HoldOnlyBytes, segment_data}
 use Rattle.elf_image.specs.declared.segments.Segment.{Segment}
 use Rattle.task_chains.specs.declared.task_lists.Task.{Task}
 use Rattle.task_chains.specs.Tasks.{TasksData, AreTasks}
@@ -15,5 +15,5 @@ invariant_of-result c =
     let items = ap (λ (l : List Segment). map segment_data l) c.deref-segment-items.ensures.value ∙ ap (λ (i : ImageData). i.segments) c.image.view_is in
     let e =
     image_parts c.args.image.now c.args.tasks.now c.args.u _ c.loop-segment.segments.items c.deref-segment-items.result.now c.loop-segment.segment-index entry items c.loop-segment-test.false c.loop-segment.invariant in
-    let bytes = subst (λ (l : List Segment). AreSegmentBytes (map segment_data l)) c.deref.ensures.value c.establish_segment_bytes.ensures in
-    subst IsImage (sym e) (view_is_image c.args.tasks.now c.args.image.now c.args.u ok are c.requires (subst (λ (i : ImageData). AreSegmentBytes i.segments) e bytes))
+    let bytes = subst (λ (l : List Segment). HoldOnlyBytes (map segment_data l)) c.deref.ensures.value c.establish_segment_bytes.ensures in
+    subst IsImage (sym e) (view_is_image c.args.tasks.now c.args.image.now c.args.u ok are c.requires (subst (λ (i : ImageData). HoldOnlyBytes i.segments) e bytes))

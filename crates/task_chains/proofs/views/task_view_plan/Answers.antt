@@ -3,7 +3,7 @@ use Rattle.std.proofs.lemmas.Result.{MatchResult-at_ok}
 use Rattle.tcd_plan.specs.PlanData.{PlanData, IsPlan, plan_data}
 use Rattle.task_chains.specs.declared.task_lists.Task.{Task}
 use Rattle.task_chains.specs.Tasks.{TasksData, AreTasks}
-use Rattle.tcd_plan.specs.Cutting.{cut_plan_ranges}
+use Rattle.tcd_plan.specs.Cutting.{ranges_outside}
 use Rattle.task_chains.specs.Devices.{any_word_device}
 use Rattle.task_chains.proofs.ViewPlan.{view_is_plan}
 use Rattle.task_chains.proofs.ViewParts.{plan_parts}
@@ -17,8 +17,8 @@ invariant_of-result c =
     let sp = ap (λ (l : List Task). (slice_index_or l c.args.u (record { entry = 0; sp = 0 })).sp) (c.as_slice-2.ensures.value ∙ ap (λ (t : TasksData). t.list) c.tasks.view_is) in
     let at = ap (λ (t : TasksData). t.block) c.tasks.view_is in
     let devices =
-    c.view_devices_outside_block.ensures ∙ ap (λ x. c.args.plan.now.devices ++ map any_word_device (cut_plan_ranges x c.block_size.result c.args.plan.now.ram)) at
-    ∙ ap (λ k. c.args.plan.now.devices ++ map any_word_device (cut_plan_ranges c.args.tasks.now.block k c.args.plan.now.ram)) c.block_size.ensures in
+    c.view_devices_outside_block.ensures ∙ ap (λ x. c.args.plan.now.devices ++ map any_word_device (ranges_outside x c.block_size.result c.args.plan.now.ram)) at
+    ∙ ap (λ k. c.args.plan.now.devices ++ map any_word_device (ranges_outside c.args.tasks.now.block k c.args.plan.now.ram)) c.block_size.ensures in
     let e =
     plan_parts (plan_data c.plan.inside) c.args.plan.now c.args.tasks.now c.args.u c.unwrap.result.items c.new.result.items c.view_devices_outside_block.result.items c.unwrap-2.result.items _ c.are_interrupts_enabled_at_start.result
     c.plan.view_is rom c.new.ensures devices irqs sp c.are_interrupts_enabled_at_start.ensures in

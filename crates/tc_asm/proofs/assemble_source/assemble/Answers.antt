@@ -1,8 +1,8 @@
 use Rattle.std.proofs.Common.{◌≤◌, ◌+◌, ◌^◌, ◌∙◌, ap, sym, subst, length, map, fold, [], arith}
-use Rattle.tc_asm.specs.DraftInvariants.{IsDraft}
+use Rattle.tc_asm.specs.DraftInvariants.{IsWellFormedDraft}
 use Rattle.tc_stmt.specs.Items.{item_of}
 use Rattle.tc_asm.specs.Drafts.{DraftData, draft_after_item}
-use Rattle.tc_asm.specs.KnownSymbols.{are_new}
+use Rattle.tc_asm.specs.KnownSymbols.{are_new_with_room}
 use Rattle.tc_stmt.proofs.ReadLines.{few_read}
 use Rattle.tc_asm.proofs.Passes.{object_source, kept_source, labels_source}
 use Rattle.tc_asm.proofs.AlikeDrafts.{items_all}
@@ -25,11 +25,11 @@ pub draft_of_lines-requires-clause-known : goal.draft_of_lines-requires-clause-k
 draft_of_lines-requires-clause-known c =
     new_again c.args.source.now c.in_ok-read.read c.in_ok-read.ensures.lines _
     (labels_source c.args.source.now c.in_ok-read.read c.deref.result.now _ (ap (λ (d : DraftData). d.symbols) c.first.view_is ∙ c.in_ok-known.ensures.symbols ∙ ap (λ d. (fold (draft_after_item []) d (map item_of c.deref.result.now)).symbols) c.new-first.ensures) c.deref.ensures.value c.in_ok-read.ensures.items c.in_ok-read.ensures.lines)
-    c.deref.result.now c.deref.ensures.value c.in_ok-read.ensures.items _ (c.in_ok-known.ensures.new ∙ ap (λ d. are_new [] d (map item_of c.deref.result.now)) c.new-first.ensures)
+    c.deref.result.now c.deref.ensures.value c.in_ok-read.ensures.items _ (c.in_ok-known.ensures.new ∙ ap (λ d. are_new_with_room [] d (map item_of c.deref.result.now)) c.new-first.ensures)
 
 pub emit_object-requires : goal.emit_object-requires
 emit_object-requires c =
-    subst IsDraft
+    subst IsWellFormedDraft
     (sym (whole_draft _ _ _ _ _ c.in_ok-draft.ensures.ok
     (symbols_again c.args.source.now c.in_ok-read.read c.in_ok-read.ensures.lines _
     (labels_source c.args.source.now c.in_ok-read.read c.deref.result.now _ (ap (λ (d : DraftData). d.symbols) c.first.view_is ∙ c.in_ok-known.ensures.symbols ∙ ap (λ d. (fold (draft_after_item []) d (map item_of c.deref.result.now)).symbols) c.new-first.ensures) c.deref.ensures.value c.in_ok-read.ensures.items c.in_ok-read.ensures.lines))

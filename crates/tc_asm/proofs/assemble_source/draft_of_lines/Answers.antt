@@ -4,10 +4,10 @@ use Rattle.tc_stmt.specs.declared.item.Item.{Item}
 use Rattle.tc_stmt.specs.declared.source.Line.{Line}
 use Rattle.tc_stmt.specs.Items.{item_of}
 use Rattle.tc_stmt.specs.SourceViews.{lines_read, source_lines}
-use Rattle.tc_asm.specs.KnownSymbols.{kept}
+use Rattle.tc_asm.specs.KnownSymbols.{without_symbols_if}
 use Rattle.tc_stmt.specs.Lines.{LineData}
 use Rattle.tc_asm.specs.DraftedSources.{draft_from_lines}
-use Rattle.tc_asm.specs.DraftInvariants.{IsDraft}
+use Rattle.tc_asm.specs.DraftInvariants.{IsWellFormedDraft}
 use Rattle.tc_asm.proofs.Passes.{drafted_more, kept_more as rules_more, least_here, line_drafted, line_ruled, behind_here, read_here, read_behind}
 use Rattle.tc_asm.proofs.KeptLaws.{IsDraft-start, IsDraft-more}
 use Rattle.tc_asm.proofs.KnownSymbols.{kept_more, kept_line, new_lines, lines_end, past, blank_draft, blank_rule}
@@ -15,7 +15,7 @@ use Rattle.tc_asm.proofs.assemble_source.draft_of_lines.Goals as goal
 
 pub loop-i-init : goal.loop-i-init
 loop-i-init c = record {
-  so_far = ap (kept c.args.known) c.new-draft.ensures;
+  so_far = ap (without_symbols_if c.args.known) c.new-draft.ensures;
   whole = IsDraft-start;
   rules = λ k d less. absurd (omega arith);
   rest = sym (ap (λ (ls : List Line). lines_read ls (map item_of c.as_slice-rest.result.now)) c.as_slice-lines.ensures.value ∙ ap (λ (xs : List Item). lines_read c.args.source.now.lines.items (map item_of xs)) c.as_slice-rest.ensures.value);
@@ -72,6 +72,6 @@ returns-clause-rules c =
 
 pub returns-clause-whole : goal.returns-clause-whole
 returns-clause-whole c =
-    subst (λ (ls : List LineData). IsDraft (draft_from_lines c.args.labels.now ls))
+    subst (λ (ls : List LineData). IsWellFormedDraft (draft_from_lines c.args.labels.now ls))
     (take_all c.loop-i.i (source_lines c.args.source.now) (past c.args.source.now c.as_slice-lines.result.now c.loop-i.i c.as_slice-lines.ensures.value (omega arith)))
     c.loop-i.invariant.whole

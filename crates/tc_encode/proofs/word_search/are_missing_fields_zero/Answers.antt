@@ -3,7 +3,7 @@ use Rattle.std.specs.Prelude.{slice_get}
 use Rattle.tc_isa.specs.declared.fields.Uses.{Uses}
 use Rattle.tc_isa.specs.Rows.{row_of, table_rows}
 use Rattle.tc_isa.specs.Forms.{field_bounds}
-use Rattle.tc_isa.specs.ValidRowFields.{uses_of, are_unused_fields_zero}
+use Rattle.tc_isa.specs.ValidRowFields.{used_fields, are_unused_fields_zero}
 use Rattle.tc_encode.proofs.Finds.{plain_zero, plain_at, uses_at}
 use Rattle.tc_encode.proofs.word_search.are_missing_fields_zero.Goals as goal
 
@@ -11,7 +11,7 @@ pub returns-then-has_all_fields_by_row-at : goal.returns-then-has_all_fields_by_
 returns-then-has_all_fields_by_row-at c =
     let r = row_of c.args.row.now in
     let names = sym (plain_at c.has_all_fields_by_row.result.now c.from-at.result false r c.has_all_fields_by_row.ensures (ap (slice_get table_rows) c.from-at.ensures ∙ c.requires.place)) ∙ c.if-has_all_fields_by_row-at.true in
-    c.if-has_all_fields_by_row-at.true ∙ sym (plain_zero (uses_of r) c.args.f.now (field_bounds c.args.row.now.form) names c.requires.below)
+    c.if-has_all_fields_by_row-at.true ∙ sym (plain_zero (used_fields r) c.args.f.now (field_bounds c.args.row.now.form) names c.requires.below)
 
 pub returns-else-has_all_fields_by_row-at : goal.returns-else-has_all_fields_by_row-at
 returns-else-has_all_fields_by_row-at c =

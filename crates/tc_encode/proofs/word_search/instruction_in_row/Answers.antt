@@ -4,7 +4,7 @@ use Rattle.std.proofs.lemmas.Bool.{both_ways}
 use Rattle.tc_isa.specs.Rows.{row_of}
 use Rattle.tc_isa.specs.Forms.{field_bounds}
 use Rattle.tc_isa.specs.InBounds.{AreFieldsBelow}
-use Rattle.tc_isa.specs.ValidRowFields.{are_unused_fields_zero, are_registers_allowed, uses_of}
+use Rattle.tc_isa.specs.ValidRowFields.{are_unused_fields_zero, are_registers_allowed, used_fields}
 use Rattle.tc_encode.proofs.Gaps.{fields_below}
 use Rattle.tc_encode.proofs.Finds.{stands, makes_of}
 use Rattle.tc_encode.proofs.word_search.instruction_in_row.Goals as goal
@@ -18,7 +18,7 @@ are_missing_fields_zero-requires-clause-below c = subst (λ (f : Fields). AreFie
 pub returns-then-not-are_missing_fields_zero-clause-none : goal.returns-then-not-are_missing_fields_zero-clause-none
 returns-then-not-are_missing_fields_zero-clause-none c = λ i m same.
     let s = stands c.args.place c.args.w (row_of c.args.row.now) c.requires.place i m same in
-    both_ways _ (sym c.are_missing_fields_zero.ensures ∙ c.if-not-are_missing_fields_zero.true) (ap (are_unused_fields_zero (uses_of (row_of c.args.row.now))) c.fields_of_word-f.ensures ∙ s.fits.zero)
+    both_ways _ (sym c.are_missing_fields_zero.ensures ∙ c.if-not-are_missing_fields_zero.true) (ap (are_unused_fields_zero (used_fields (row_of c.args.row.now))) c.fields_of_word-f.ensures ∙ s.fits.zero)
 
 pub returns-then-not-are_registers_allowed-clause-none : goal.returns-then-not-are_registers_allowed-clause-none
 returns-then-not-are_registers_allowed-clause-none c = λ i m same.

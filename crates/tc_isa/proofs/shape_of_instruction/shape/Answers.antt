@@ -1,6 +1,6 @@
 use Rattle.std.proofs.Common.{◌∙◌, sym, ap, subst}
 use Rattle.tc_isa.specs.Meanings.{shape_of}
-use Rattle.tc_isa.specs.InBounds.{IsShape}
+use Rattle.tc_isa.specs.InBounds.{IsShapeInBounds}
 use Rattle.tc_isa.proofs.Shaped.{small, meanings_enough, shaped}
 use Rattle.tc_isa.proofs.ShapeBounds.{shape_is}
 use Rattle.tc_isa.proofs.shape_of_instruction.shape.Goals as goal
@@ -15,4 +15,4 @@ pub returns-clause-shape : goal.returns-clause-shape
 returns-clause-shape c = c.shape_from_fields.ensures ∙ shaped c.row_meanings.result.now c.from.result _ _ c.row_meanings.ensures c.from.ensures c.inst.invariant ∙ ap shape_of c.inst.view_is
 
 pub returns-clause-bounded : goal.returns-clause-bounded
-returns-clause-bounded c = subst IsShape (sym (c.shape_from_fields.ensures ∙ shaped c.row_meanings.result.now c.from.result _ _ c.row_meanings.ensures c.from.ensures c.inst.invariant)) (shape_is _ c.inst.invariant)
+returns-clause-bounded c = subst IsShapeInBounds (sym (c.shape_from_fields.ensures ∙ shaped c.row_meanings.result.now c.from.result _ _ c.row_meanings.ensures c.from.ensures c.inst.invariant)) (shape_is _ c.inst.invariant)

@@ -1,7 +1,7 @@
 use Rattle.std.proofs.Common.{◌≡◌, ◌<◌, ◌+◌, ◌-◌, ◌++◌, ◌∷◌, [], sym, ap, subst, ◌∙◌, length, drop, map, arith}
 use Rattle.std.proofs.lemmas.List.{length_push, map-append}
 use Rattle.std.proofs.lemmas.Bool.Decides.{nat_tests}
-use Rattle.tc_lex.specs.Cut.{cut, token, IsTokenWithin}
+use Rattle.tc_lex.specs.Cut.{tokens_after_skip, token, IsTokenWithin}
 use Rattle.tc_lex.specs.Pieces.{piece_of, piece_of_token, pieces_of_tokens}
 use Rattle.tc_lex.specs.declared.kinds.Front.{Front}
 use Rattle.tc_lex.specs.declared.kinds.Front.TheVariants as front
@@ -27,7 +27,7 @@ pub returns-then-is_full-clause-pieces : goal.returns-then-is_full-clause-pieces
 returns-then-is_full-clause-pieces c =
     let full : length c.cut.out.items ≡ 64 = grind (arith, nat_tests) in
     sym c.cut.invariant.rest_is
-    ∙ ap (λ r. with_pieces (map piece_of c.cut.out.items) (pieces_of_tokens c.args.line.now (cut (drop c.cut.at c.args.line.now) r c.cut.at 0))) (omega arith)
+    ∙ ap (λ r. with_pieces (map piece_of c.cut.out.items) (pieces_of_tokens c.args.line.now (tokens_after_skip (drop c.cut.at c.args.line.now) r c.cut.at 0))) (omega arith)
     ∙ pieces_full c.args.line.now (map piece_of c.cut.out.items) c.cut.at c.in-Token.kind c.in-Token.len (omega arith) (sym c.longest_token_at.ensures.value ∙ c.in-Token.is)
 
 pub piece_at-requires : goal.piece_at-requires
@@ -46,11 +46,11 @@ cut-preserved c =
     let within : IsTokenWithin (front.Token c.in-Token.kind len) (length line - c.cut.at) = subst (λ (f : Front). IsTokenWithin f (length line - c.cut.at)) c.in-Token.is c.longest_token_at.ensures.within in
     record {
       rest_is =
-          ap (λ ts. with_pieces (map piece_of ts) (pieces_of_tokens line (cut (drop (c.cut.at + len) line) (64 - length ts) (c.cut.at + len) 0))) c.push.ensures.items
-          ∙ ap (λ r. with_pieces (map piece_of (out ++ c.piece_at.result ∷ [])) (pieces_of_tokens line (cut (drop (c.cut.at + len) line) r (c.cut.at + len) 0))) (omega (arith, length_push out c.piece_at.result))
-          ∙ ap (λ qs. with_pieces qs (pieces_of_tokens line (cut (drop (c.cut.at + len) line) (63 - length out) (c.cut.at + len) 0))) (map-append piece_of out (c.piece_at.result ∷ []) ∙ ap (λ p. ps ++ p ∷ []) c.piece_at.ensures)
+          ap (λ ts. with_pieces (map piece_of ts) (pieces_of_tokens line (tokens_after_skip (drop (c.cut.at + len) line) (64 - length ts) (c.cut.at + len) 0))) c.push.ensures.items
+          ∙ ap (λ r. with_pieces (map piece_of (out ++ c.piece_at.result ∷ [])) (pieces_of_tokens line (tokens_after_skip (drop (c.cut.at + len) line) r (c.cut.at + len) 0))) (omega (arith, length_push out c.piece_at.result))
+          ∙ ap (λ qs. with_pieces qs (pieces_of_tokens line (tokens_after_skip (drop (c.cut.at + len) line) (63 - length out) (c.cut.at + len) 0))) (map-append piece_of out (c.piece_at.result ∷ []) ∙ ap (λ p. ps ++ p ∷ []) c.piece_at.ensures)
           ∙ sym (pieces_token line ps c.cut.at c.in-Token.kind len (63 - length out) (omega arith) (sym c.longest_token_at.ensures.value ∙ c.in-Token.is) within.0)
-          ∙ ap (λ r. with_pieces ps (pieces_of_tokens line (cut (drop c.cut.at line) r c.cut.at 0))) (omega arith)
+          ∙ ap (λ r. with_pieces ps (pieces_of_tokens line (tokens_after_skip (drop c.cut.at line) r c.cut.at 0))) (omega arith)
           ∙ c.cut.invariant.rest_is;
       few = omega (arith, length_push out c.piece_at.result, ap length c.push.ensures.items);
     }

@@ -3,7 +3,7 @@ use Rattle.std.specs.Prelude.{IfSome}
 use Rattle.std.specs.List.{slice_split}
 use Rattle.std.proofs.lemmas.Bool.Decides.{nat_tests}
 use Rattle.tc_lex.specs.Pieces.{piece_of}
-use Rattle.tc_lex.specs.Operands.{operand_of, operand, is_comma}
+use Rattle.tc_lex.specs.Operands.{operand_of, operand_of_tokens, is_comma}
 use Rattle.tc_lex.specs.declared.pieces.Piece.{Piece}
 use Rattle.tc_lex.proofs.Parted.{parted_more, parted_end, operands-some, operands-none}
 use Rattle.tc_lex.proofs.split_operands.operands_into.Goals as goal
@@ -28,8 +28,8 @@ parts-preserved c =
     let found : c.find_comma.result ≡ Some i = c.in-Some.is in
     record {
       parts =
-          ap (λ os. os ++ map operand (slice_split is_comma (map piece_of c.tokens_after_comma-rest.result.now))) c.read_operand_before.ensures.operands_into
-          ∙ ap (λ (ps : List Piece). (out ++ operand (take i (map piece_of c.parts.rest.now)) ∷ []) ++ map operand (slice_split is_comma (map piece_of ps))) c.tokens_after_comma-rest.ensures
+          ap (λ os. os ++ map operand_of_tokens (slice_split is_comma (map piece_of c.tokens_after_comma-rest.result.now))) c.read_operand_before.ensures.operands_into
+          ∙ ap (λ (ps : List Piece). (out ++ operand_of_tokens (take i (map piece_of c.parts.rest.now)) ∷ []) ++ map operand_of_tokens (slice_split is_comma (map piece_of ps))) c.tokens_after_comma-rest.ensures
           ∙ parted_more out c.parts.rest.now i (sym c.find_comma.ensures.value ∙ found)
           ∙ c.parts.invariant.parts;
       few =

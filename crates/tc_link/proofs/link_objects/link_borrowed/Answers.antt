@@ -1,10 +1,10 @@
 use Rattle.std.proofs.Common.{◌≡◌, ◌∙◌, [], List, length, map, None, Some, Option, Ok, Err, Result, sym, ap, subst, arith}
 use Rattle.std.specs.Prelude.{IfSome}
 use Rattle.std.proofs.lemmas.Result.{err_from_is_err_and}
-use Rattle.elf_image.specs.Images.{ImageData, SegmentData, AreSegmentBytes, IsImage, segment_data}
+use Rattle.elf_image.specs.Images.{ImageData, SegmentData, HoldOnlyBytes, IsImage, segment_data}
 use Rattle.tc_link.specs.Layouts.{PlaceData, LayoutData, IsLayout}
 use Rattle.tc_link.specs.Placing.{PlacedData, sections_to_link}
-use Rattle.tc_link.specs.GlobalSymbols.{globals_of, first_global_address, HoldsGlobals}
+use Rattle.tc_link.specs.GlobalSymbols.{globals_of, first_global_address, ResolvesGlobals}
 use Rattle.tc_link.specs.Segments.{segments_of}
 use Rattle.tc_link.specs.Relocated.{all_relocated_sections}
 use Rattle.tc_link.specs.Refusals.{Refusal, first_no_place_refusal, first_no_room_refusal}
@@ -67,7 +67,7 @@ returns-in_default-clause-err c =
     c.in_ok-check_duplicate_symbols.ensures.ok c.in_ok-check_missing_symbols.ensures.ok c.in_ok-check_section_places.ensures.ok c.in_ok-placed.ensures.room (c.deref-3.ensures.value ∙ c.in_ok-placed.ensures.placed) in
     let name : c.as_str.result.now ≡ c.args.layout.now.entry = c.as_str.ensures.value ∙ ap (λ (l : LayoutData). l.entry) c.layout.view_is in
     let again : c.deref-4.result.now ≡ c.deref-3.result.now = c.deref-4.ensures.value ∙ sym c.deref-3.ensures.value in
-    let globals : HoldsGlobals c.in_ok-names.names c.deref-4.result.now (globals_of c.deref-4.result.now) = c.in_ok-names.ensures.globals c.deref-4.result.now (ap (map (λ (p : PlacedData). p.object)) (again ∙ at.same) ∙ placed_objects c.args.layout.now.places [] c.args.objects.now) in
+    let globals : ResolvesGlobals c.in_ok-names.names c.deref-4.result.now (globals_of c.deref-4.result.now) = c.in_ok-names.ensures.globals c.deref-4.result.now (ap (map (λ (p : PlacedData). p.object)) (again ∙ at.same) ∙ placed_objects c.args.layout.now.places [] c.args.objects.now) in
     let entry = ap (first_global_address (globals_of c.deref-3.result.now)) (sym name) ∙ ap (λ (ps : List PlacedData). first_global_address (globals_of ps) c.as_str.result.now) (sym again) ∙ sym (globals c.as_str.result.now) ∙ sym c.global_symbol_address.ensures ∙ c.in_default.is in
     sym (linked_made c.args.objects.now c.args.layout.now c.deref-3.result.now at.none at.same) ∙ made_no_entry c.args.layout.now c.deref-3.result.now c.in_ok-contents.ensures.none entry
 
@@ -79,7 +79,7 @@ invariant_of-result c =
     let contents : c.deref-6.result.now ≡ all_relocated_sections c.deref-3.result.now = c.deref-6.ensures.value ∙ c.in_ok-contents.ensures.sections in
     let segments : map segment_data c.in_ok-segments.segments.items ≡ segments_of c.args.layout.now.places (all_relocated_sections c.deref-3.result.now) =
     c.in_ok-segments.ensures.ok ∙ ap (λ (ps : List PlaceData). segments_of ps c.deref-6.result.now) places ∙ ap (segments_of c.args.layout.now.places) contents in
-    let bytes : AreSegmentBytes (segments_of c.args.layout.now.places (all_relocated_sections c.deref-3.result.now)) = subst AreSegmentBytes (ap (map segment_data) c.deref-7.ensures.value ∙ segments) c.establish_segment_bytes.ensures in
+    let bytes : HoldOnlyBytes (segments_of c.args.layout.now.places (all_relocated_sections c.deref-3.result.now)) = subst HoldOnlyBytes (ap (map segment_data) c.deref-7.ensures.value ∙ segments) c.establish_segment_bytes.ensures in
     let limits = linked_image c.args.objects.now c.args.layout.now c.deref-3.result.now (subst IsLayout c.layout.view_is c.layout.invariant) c.in_ok-placed.ensures.good at.none at.same c.in-Some.entry (omega arith) in
     subst (λ (ss : List SegmentData). IsImage (record { entry = c.in-Some.entry; segments = ss })) (sym segments) (image_of_bytes _ limits bytes)
 
@@ -89,7 +89,7 @@ returns-clause-ok c =
     c.in_ok-check_duplicate_symbols.ensures.ok c.in_ok-check_missing_symbols.ensures.ok c.in_ok-check_section_places.ensures.ok c.in_ok-placed.ensures.room (c.deref-3.ensures.value ∙ c.in_ok-placed.ensures.placed) in
     let name : c.as_str.result.now ≡ c.args.layout.now.entry = c.as_str.ensures.value ∙ ap (λ (l : LayoutData). l.entry) c.layout.view_is in
     let again : c.deref-4.result.now ≡ c.deref-3.result.now = c.deref-4.ensures.value ∙ sym c.deref-3.ensures.value in
-    let globals : HoldsGlobals c.in_ok-names.names c.deref-4.result.now (globals_of c.deref-4.result.now) = c.in_ok-names.ensures.globals c.deref-4.result.now (ap (map (λ (p : PlacedData). p.object)) (again ∙ at.same) ∙ placed_objects c.args.layout.now.places [] c.args.objects.now) in
+    let globals : ResolvesGlobals c.in_ok-names.names c.deref-4.result.now (globals_of c.deref-4.result.now) = c.in_ok-names.ensures.globals c.deref-4.result.now (ap (map (λ (p : PlacedData). p.object)) (again ∙ at.same) ∙ placed_objects c.args.layout.now.places [] c.args.objects.now) in
     let entry = ap (first_global_address (globals_of c.deref-3.result.now)) (sym name) ∙ ap (λ (ps : List PlacedData). first_global_address (globals_of ps) c.as_str.result.now) (sym again) ∙ sym (globals c.as_str.result.now) ∙ sym c.global_symbol_address.ensures ∙ c.in-Some.is in
     let places : c.deref-5.result.now ≡ c.args.layout.now.places = c.deref-5.ensures.value ∙ ap (λ (l : LayoutData). l.places) c.layout.view_is in
     let contents : c.deref-6.result.now ≡ all_relocated_sections c.deref-3.result.now = c.deref-6.ensures.value ∙ c.in_ok-contents.ensures.sections in

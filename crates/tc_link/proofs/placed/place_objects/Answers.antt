@@ -4,7 +4,7 @@ use Rattle.std.proofs.lemmas.Result.{err_from_is_err_and}
 use Rattle.tc_object.specs.Objects.{SectionData, ObjectData, IsObject}
 use Rattle.tc_link.specs.Placing.{sections_to_link, placed_after, section_bases_after}
 use Rattle.tc_link.specs.Refusals.{Refusal, first_no_room_refusal}
-use Rattle.tc_link.specs.PlaceSizes.{AreTaken}
+use Rattle.tc_link.specs.PlaceSizes.{AreUsedSizes}
 use Rattle.tc_link.specs.Errors.{refusal_of}
 use Rattle.tc_link.proofs.ItemLaws.{good_more, zero_at}
 use Rattle.tc_link.proofs.RoomLaws.{are_taken_none, placed_next, taken_next, room_next, room_told}
@@ -31,7 +31,7 @@ loop-object-preserved c =
     let inv = c.loop-object.invariant in
     let e : c.deref.result.now ≡ o.sections = c.deref.ensures.value ∙ ap (λ (x : ObjectData). x.sections) c.object.view_is in
     let bases : c.in_ok-bases.bases.items ≡ section_bases_after c.args.places.now before o.sections = c.in_ok-bases.ensures.bases before inv.taken ∙ ap (section_bases_after c.args.places.now before) e in
-    let taken = subst (λ (ss : List SectionData). AreTaken c.args.places.now (before ++ ss) c.place_sections.new.sizes) e (c.in_ok-bases.ensures.taken before inv.taken) in
+    let taken = subst (λ (ss : List SectionData). AreUsedSizes c.args.places.now (before ++ ss) c.place_sections.new.sizes) e (c.in_ok-bases.ensures.taken before inv.taken) in
     let room : first_no_room_refusal c.args.places.now before o.sections ≡ None = ap (first_no_room_refusal c.args.places.now before) (sym e) ∙ c.in_ok-bases.ensures.room before inv.taken in
     record {
       placed = c.in_ok-push.ensures.items ∙ placed_next c.args.places.now all i o c.loop-object.placed.items c.in_ok-bases.bases.items c.loop-object-test.true c.object-item.is inv.placed bases;

@@ -3,7 +3,7 @@ use Rattle.std.proofs.lemmas.List.{append-nil, take_all}
 use Rattle.tc_object.specs.Objects.{SectionData}
 use Rattle.tc_link.specs.Placing.{section_bases_after}
 use Rattle.tc_link.specs.Refusals.{no_room, first_no_room_refusal}
-use Rattle.tc_link.specs.PlaceSizes.{AreTaken}
+use Rattle.tc_link.specs.PlaceSizes.{AreUsedSizes}
 use Rattle.tc_link.proofs.RoomLaws.{take_next, bases_step, taken_step, room_step, room_fault}
 use Rattle.tc_link.proofs.placed.place_sections.Goals as goal
 
@@ -11,7 +11,7 @@ pub loop-section-init : goal.loop-section-init
 unfolding section_bases_after first_no_room_refusal
 loop-section-init c = record {
   bases = λ before t. c.new-bases.ensures.items;
-  taken = λ before t. subst (λ (l : List SectionData). AreTaken c.args.places.now l c.args.sizes.now) (sym (append-nil before)) t;
+  taken = λ before t. subst (λ (l : List SectionData). AreUsedSizes c.args.places.now l c.args.sizes.now) (sym (append-nil before)) t;
   room = λ before t. refl;
   small = c.requires.small;
 }
@@ -42,4 +42,4 @@ returns-then-has_region_overflow-clause-err c = λ before t.
 
 pub returns-clause-taken : goal.returns-clause-taken
 returns-clause-taken c = λ before t.
-    subst (λ (l : List SectionData). AreTaken c.args.places.now (before ++ l) c.loop-section.sizes) (take_all c.loop-section.section-index c.args.sections.now c.loop-section-test.false) (c.loop-section.invariant.taken before t)
+    subst (λ (l : List SectionData). AreUsedSizes c.args.places.now (before ++ l) c.loop-section.sizes) (take_all c.loop-section.section-index c.args.sections.now c.loop-section-test.false) (c.loop-section.invariant.taken before t)

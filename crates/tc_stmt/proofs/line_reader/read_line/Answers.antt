@@ -2,7 +2,7 @@ use Rattle.std.proofs.Common.{◌≡◌, ◌++◌, ◌∙◌, List, length, map,
 use Rattle.std.proofs.lemmas.Bool.Decides.{nat_tests}
 use Rattle.std.proofs.lemmas.List.{length-map}
 use Rattle.tc_stmt.specs.Items.{ItemData, item_of}
-use Rattle.tc_stmt.specs.Lines.{LineData, line_in}
+use Rattle.tc_stmt.specs.Lines.{LineData, line_of_text}
 use Rattle.tc_stmt.proofs.FewItems.{line_few}
 use Rattle.tc_stmt.proofs.PieceLines.{empty_line}
 use Rattle.tc_stmt.proofs.line_reader.read_line.Goals as goal
@@ -11,7 +11,7 @@ pub overflow_cast-count : goal.overflow_cast-count
 overflow_cast-count c =
     let old = c.args.items.now.items in
     let new = c.read_line_items.new.items.items in
-    omega (arith, line_few c.args.line.now, ap (λ (l : LineData). length l.items) c.in_ok-rule.ensures, length-append (map item_of old) (line_in c.args.line.now).items, length-map old item_of, length-map new item_of, c.args.items.now.ok.0, c.read_line_items.new.items.ok.0)
+    omega (arith, line_few c.args.line.now, ap (λ (l : LineData). length l.items) c.in_ok-rule.ensures, length-append (map item_of old) (line_of_text c.args.line.now).items, length-map old item_of, length-map new item_of, c.args.items.now.ok.0, c.read_line_items.new.items.ok.0)
 
 pub returns-then-is_empty-clause-rule : goal.returns-then-is_empty-clause-rule
 returns-then-is_empty-clause-rule c =

@@ -2,7 +2,7 @@ use Rattle.std.proofs.Common.{◌≡◌, ◌<◌, ◌^◌, List, None, All, rule
 use Rattle.serde_json.specs.Data.{Data}
 use Rattle.serde_json.specs.View.{view}
 use Rattle.tcd_plan.specs.PlanData.{IsPlan, PlanData}
-use Rattle.tcd_plan.specs.PlanReader.{HasShortPlanArrays, irq_of, plan_refusal, unchecked_plan_of}
+use Rattle.tcd_plan.specs.PlanReader.{HasShortPlanArrays, plan_irq_of, plan_refusal, unchecked_plan_of}
 use Rattle.tcd_plan.proofs.Accepted.{accepted, few_arrays}
 use Rattle.tcd_plan.proofs.Pieces.{irqs_small}
 use Rattle.tcd_plan.proofs.TellsPlan.{ascending, ccpn-lt, tells_plan}
@@ -32,7 +32,7 @@ pub plan_irqs_of-requires-clause-bytes : goal.plan_irqs_of-requires-clause-bytes
 plan_irqs_of-requires-clause-bytes c =
     let d = view c.args.value.now in
     let small = irqs_small 0 _ (ascending d (accepted d c.requires).bad_value) in
-    subst (λ (ds : List Data). All (λ q. irq_of q < 2 ^ 8) ds) (sym c.json_elements_or_empty.ensures) small
+    subst (λ (ds : List Data). All (λ q. plan_irq_of q < 2 ^ 8) ds) (sym c.json_elements_or_empty.ensures) small
 
 pub json_nested_byte-requires : goal.json_nested_byte-requires
 json_nested_byte-requires c =

@@ -9,7 +9,7 @@ use Rattle.depth_cert.specs.Nodes.{NodeData}
 use Rattle.cfg_recover.specs.RulesHoldOrFail.{limits_of_cert, Accepts}
 use Rattle.value_cells.specs.declared.cells.Cell.{Cell}
 use Rattle.value_cells.specs.Cells.{with_cells}
-use Rattle.value_cells.specs.Keeping.{CertKeepsCells, IsFirstRule16Fault, IsFirstRule16NodeFault, PointKeepsCells}
+use Rattle.value_cells.specs.Keeping.{CertKeepsCellBounds, IsFirstRule16Fault, IsFirstRule16NodeFault, PointKeepsCellBounds}
 use Rattle.cfg_recover.proofs.FirstFault.{all_more, accepted_values}
 use Rattle.value_cells.proofs.FaultLaws.{all_keep, first_breaks, cells_fit}
 use Rattle.packed_cert.proofs.WalkedPoints.{never_none, got}
@@ -52,13 +52,13 @@ loop-i-preserved c =
     let cert = c.args.cert.now in
     let node : NodeData = c.in-Some.node in
     let limits = c.of-bounds.ensures ∙ ap (limits_for other) c.version.ensures.version in
-    let found = subst (λ (b : Limits). All (PointKeepsCells b image other c.list.result.now) node.points) limits c.in_default-first_cell_fault_in_node.ensures.none in
-    let keeps = subst (λ (l : List Cell). All (PointKeepsCells (limits_of_cert other cert) image other l) node.points) c.list.ensures found in
+    let found = subst (λ (b : Limits). All (PointKeepsCellBounds b image other c.list.result.now) node.points) limits c.in_default-first_cell_fault_in_node.ensures.none in
+    let keeps = subst (λ (l : List Cell). All (PointKeepsCellBounds (limits_of_cert other cert) image other l) node.points) c.list.ensures found in
     let here = got cert.nodes c.loop-i.i node c.in-Some.ensures in
-    all_more (λ (n : NodeData). All (PointKeepsCells (limits_of_cert other cert) image other c.args.cells.now) n.points) cert.nodes c.loop-i.i node here.0 here.1 c.loop-i.invariant keeps
+    all_more (λ (n : NodeData). All (PointKeepsCellBounds (limits_of_cert other cert) image other c.args.cells.now) n.points) cert.nodes c.loop-i.i node here.0 here.1 c.loop-i.invariant keeps
 
 pub returns-clause-none : goal.returns-clause-none
 returns-clause-none c =
     let other : PlanData = c.with_cells-other.result in
-    subst (λ (p : PlanData). CertKeepsCells c.args.image.now p c.args.cells.now c.args.cert.now) c.with_cells-other.ensures
+    subst (λ (p : PlanData). CertKeepsCellBounds c.args.image.now p c.args.cells.now c.args.cert.now) c.with_cells-other.ensures
     (all_keep c.args.image.now other c.args.cells.now c.args.cert.now c.version.ensures.limits (c.args.cert.now).nodes refl c.loop-i.i (omega (arith, c.loop-i-test.false, c.len-i-end.ensures)) c.loop-i.invariant)

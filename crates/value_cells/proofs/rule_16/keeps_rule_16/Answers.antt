@@ -1,5 +1,5 @@
 use Rattle.std.proofs.Common.{rules, sym, refl}
-use Rattle.value_cells.specs.Keeping.{InstructionKeepsCells}
+use Rattle.value_cells.specs.Keeping.{InstructionKeepsCellBounds}
 use Rattle.value_cells.proofs.KeepingLaws.{at_store}
 use Rattle.value_cells.proofs.FaultLaws.{keeps_found}
 use Rattle.value_cells.proofs.rule_16.keeps_rule_16.Goals as goal
@@ -14,5 +14,5 @@ returns-in-Store c =
 pub returns-in_default-shape : goal.returns-in_default-shape
 returns-in_default-shape c =
     let r = c.args.rule.now in
-    let other : InstructionKeepsCells r.bounds.now r.plan.now r.cells.now c.args.s.now c.in-Some.found.shape = search rules in
+    let other : InstructionKeepsCellBounds r.bounds.now r.plan.now r.cells.now c.args.s.now c.in-Some.found.shape = search rules in
     keeps_found r.bounds.now r.image.now r.plan.now r.cells.now (record { addr = c.args.addr; state = c.args.s.now }) _ _ _ c.in-Some.ensures.code (λ t. other, λ keeps. refl)

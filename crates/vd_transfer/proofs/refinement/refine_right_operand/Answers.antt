@@ -1,13 +1,13 @@
 use Rattle.std.proofs.Common.{◌∙◌, ap, sym}
 use Rattle.value_domain.specs.Values.{members}
 use Rattle.value_domain.specs.Meets.{cover_if_any}
-use Rattle.vd_transfer.specs.Relations.{relation_on_side}
+use Rattle.vd_transfer.specs.Relations.{operand_relation}
 use Rattle.vd_transfer.proofs.RelationLaws.{signed_order, converse_order, right_plain, right_signed}
 use Rattle.vd_transfer.proofs.refinement.refine_right_operand.Goals as goal
 
 pub refine_by_signed_relation-requires-clause-order : goal.refine_by_signed_relation-requires-clause-order
 refine_by_signed_relation-requires-clause-order c =
-    rw (c.converse-rel.ensures, c.operand_relation.ensures) (converse_order (relation_on_side c.args.test.cond c.args.test.side) (signed_order c.args.test.cond c.args.test.side (sym c.is_signed_condition.ensures ∙ c.if-is_signed_condition.true)))
+    rw (c.converse-rel.ensures, c.operand_relation.ensures) (converse_order (operand_relation c.args.test.cond c.args.test.side) (signed_order c.args.test.cond c.args.test.side (sym c.is_signed_condition.ensures ∙ c.if-is_signed_condition.true)))
 
 pub returns-then-is_signed_condition-clause-kept : goal.returns-then-is_signed_condition-clause-kept
 returns-then-is_signed_condition-clause-kept c =

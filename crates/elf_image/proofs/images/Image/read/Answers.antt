@@ -1,7 +1,7 @@
 use Rattle.std.proofs.Common.{◌+◌, ◌≤◌, length, map, sym, ap, ◌∙◌, arith}
 use Rattle.std.proofs.lemmas.Result.{err_from_is_err_and}
 use Rattle.std.proofs.lemmas.List.Elements.{All-weaker}
-use Rattle.elf_image.specs.ReadElf.{overlap_refusal, load_headers, loaded_segment}
+use Rattle.elf_image.specs.ReadElf.{overlap_refusal, loading_headers, loaded_segment}
 use Rattle.elf_image.proofs.Good.{Good, loads_good}
 use Rattle.elf_image.proofs.Loaded.{loaded_is_image}
 use Rattle.elf_image.proofs.Refusals.{refused_start, refused_segment, refused_loads, refused_overlap, image_of-loaded}
@@ -31,7 +31,7 @@ returns-in_err-check_no_segment_overlap c =
 pub loaded_segments-requires : goal.loaded_segments-requires
 loaded_segments-requires c =
     let bytes = c.args.bytes.now in
-    let inside = All-weaker (Good bytes) (λ h. h.offset + h.file_size ≤ length bytes) (λ h good. good.inside) (load_headers bytes) (loads_good bytes (sym c.in_ok-check_program_headers.ensures)) in
+    let inside = All-weaker (Good bytes) (λ h. h.offset + h.file_size ≤ length bytes) (λ h good. good.inside) (loading_headers bytes) (loads_good bytes (sym c.in_ok-check_program_headers.ensures)) in
     rw (c.deref-2.ensures.value ∙ c.in_ok-loads.ensures.ok.0) inside
 
 pub invariant_of-result : goal.invariant_of-result

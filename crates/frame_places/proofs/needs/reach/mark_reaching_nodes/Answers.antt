@@ -1,7 +1,7 @@
 use Rattle.std.proofs.Common.{◌≡◌, ◌∙◌, ℕ, ◌-◌, List, [], ◌++◌, take, length, Option, subst, sym, ap, arith, Contains}
 use Rattle.std.specs.declared.vec.Vec.{Vec}
 use Rattle.std.specs.declared.alloc.Global.{Global}
-use Rattle.frame_places.specs.NodeGraph.{IsAmongPredecessors, SearchInvariantHolds, MarksAndQueues}
+use Rattle.frame_places.specs.NodeGraph.{IsAmongPredecessors, SearchInvariantHolds, MarksAndQueuesUnmarked}
 use Rattle.frame_places.proofs.ReachLemmas.{marking_more, marking_past}
 use Rattle.frame_places.proofs.needs.reach.mark_reaching_nodes.Goals as goal
 
@@ -13,7 +13,7 @@ mark_and_queue_nodes-requires c k i =
 pub loop-node-preserved-in-Continue-1 : goal.loop-node-preserved-in-Continue-1
 loop-node-preserved-in-Continue-1 c edges node are begun =
     marking_more edges c.args.sources.now (length c.args.marks.now) node c.in-Some.node c.in-Some-get.list.now c.loop-node.marks c.mark_and_queue_nodes.new.marks c.pop.new.self.items c.mark_and_queue_nodes.new.work.items are (sym c.in-Some-get.ensures.value)
-    (subst (λ (l : List ℕ). MarksAndQueues l c.loop-node.marks c.mark_and_queue_nodes.new.marks c.pop.new.self.items c.mark_and_queue_nodes.new.work.items) c.as_slice.ensures.value c.in_ok-mark_and_queue_nodes.ensures)
+    (subst (λ (l : List ℕ). MarksAndQueuesUnmarked l c.loop-node.marks c.mark_and_queue_nodes.new.marks c.pop.new.self.items c.mark_and_queue_nodes.new.work.items) c.as_slice.ensures.value c.in_ok-mark_and_queue_nodes.ensures)
     (subst (SearchInvariantHolds edges (length c.args.marks.now) node c.loop-node.marks) c.in-Some.ensures.items (c.loop-node.invariant edges node are begun))
 
 pub loop-node-preserved : goal.loop-node-preserved

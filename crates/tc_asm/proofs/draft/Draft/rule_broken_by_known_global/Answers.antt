@@ -1,5 +1,5 @@
 use Rattle.std.proofs.Common.{min, ap, ◌∙◌}
-use Rattle.tc_asm.specs.Rules.{name_rule}
+use Rattle.tc_asm.specs.Rules.{rule_broken_by_name}
 use Rattle.tc_asm.proofs.KnownSymbols.{global_rule_known}
 use Rattle.tc_asm.proofs.draft.Draft.rule_broken_by_known_global.Goals as goal
 
@@ -7,5 +7,5 @@ pub returns : goal.returns
 returns c =
     c.min.ensures
     ∙ ap (λ a. min a c.min-room.result) c.name_rule.ensures
-    ∙ ap (min (name_rule c.args.name.now)) (c.min-room.ensures ∙ ap (min 15) c.undefined_global_rule.ensures)
+    ∙ ap (min (rule_broken_by_name c.args.name.now)) (c.min-room.ensures ∙ ap (min 15) c.undefined_global_rule.ensures)
     ∙ global_rule_known c.args.labels.now c.args.self.now c.args.name.now

@@ -5,7 +5,7 @@ use Rattle.depth_cert.specs.declared.keys.Key.{Key}
 use Rattle.depth_cert.specs.declared.points.Point.{Point}
 use Rattle.depth_cert.specs.Nodes.{NodeData}
 use Rattle.cfg_recover.specs.LocalFaults.{IsFaultless}
-use Rattle.tcd_report.specs.Graphs.{ArePointLines, AreJoinedLines, key_front}
+use Rattle.tcd_report.specs.Graphs.{ArePointLines, AreJoinedLines, node_line_prefix}
 use Rattle.tcd_report.specs.Texts.{GrowsByLines}
 use Rattle.depth_cert.specs.Points.{point_of}
 use Rattle.tcd_report.proofs.GraphLemmas.Joining.{grown_push}
@@ -42,7 +42,7 @@ loop-addr-preserved c =
     record {
       done = inv.done ++ p ∷ [];
       split = split_more (c.args.node.now).points inv.done (c.loop-addr.walk).left c.advance.new.self.left p inv.split c.in-Some.ensures.0;
-      front = c.in_ok-append_point_lines.ensures.front ∙ ap key_front (ap (λ (n : NodeData). n.key) c.node.view_is);
+      front = c.in_ok-append_point_lines.ensures.front ∙ ap node_line_prefix (ap (λ (n : NodeData). n.key) c.node.view_is);
       handlers = c.in_ok-append_point_lines.ensures.handlers;
       grown = grown_push (ArePointLines j.image.now j.plan.now j.cert.now (c.args.node.now).key) inv.done p (string_bytes c.args.graph.now.text) (string_bytes c.loop-addr.graph.text) (string_bytes c.append_point_lines.new.graph.text) inv.grown grows;
     }

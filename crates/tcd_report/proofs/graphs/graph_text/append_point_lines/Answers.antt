@@ -5,7 +5,7 @@ use Rattle.std.specs.Str.{IsAscii}
 use Rattle.tcd_text.specs.HexNumbers.{hex_word}
 use Rattle.std.specs.Prelude.{codes}
 use Rattle.tcd_report.specs.declared.graphs.edges.Edges.{Edges}
-use Rattle.tcd_report.specs.Graphs.{AreEdges, line_front, lines_to, edge_lines_text, return_line_text}
+use Rattle.tcd_report.specs.Graphs.{AreEdges, point_line_prefix, lines_to, edge_lines_text, return_line_text}
 use Rattle.tcd_report.specs.Judging.{duties_at}
 use Rattle.tcd_report.proofs.GraphLemmas.KeyTexts.{line_front_ascii}
 use Rattle.tcd_report.proofs.GraphLemmas.GraphTexts.{point_lines}
@@ -13,7 +13,7 @@ use Rattle.tcd_report.proofs.graphs.graph_text.append_point_lines.Goals as goal
 
 pub append_edges-requires-clause-ascii : goal.append_edges-requires-clause-ascii
 append_edges-requires-clause-ascii c =
-    let front_is : c.as_str-3.result.now ≡ line_front c.args.key.now c.args.addr =
+    let front_is : c.as_str-3.result.now ≡ point_line_prefix c.args.key.now c.args.addr =
     c.as_str-3.ensures.value ∙ c.in_ok-set_point_line_prefix.ensures ∙ ap (λ l. l ++ (hex_word c.args.addr ++ 32 ∷ [])) (c.as_str.ensures.value ∙ c.requires.front) in
     subst IsAscii (sym front_is) (line_front_ascii c.args.key.now c.args.addr (omega arith) c.requires.ascii)
 
@@ -31,7 +31,7 @@ returns-clause-lines c =
     let ways : Edges = record c.find_edges.new.ways { irq = c.set_handler_line_prefix.new.known } in
     let are : AreEdges j.cert.now (duties_at j key (point_of c.args.addr c.args.s.now) c.in-Some.found) ways =
     record { to = found.to; call = found.call; back = found.back; sys = found.sys; aln = found.aln; irq = c.in_ok-set_handler_line_prefix.ensures.entries ∙ found.irq } in
-    let front_is : string_bytes c.set_point_line_prefix.new.front ≡ line_front key c.args.addr =
+    let front_is : string_bytes c.set_point_line_prefix.new.front ≡ point_line_prefix key c.args.addr =
     c.in_ok-set_point_line_prefix.ensures ∙ ap (λ l. l ++ (hex_word c.args.addr ++ 32 ∷ [])) (c.as_str.ensures.value ∙ c.requires.front) in
     on_ok_weaker c.append_ret_line.result
     (λ whole.

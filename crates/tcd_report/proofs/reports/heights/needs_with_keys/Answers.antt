@@ -1,7 +1,7 @@
 use Rattle.std.proofs.Common.{◌∙◌, map, ap, arith}
 use Rattle.std.proofs.lemmas.List.{take_all}
 use Rattle.depth_cert.specs.Nodes.{NodeData}
-use Rattle.tcd_report.specs.Reports.Heights.{height_rank_of}
+use Rattle.tcd_report.specs.Reports.Heights.{need_with_key}
 use Rattle.packed_cert.proofs.WalkedPoints.{never_none, mapped_more}
 use Rattle.tcd_report.proofs.reports.heights.needs_with_keys.Goals as goal
 
@@ -11,7 +11,7 @@ unreachable-requires c = never_none (c.args.cert.now).nodes c.loop-i.i (omega (a
 pub loop-i-preserved : goal.loop-i-preserved
 loop-i-preserved c =
     c.in_ok-push.ensures.items
-    ∙ mapped_more height_rank_of (c.args.cert.now).nodes c.loop-i.i c.in-Some.node c.loop-i.ranks.items _ c.in-Some.ensures c.loop-i.invariant (ap (λ (n : NodeData). height_rank_of n) c.node.view_is)
+    ∙ mapped_more need_with_key (c.args.cert.now).nodes c.loop-i.i c.in-Some.node c.loop-i.ranks.items _ c.in-Some.ensures c.loop-i.invariant (ap (λ (n : NodeData). need_with_key n) c.node.view_is)
 
 pub returns : goal.returns
-returns c = c.loop-i.invariant ∙ ap (map height_rank_of) (take_all c.loop-i.i (c.args.cert.now).nodes (omega (arith, c.loop-i-test.false, c.len-i-end.ensures)))
+returns c = c.loop-i.invariant ∙ ap (map need_with_key) (take_all c.loop-i.i (c.args.cert.now).nodes (omega (arith, c.loop-i-test.false, c.len-i-end.ensures)))

@@ -6,7 +6,7 @@ use Rattle.std.proofs.lemmas.List.Elements.{Contains-get_or}
 use Rattle.depth_cert.specs.declared.keys.Key.{Key}
 use Rattle.depth_cert.specs.Nodes.{NodeData}
 use Rattle.depth_cert.specs.Certs.{CertData, IsCert}
-use Rattle.tcd_report.specs.Reports.Heights.{IsGreatestHeightInList, IsHeightThroughCall, HasNodeHeight, height_rank_of}
+use Rattle.tcd_report.specs.Reports.Heights.{IsGreatestHeightInList, IsHeightThroughCall, HasNodeHeight, need_with_key}
 use Rattle.depth_cert.specs.Keys.{key_cmp}
 use Rattle.tcd_report.proofs.ReportLemmas.HeightLaws.{tells_low, tells_more, has_more, height_is, ranked, callees_known, all_known}
 use Rattle.tcd_report.proofs.reports.heights.node_heights.Goals as goal
@@ -15,8 +15,8 @@ pub unreachable-requires : goal.unreachable-requires
 unreachable-requires c =
     let cert : CertData = c.args.judged.now.cert.now in
     let order : List (ℕ × Key) = c.deref-key-items.result.now in
-    let moved : IsPermutation (map height_rank_of cert.nodes) order =
-    subst (λ (l : List (ℕ × Key)). IsPermutation (map height_rank_of cert.nodes) l) (sym c.deref-key-items.ensures.value)
+    let moved : IsPermutation (map need_with_key cert.nodes) order =
+    subst (λ (l : List (ℕ × Key)). IsPermutation (map need_with_key cert.nodes) l) (sym c.deref-key-items.ensures.value)
     (subst (λ (l : List (ℕ × Key)). IsPermutation l c.sort.new.self.items) c.in_ok-order.ensures c.in_ok-sort.ensures.permutation) in
     let i : ℕ = c.loop-key.key-index in
     let none : ℕ × Key = (0, record { kind = 0; entry = 0; prio = 0; is = false }) in
@@ -31,8 +31,8 @@ pub height_of_node-rows-requires-clause-stands : goal.height_of_node-rows-requir
 height_of_node-rows-requires-clause-stands c =
     let cert : CertData = c.args.judged.now.cert.now in
     let order : List (ℕ × Key) = c.deref-key-items.result.now in
-    let moved : IsPermutation (map height_rank_of cert.nodes) order =
-    subst (λ (l : List (ℕ × Key)). IsPermutation (map height_rank_of cert.nodes) l) (sym c.deref-key-items.ensures.value)
+    let moved : IsPermutation (map need_with_key cert.nodes) order =
+    subst (λ (l : List (ℕ × Key)). IsPermutation (map need_with_key cert.nodes) l) (sym c.deref-key-items.ensures.value)
     (subst (λ (l : List (ℕ × Key)). IsPermutation l c.sort.new.self.items) c.in_ok-order.ensures c.in_ok-sort.ensures.permutation) in
     let i : ℕ = c.loop-key.key-index in
     let none : ℕ × Key = (0, record { kind = 0; entry = 0; prio = 0; is = false }) in
@@ -46,8 +46,8 @@ loop-key-preserved c =
     let cert : CertData = c.args.judged.now.cert.now in
     let is : IsCert cert = c.version-version.ensures.limits in
     let order : List (ℕ × Key) = c.deref-key-items.result.now in
-    let moved : IsPermutation (map height_rank_of cert.nodes) order =
-    subst (λ (l : List (ℕ × Key)). IsPermutation (map height_rank_of cert.nodes) l) (sym c.deref-key-items.ensures.value)
+    let moved : IsPermutation (map need_with_key cert.nodes) order =
+    subst (λ (l : List (ℕ × Key)). IsPermutation (map need_with_key cert.nodes) l) (sym c.deref-key-items.ensures.value)
     (subst (λ (l : List (ℕ × Key)). IsPermutation l c.sort.new.self.items) c.in_ok-order.ensures c.in_ok-sort.ensures.permutation) in
     let i : ℕ = c.loop-key.key-index in
     let none : ℕ × Key = (0, record { kind = 0; entry = 0; prio = 0; is = false }) in
@@ -80,7 +80,7 @@ returns-clause-all c =
     let cert : CertData = c.args.judged.now.cert.now in
     let is : IsCert cert = c.version-version.ensures.limits in
     let order : List (ℕ × Key) = c.deref-key-items.result.now in
-    let moved : IsPermutation (map height_rank_of cert.nodes) order =
-    subst (λ (l : List (ℕ × Key)). IsPermutation (map height_rank_of cert.nodes) l) (sym c.deref-key-items.ensures.value)
+    let moved : IsPermutation (map need_with_key cert.nodes) order =
+    subst (λ (l : List (ℕ × Key)). IsPermutation (map need_with_key cert.nodes) l) (sym c.deref-key-items.ensures.value)
     (subst (λ (l : List (ℕ × Key)). IsPermutation l c.sort.new.self.items) c.in_ok-order.ensures c.in_ok-sort.ensures.permutation) in
     all_known cert c.loop-key.node_heights order c.loop-key.key-index moved c.loop-key-test.false c.loop-key.invariant.all
