@@ -17,7 +17,9 @@ call_entry_change s = record (identity_change_of s) { lower = false; locals = re
 abbrev pub sys_entry_change : Val → ℕ → State → Change
 sys_entry_change sp tin s = record (call_entry_change s) { first = register_write 26 sp; second = register_write 15 (word_val tin); ie = false }
 
--- the change at the entry of an interrupt's handler: values are unknown except A10, CCPN is ccpn
+-- the change from any state to that at the entry of an interrupt's handler: A10 (register 26) is
+-- sp, no other register is known, interrupts are off, CCPN is ccpn, and the lower registers are the
+-- entry's
 abbrev pub handler_entry_change : Val → ℕ → Change
 handler_entry_change sp ccpn = record {
   base = Any;

@@ -69,8 +69,8 @@ value_loaded_by_shape b image plan s _ = any_val
 abbrev pub jump_duties_to : State → List ℕ → List Owed
 jump_duties_to s targets = map (λ t. owed 4 (jump t s)) targets
 
--- the duty of a point to jump to q on a branch's side (K4), in the refined state; none if
--- impossible
+-- the duty of a branch to jump to q on one of its sides (K4), in the refined state, as a list;
+-- empty if that side isn't possible
 abbrev pub branch_duty : ℕ → Option State → List Owed
 branch_duty q None = []
 branch_duty q (Some s) = owed 4 (jump q s) ∷ []

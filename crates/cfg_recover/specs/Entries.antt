@@ -45,7 +45,7 @@ aln_key plan key = record { kind = aln_kind; entry = bit_or plan.btv (2 * 2 ^ 5)
 abbrev pub handler_entry_sp_of : PlanData → Key → State → Val
 handler_entry_sp_of plan key s = if key.is then reg_of plan s 26 else word_val plan.isp
 
--- a state without locals in which only A10 is known
+-- a state in which only A10 is known, with the value sp, and without saved lower contexts
 abbrev pub state_with_only_a10 : Val → Bool → ℕ → Bool → State
 state_with_only_a10 sp ie ccpn lower =
     with_reg_value (record { regs = replicate 27 any_val; ie = ie; ccpn = ccpn; lower = lower; locals = record { items = [] } }) 26 sp
@@ -75,7 +75,7 @@ sys_entry plan key s tin =
     record (with_reg_value (with_reg_value s 26 (handler_entry_sp_of plan key s)) 15 (word_val tin)) { ie = false; lower = false; locals = record { items = [] } }
 
 -- ---- handlers
--- the key of a handler of an interrupt or a trap
+-- the key of a handler of an interrupt or a trap, which runs on the interrupt stack
 abbrev pub handler_key : ℕ → ℕ → ℕ → Key
 handler_key kind entry prio = record { kind = kind; entry = entry; prio = prio; is = true }
 

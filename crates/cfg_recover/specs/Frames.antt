@@ -87,7 +87,7 @@ AreAllFramesHeld plan cert m (f ∷ fs) = AreFramesHeld plan cert m f fs
 abbrev pub entered_frame_at : ℕ → ℕ → ℕ → Bool → RunFrame
 entered_frame_at kind at prio is = record { key = record { kind = kind; entry = at; prio = prio; is = is }; at = at }
 
--- this frame of a run, going on at an address
+-- this frame of a run, at another address, where it continues
 abbrev pub frame_resumed_at : RunFrame → ℕ → RunFrame
 frame_resumed_at f at = record { key = f.key; at = at }
 

@@ -27,14 +27,15 @@ abbrev pub targets_of_value : Val → Option (List ℕ)
 targets_of_value (Set ws) = Some (sorted_set_of (map (λ w. w / 2 * 2) ws))
 targets_of_value (Span lo last step) = None
 
--- the targets of a jump or a call at p, which K5's own part asks to be known
+-- the targets of a jump or a call at p; none if they are in a register whose value isn't a Set,
+-- which breaks K5
 abbrev pub targets_of : PlanData → State → ℕ → Target → Option (List ℕ)
 targets_of plan s p (target.Rel by) = Some (wrapping_sum p by ∷ [])
 targets_of plan s p (target.Abs x) = Some (x ∷ [])
 targets_of plan s p (target.Reg r) = targets_of_value (reg_of plan s r)
 
--- a target that K5's own part knows without any register: the only one of a jump or a call at p;
--- none if it goes by a register
+-- the only target of a jump or a call at p, if that is known without any register; none for a
+-- target in a register
 abbrev pub direct_target : ℕ → Target → Option ℕ
 direct_target p (target.Rel by) = Some (wrapping_sum p by)
 direct_target p (target.Abs x) = Some x

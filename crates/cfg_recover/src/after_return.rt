@@ -6,8 +6,8 @@ ghost use Rattle.depth_cert.specs.Exits.{state_after_return, value_after_return,
 use depth_cert::{CALL, Exit};
 use value_domain::{State, Val, copy_locals};
 
-/// Returns the abstract state of a caller after a return by `exit` from a call (`kind` is CALL) or
-/// a system call (SYS). Lower registers are the exit's; `kind` settles IE and CCPN.
+/// Returns the abstract state of a caller after a return from a call (`kind` CALL) or system call
+/// (SYS). Lower registers are from the callee's `exit`, after a call also IE and CCPN.
 pub fn after(s: &State, exit: &Exit, kind: u8) -> State
     ensures { result ≡ state_after_return s.now exit.now kind }
 {
@@ -20,8 +20,8 @@ pub fn after(s: &State, exit: &Exit, kind: u8) -> State
     }
 }
 
-/// Returns a caller's register values after a return: those of the lower registers are the exit's,
-/// all others stay.
+/// Returns a caller's 27 register values after a return: those of the lower registers are the
+/// exit's (`lower`), all others stay.
 fn regs_after_return(regs: &[Val; 27], lower: &[Val; 14]) -> [Val; 27]
     ensures { result ≡ values_after_return lower.now regs.now }
 {
@@ -48,8 +48,8 @@ fn ccpn_after_return(s: &State, exit: &Exit, kind: u8) -> u8
     if kind == CALL { exit.ccpn } else { s.ccpn }
 }
 
-/// Returns the value in register slot `i` after a return: for a lower register the exit's, one of
-/// the 14 in `lower`, else `v`.
+/// Returns the value in register slot `i` of a state after a return. Slots 0 to 7 and 16 to 21 are
+/// lower registers, and get their values from the exit (`lower`); other slots keep `v`.
 fn value_after_return<'a>(i: usize, lower: &'a [Val; 14], v: &'a Val) -> &'a Val
     ensures { result.now ≡ value_after_return i lower.now v.now }
 {

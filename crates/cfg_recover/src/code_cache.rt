@@ -65,8 +65,8 @@ impl KnownCodes {
         code.found
     }
 
-    /// Returns the byte of the image at an address, if a segment holds one. The segment that held
-    /// the last word or byte is tried first.
+    /// Returns the byte of the image at an address, or `None` if no segment holds one. The segment
+    /// in which bytes were found last is tried first.
     #[inline(always)]
     pub fn byte(&mut self, image: &Image, addr: u32) -> Option<u8>
         ensures byte { result ≡ image_byte image.now addr }
@@ -99,8 +99,8 @@ fn decode_word(word: u32) -> KnownCode
     KnownCode { word, found }
 }
 
-/// Returns the word by which the cache knows an instruction, from four bytes: all of them, or only
-/// the first two of a 16-bit instruction.
+/// Returns the key by which the cache finds an instruction, from four bytes of code: all as a word,
+/// or only the first two of a 16-bit instruction.
 #[inline(always)]
 fn code_cache_key(bytes: [u8; 4]) -> u32
     ensures { shape_and_size_of_word result ≡ shape_and_size_of (decoded_of bytes) }

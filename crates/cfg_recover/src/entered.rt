@@ -18,7 +18,8 @@ use tcd_plan::Plan;
 use value_domain::{Bounds, State};
 use vd_transfer::address_by_shape;
 
-/// Appends the keys of the frames that the call or SYSCALL at `addr` may enter, in duty order.
+/// Appends to `keys` those of the frames that the frame of `key` may enter by the call or SYSCALL
+/// at `addr`, in ascending order of targets. Other instructions append none.
 pub fn push_entered_keys(
     keys: &mut Vec<Key>,
     plan: &Plan,
@@ -44,8 +45,8 @@ pub fn push_entered_keys(
     }
 }
 
-/// Returns true if the access of a point's instruction may be misaligned, so that the point owes
-/// the entry of the handler of misaligned accesses.
+/// Returns true if a load or store in the state `s` may have a misaligned address, and so may enter
+/// the handler of misaligned accesses.
 #[inline(always)]
 pub fn may_be_misaligned(b: &Bounds, plan: &Plan, s: &State, shape: Shape) -> bool
     requires shape { IsShapeInBounds shape }
@@ -59,8 +60,8 @@ pub fn may_be_misaligned(b: &Bounds, plan: &Plan, s: &State, shape: Shape) -> bo
     }
 }
 
-/// Returns true if some address of a load or store isn't a multiple of `size`. This is a function
-/// of its own, since a value needs stack.
+/// Returns true if some address of a load or store isn't a multiple of `size`. Not inlined, so that
+/// other instructions need no stack for a value.
 #[inline(never)]
 fn has_misaligned_address(b: &Bounds, plan: &Plan, s: &State, shape: Shape, size: u8) -> bool
     requires shape { IsShapeInBounds shape }
@@ -73,7 +74,8 @@ fn has_misaligned_address(b: &Bounds, plan: &Plan, s: &State, shape: Shape, size
     !aligned(&at, size)
 }
 
-/// Appends the keys of the frames that a call to these functions enters.
+/// Appends to `keys` those of the frames that the frame of `key` enters by calls to the functions
+/// at the addresses `targets`.
 fn push_called_keys(keys: &mut Vec<Key>, key: &Key, targets: &[u32]) -> Result<(), AllocError>
     ensures { OnOk result (keys.new.items ≡ keys.old.items ++ call_keys key.now targets.now) }
 {

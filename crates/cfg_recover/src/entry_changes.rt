@@ -19,8 +19,8 @@ const D15: u8 = 15;
 /// The identification number of the trap of misaligned accesses.
 const ALN_TIN: u32 = 4;
 
-/// Returns the change from a caller's abstract state to that at the entry of the called function:
-/// no locals, and `lower` is false.
+/// Returns the change from a caller's abstract state to that at the called function's entry: no
+/// lower contexts saved, and no promise (`lower`) on lower registers.
 pub fn call_entry_change(b: &Bounds, s: &State) -> Change
     requires { AreInLattice b.now s.now.regs }
     ensures change { result ≡ changes.call_entry_change s.now }
@@ -34,7 +34,7 @@ pub fn call_entry_change(b: &Bounds, s: &State) -> Change
 }
 
 /// Returns the change from a point's abstract state to that at the entry of the handler of system
-/// calls, for SYSCALL `tin`.
+/// calls, by SYSCALL `tin`. `key` names the point's frame.
 pub fn sys_entry_change(b: &Bounds, plan: &Plan, key: &Key, s: &State, tin: u8) -> Change
     requires { AreInLattice b.now s.now.regs }
     ensures entry { state_after s.now result ≡ sys_entry plan.now key.now s.now tin }
@@ -48,7 +48,7 @@ pub fn sys_entry_change(b: &Bounds, plan: &Plan, key: &Key, s: &State, tin: u8) 
 }
 
 /// Returns the change from a point's abstract state to that at an interrupt handler's entry, where
-/// CCPN is `ccpn` and only A10 is known.
+/// CCPN is `ccpn` and only A10 is known. `key` names the interrupted frame.
 pub fn handler_entry_change(b: &Bounds, plan: &Plan, key: &Key, s: &State, ccpn: u8) -> Change
     requires { AreInLattice b.now s.now.regs }
     ensures entry { state_after s.now result ≡ irq_entry plan.now key.now s.now ccpn }
@@ -59,7 +59,7 @@ pub fn handler_entry_change(b: &Bounds, plan: &Plan, key: &Key, s: &State, ccpn:
 }
 
 /// Returns the change from a point's abstract state to that at the entry of the handler of
-/// misaligned accesses.
+/// misaligned accesses. `key` names the point's frame.
 pub fn aln_entry_change(b: &Bounds, plan: &Plan, key: &Key, s: &State) -> Change
     requires { AreInLattice b.now s.now.regs }
     ensures entry { state_after s.now result ≡ aln_entry plan.now key.now s.now }
@@ -71,8 +71,8 @@ pub fn aln_entry_change(b: &Bounds, plan: &Plan, key: &Key, s: &State) -> Change
     c
 }
 
-/// Returns the stack pointer at the entry of a handler: the interrupt stack's start, or the point's
-/// A10 if that stack is in use.
+/// Returns the stack pointer at a handler's entry: the start of the interrupt stack, or the point's
+/// A10 if that stack is in use already (`key.is`).
 fn handler_entry_sp(b: &Bounds, plan: &Plan, key: &Key, s: &State) -> Val
     requires { AreInLattice b.now s.now.regs }
     ensures stack { result ≡ handler_entry_sp_of plan.now key.now s.now }
@@ -87,7 +87,7 @@ fn handler_entry_sp(b: &Bounds, plan: &Plan, key: &Key, s: &State) -> Val
     }
 }
 
-/// Returns the abstract value of a register that the entry of a handler sets to a constant.
+/// Returns the abstract value of a register that the entry of a handler sets to the constant `x`.
 fn entry_constant(b: &Bounds, x: u32) -> Val
     ensures word { result ≡ word_val x }
     ensures value { IsInLattice b.now result }
@@ -96,8 +96,8 @@ fn entry_constant(b: &Bounds, x: u32) -> Val
     Val::one(x)
 }
 
-/// Returns the change from a point's state to that at a handler's entry with this A10 and CCPN. All
-/// other registers are unknown, and IE is off.
+/// Returns the change from a point's state to that at a handler's entry, with A10 `sp` and this
+/// CCPN. All other registers are unknown, and IE is off.
 fn handler_entry_change_with_sp(s: &State, sp: Val, ccpn: u8) -> Change
     ensures { result ≡ changes.handler_entry_change sp ccpn }
 {

@@ -18,8 +18,8 @@ use tcd_plan::Plan;
 use value_domain::{Bounds, State};
 use vd_transfer::state_after_change;
 
-/// Returns the frames that a point's call or SYSCALL may enter, with their entry state, for the
-/// point's Flow; `None` for other instructions.
+/// Returns the frames that a call or SYSCALL may enter, with their entry state and the return
+/// address; `None` for other instructions.
 pub(crate) fn call_flow_entry(
     b: &Bounds,
     plan: &Plan,
@@ -51,8 +51,8 @@ pub(crate) fn call_flow_entry(
     }
 }
 
-/// Returns the entry of the handler of misaligned accesses for a point's Flow, or `None` if the
-/// instruction's access is always aligned.
+/// Returns the entry of the trap handler for misaligned accesses, with the state there; `None` if
+/// no access of the instruction may be misaligned.
 pub(crate) fn misaligned_flow_entry(
     b: &Bounds,
     plan: &Plan,
@@ -76,8 +76,8 @@ pub(crate) fn misaligned_flow_entry(
     })
 }
 
-/// Returns how a point's instruction leaves its frame, for the point's Flow: by RET, by RFE, or not
-/// at all. `key` and `s` are for the contract.
+/// Returns how an instruction leaves its frame: by RET, by RFE, or not at all. `key` and `s` are
+/// only for the contract.
 #[tactic(auto, unfolding(crate::specs::FlowDuties::flow_leave_of))]
 pub(crate) fn flow_leave(key: &Key, s: &State, inst: &Inst) -> Leave
     ensures told { duties_of_leaving key.now s.now result

@@ -22,8 +22,8 @@ use tcd_plan::Plan;
 use value_domain::{Bounds, State};
 use vd_transfer::state_after_change;
 
-/// Returns the Flow of a point in an abstract state: all that a certificate must have because of
-/// the point. If a rule's own part fails there, returns the least such rule.
+/// Returns what may follow an instruction in frame `key` and state `s`: successors, entered frames,
+/// interrupts, return. An error is the lowest number of a rule that the instruction breaks.
 pub fn flow(
     b: &Bounds,
     image: &Image,
@@ -46,8 +46,8 @@ pub fn flow(
     }
 }
 
-/// Returns the Flow of a point whose instruction breaks no rule by itself: successors, entries of
-/// frames, interrupts, and how the frame is left.
+/// Returns what may follow an instruction that breaks no certificate rule by itself: successors,
+/// entered frames, interrupts, and how the frame is left.
 fn flow_of_faultless_point(
     b: &Bounds,
     image: &Image,

@@ -26,8 +26,8 @@ use vd_transfer::{
     write_instruction_change,
 };
 
-/// Returns the jumps of a point's Flow to successors in the same frame (K4); none after a call, a
-/// system call or a return. A branch has one for each side.
+/// Returns the successors of an instruction in its own frame, with their abstract states. A branch
+/// may have two; a call, system call or return has none.
 pub(crate) fn successor_jumps(
     b: &Bounds,
     image: &Image,
@@ -61,8 +61,8 @@ pub(crate) fn successor_jumps(
     }
 }
 
-/// Writes into `c` the change from a point's state to its successor's, by an instruction that isn't
-/// a branch or a jump. What a load gets is computed first.
+/// Writes into `c` what an instruction of this shape, not a branch or a jump, changes in the
+/// abstract state `s`. The value of a load is computed first.
 pub fn write_successor_change(
     b: &Bounds,
     image: &Image,
@@ -90,8 +90,8 @@ pub fn write_successor_change(
     }
 }
 
-/// Returns the jump of a point's Flow to `to`, on a side of its branch, with the refined state;
-/// `None` if that side isn't possible.
+/// Returns the successor `to` on one side of a branch (`taken` or not), with the state refined by
+/// the condition. `None` if that side is impossible.
 fn jump_on_branch_side(
     b: &Bounds,
     plan: &Plan,
@@ -112,7 +112,7 @@ fn jump_on_branch_side(
     })
 }
 
-/// Returns the jump of a point's Flow to the next instruction, with the state after this one.
+/// Returns the next instruction as successor, with the abstract state after this one.
 fn jump_to_next(b: &Bounds, image: &Image, plan: &Plan, s: &State, at: InstAt<'_>) -> Jump
     requires values { AreInLattice b.now s.now.regs }
     requires room { LocalsFitInstruction b.now (shape_of at.inst.now) s.now }
@@ -129,8 +129,8 @@ fn jump_to_next(b: &Bounds, image: &Image, plan: &Plan, s: &State, at: InstAt<'_
     }
 }
 
-/// Writes into `c` the change that changes nothing in the state `s`. Mostly a state has no locals,
-/// and then none are copied.
+/// Writes into `c` the change that changes nothing in the state `s`. Most states have no saved
+/// lower contexts, and then no flags of those are copied.
 #[inline(always)]
 fn write_identity_change(s: &State, c: &mut Change)
     ensures { state_after s.now c.new ≡ s.now }

@@ -83,7 +83,8 @@ fn even_targets(words: &[u32]) -> ArrayVec<u32, 128>
     evened
 }
 
-/// Adds a target that isn't below the others to their list, unless the last one is the same.
+/// Adds the target `x`, which isn't below any in the ascending list, at the end, unless the last
+/// one is `x` already.
 fn add_target_once(words: &mut ArrayVec<u32, 128>, x: u32)
     requires room { length words.old.items < 128 }
     requires rising { IsAscending words.old.items }

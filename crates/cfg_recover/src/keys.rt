@@ -11,9 +11,9 @@ pub(crate) const SYS_VECTOR: u32 = 6 * 32;
 /// The place of the handler of misaligned accesses, class 2, in the vector table of traps.
 pub(crate) const ALN_VECTOR: u32 = 2 * 32;
 
-/// Returns the key of the frame entered at `entry` by a call (`kind` is CALL), a system call (SYS)
-/// or a misaligned access (ALN). A called function keeps the caller's stack; handlers run on the
-/// interrupt stack.
+/// Returns the key of the frame that the frame of `key` enters at `entry`: by a call (`kind` CALL),
+/// a system call (SYS) or a misaligned access (ALN). Handlers run on the interrupt stack, a called
+/// function on its caller's.
 pub fn entered_key(key: &Key, kind: u8, entry: u32) -> Key
     ensures { result ≡ entries.entered_key key.now kind entry }
 {

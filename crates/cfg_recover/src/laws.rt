@@ -5,8 +5,8 @@ ghost use Rattle.cfg_recover.specs.FlowDuties.{FlowDutiesAreOfCode};
 ghost use Rattle.cfg_recover.specs.MovesAreOwed.{InterruptsAreOwed, JumpsAreOwed, PointStoresAreInRange, TrapsAreOwed, CallsAreOwed, SystemCallsAreOwed};
 ghost use Rattle.cfg_recover.specs.RefusalLaws.{RefusalsHaveReasons};
 
-/// States the laws of moves: a machine at a point, whose state holds the registers, only does what
-/// the point owes, and stores in range. A Flow with a point's duties has those of its instruction.
+/// States soundness: a machine in a point's abstract state makes only jumps, calls, traps and
+/// interrupts that the rules foresee there. Its stores are in range.
 pub fn duty_soundness_laws()
     ensures moves { JumpsAreOwed }
     ensures traps { TrapsAreOwed }
@@ -17,8 +17,8 @@ pub fn duty_soundness_laws()
     ensures flow { FlowDutiesAreOfCode }
 {}
 
-/// States the laws of edges and frames: both follow a machine's steps, held frames describe the
-/// machine, and owed edges are duties or returns.
+/// Cross-checks the definitions of control flow edges and of frames: both follow each step of a
+/// machine. Also states what a certificate promises that covers all frames and edges.
 pub fn edge_and_frame_laws()
     ensures edges { EdgesMatchSteps }
     ensures frames { FramesFollowAllRuns }
@@ -26,15 +26,15 @@ pub fn edge_and_frame_laws()
     ensures owed { StepsAreOwedByPoints }
 {}
 
-/// States the laws of what the checker prints: a first fault names the first place where a rule
-/// fails; the certified need is the start's.
+/// Cross-checks what is printed: the first fault is the first place where a certificate rule fails,
+/// the certified need that of the frame at the start.
 pub fn fault_laws()
     ensures first { FirstFaultsNameFirstFailures }
     ensures need { CertifiedNeedIsOfStart }
 {}
 
-/// The law of refusals: a refusal to make a certificate names a rule and the very place where that
-/// fails.
+/// Cross-checks the definition of a refusal: each refusal to make a certificate has one of five
+/// reasons, at the frame and address that are printed.
 pub fn refusal_laws()
     ensures { RefusalsHaveReasons }
 {}

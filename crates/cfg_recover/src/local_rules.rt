@@ -61,7 +61,9 @@ pub struct Located {
     pub size: u32,
 }
 
-/// Returns the instruction at a point, or the least rule whose own part fails there.
+/// Returns the shape and size of the instruction at `addr` if it breaks no certificate rule by
+/// itself, in frame `key` and state `s`. An error is the lowest number of a broken rule, 3 if there
+/// is no instruction.
 pub fn check_local_rules(
     b: &Bounds,
     image: &Image,
@@ -87,8 +89,9 @@ pub fn check_local_rules(
     }
 }
 
-/// Returns the instruction at a point and its length in bytes, if no rule's own part fails there,
-/// else the least rule that fails.
+/// Returns the instruction at `addr` and its length in bytes if it breaks no certificate rule by
+/// itself, in frame `key` and state `s`. An error is the lowest number of a broken rule, 3 if there
+/// is no instruction.
 pub(crate) fn check_instruction_at(
     b: &Bounds,
     image: &Image,
@@ -111,8 +114,8 @@ pub(crate) fn check_instruction_at(
     }
 }
 
-/// Returns the decoded instruction of a point, if no rule's own part fails there, else the least
-/// rule that fails: K3 if none was decoded. The address isn't needed.
+/// Returns the decoded instruction `located` if it breaks no certificate rule by itself, in frame
+/// `key` and state `s`. An error is the lowest number of a broken rule, 3 if `located` is `None`.
 pub fn check_decoded_instruction<'a>(
     b: &Bounds,
     plan: &Plan,
@@ -136,8 +139,8 @@ pub fn check_decoded_instruction<'a>(
     }
 }
 
-/// Returns the least rule whose own part fails at a point's instruction, or `None` if there is no
-/// such rule.
+/// Returns the lowest number of a certificate rule that an instruction breaks by itself, in frame
+/// `key` and state `s`, or `None`.
 pub(crate) fn local_fault(b: &Bounds, plan: &Plan, key: &Key, s: &State, inst: &Inst) -> Option<u8>
     requires { AreInLattice b.now s.now.regs }
     ensures { (p : ℕ) → IsLeastLocalFault b.now plan.now key.now p s.now
@@ -146,8 +149,8 @@ pub(crate) fn local_fault(b: &Bounds, plan: &Plan, key: &Key, s: &State, inst: &
     local_fault_of_shape(b, plan, key, s, &shape(inst))
 }
 
-/// Returns the least rule whose own part fails at a point with an instruction of this shape, or
-/// `None`. At a store up to three rules can fail (K9, K10, K13), at other shapes fewer.
+/// Returns the lowest number of a certificate rule that an instruction of this shape breaks by
+/// itself, in frame `key` and state `s`, or `None`.
 pub(crate) fn local_fault_of_shape(
     b: &Bounds,
     plan: &Plan,
@@ -198,7 +201,8 @@ pub(crate) fn local_fault_of_shape(
     }
 }
 
-/// Returns this rule, as one that is broken, or `None` if its condition `holds`.
+/// Returns the number `rule` of a broken certificate rule, or `None` if the rule's condition
+/// `holds`.
 #[inline(always)]
 pub fn broken_rule_unless(holds: bool, rule: u8) -> Option<u8>
     ensures { result ≡ (if holds then None else Some rule) }
@@ -206,8 +210,8 @@ pub fn broken_rule_unless(holds: bool, rule: u8) -> Option<u8>
     if holds { None } else { Some(rule) }
 }
 
-/// Returns the first of K9 and K10 whose own part fails for a load or store at the only address
-/// `x`, or `None`.
+/// Returns the certificate rule that a load or store at the only address `x` breaks: 9, stores in
+/// range, or else 10, alignment; or `None`.
 pub(crate) fn access_fault_at_word(plan: &Plan, x: u32, shape: Shape) -> Option<u8>
     requires shape { IsShapeInBounds shape }
     ensures { (b : Limits) (s : State) → address_of_access b plan.now shape s ≡ word_val x
@@ -222,8 +226,8 @@ pub(crate) fn access_fault_at_word(plan: &Plan, x: u32, shape: Shape) -> Option<
     None
 }
 
-/// Returns the first of K9 and K10 whose own part fails for a load or store, or `None`. A function
-/// of its own, so that an access with one address builds no value.
+/// Returns the certificate rule that a load or store breaks: 9, stores in range, or else 10,
+/// alignment; or `None`. Not inlined, so that accesses with one address need no stack.
 #[inline(never)]
 pub(crate) fn access_fault_at_value(b: &Bounds, plan: &Plan, s: &State, shape: Shape) -> Option<u8>
     requires shape { IsShapeInBounds shape }
@@ -241,7 +245,8 @@ pub(crate) fn access_fault_at_value(b: &Bounds, plan: &Plan, s: &State, shape: S
     None
 }
 
-/// Tests K5's own part at a jump or call: the target is fixed, or the register's value is a Set.
+/// Returns true if a jump's or call's targets are known, as rule K5 asks: fixed in the instruction,
+/// or a Set of words in a register.
 pub(crate) fn has_known_targets(plan: &Plan, s: &State, to: Target) -> bool
     requires { IsTargetInBounds to }
     ensures { (p : ℕ) → IsTrue result ↔ IsSome (targets_of plan.now s.now p to) }
@@ -252,16 +257,16 @@ pub(crate) fn has_known_targets(plan: &Plan, s: &State, to: Target) -> bool
     }
 }
 
-/// Tests K6's own part, at RET: true if the frame is a called function's and has restored all lower
-/// contexts.
+/// Tests what rule K6 asks of a frame at RET: true if a call entered the frame, and all lower
+/// contexts that it saved are restored.
 pub(crate) fn is_return_allowed(key: &Key, s: &State) -> bool
     ensures { IsTrue result ↔ ((key.now.kind ≡ call_kind) × (length s.now.locals.items ≡ 0)) }
 {
     key.kind == CALL && has_no_saved_lower_context(s)
 }
 
-/// Tests K7's own part, at RFE: true if a handler's frame has restored all lower contexts, with its
-/// entry's lower registers if need be.
+/// Tests what rule K7 asks of a frame at RFE: true for a handler that has restored its lower
+/// contexts. All but system call handlers also need their entry's lower registers.
 pub(crate) fn is_exception_return_allowed(key: &Key, s: &State) -> bool
     ensures { IsTrue result ↔ ((length s.now.locals.items ≡ 0)
         × ((((key.now.kind ≡ irq_kind) ⊎ (key.now.kind ≡ aln_kind)) × (s.now.lower ≡ true))
@@ -270,22 +275,23 @@ pub(crate) fn is_exception_return_allowed(key: &Key, s: &State) -> bool
     has_no_saved_lower_context(s) && is_handler_return_allowed(key, s)
 }
 
-/// Tests K8 at an instruction that saves a lower context: true if the state has room for a local.
+/// Returns true if the frame may save another lower context, by rule K8: it holds fewer saved ones
+/// than the certificate format allows.
 pub(crate) fn has_room_for_lower_context(b: &Bounds, s: &State) -> bool
     ensures { IsTrue result ↔ (length s.now.locals.items < b.now.most_locals) }
 {
     s.locals.len() < b.most_locals()
 }
 
-/// Tests K8 at an instruction that restores a lower context: true if one is saved.
+/// Returns true if the frame holds a saved lower context, as rule K8 asks where one is restored.
 pub(crate) fn has_saved_lower_context(s: &State) -> bool
     ensures { IsTrue result ↔ (1 ≤ length s.now.locals.items) }
 {
     1 <= s.locals.len()
 }
 
-/// Tests K9: true if each possible store is wholly in one ram range or one peripheral range, and
-/// doesn't pass 2^32. Other instructions pass.
+/// Tests rule K9 on stores: true if a store to each address in `at` is wholly in one ram or
+/// peripheral range. Other instructions pass.
 pub(crate) fn stores_in_range_at_value(plan: &Plan, at: &Val, shape: Shape) -> bool
     requires shape { IsShapeInBounds shape }
     requires well { IsWellFormed at.now }
@@ -297,8 +303,8 @@ pub(crate) fn stores_in_range_at_value(plan: &Plan, at: &Val, shape: Shape) -> b
     }
 }
 
-/// Tests K9 for an instruction with the only address `x`: true if a store there is wholly in one
-/// ram range or one peripheral range. Other instructions pass.
+/// Tests rule K9 on stores: true if a store to the only address `x` is wholly in one ram or
+/// peripheral range. Other instructions pass.
 pub(crate) fn stores_in_range_at_word(plan: &Plan, x: u32, shape: Shape) -> bool
     ensures { IsTrue result ↔ StoresInRangeAtValue plan.now (word_val x) shape }
 {
@@ -308,8 +314,8 @@ pub(crate) fn stores_in_range_at_word(plan: &Plan, x: u32, shape: Shape) -> bool
     }
 }
 
-/// Tests K10's own part: true if each address in `at` is a multiple of the access's size, or the
-/// plan states the trap. Other instructions pass.
+/// Tests rule K10 on misaligned accesses: true if each address in `at` is a multiple of the size,
+/// or the plan states that misaligned accesses trap. Other instructions pass.
 pub(crate) fn is_access_allowed_at_value(plan: &Plan, at: &Val, shape: Shape) -> bool
     requires shape { IsShapeInBounds shape }
     requires well { IsWellFormed at.now }
@@ -322,8 +328,8 @@ pub(crate) fn is_access_allowed_at_value(plan: &Plan, at: &Val, shape: Shape) ->
     }
 }
 
-/// Tests K10's own part for an access at the only address `x`: true if that is aligned, or the plan
-/// states the trap. Other instructions pass.
+/// Tests rule K10 on misaligned accesses: true if the only address `x` is a multiple of the size,
+/// or the plan states that misaligned accesses trap. Other instructions pass.
 pub(crate) fn is_access_allowed_at_word(plan: &Plan, x: u32, shape: Shape) -> bool
     requires { IsShapeInBounds shape }
     ensures { IsTrue result ↔ IsAccessAllowedAtValue plan.now (word_val x) shape }
@@ -335,14 +341,15 @@ pub(crate) fn is_access_allowed_at_word(plan: &Plan, x: u32, shape: Shape) -> bo
     }
 }
 
-/// Tests K12's own part, at SYSCALL: true if the plan states the trap of system calls.
+/// Returns true if SYSCALL is allowed, as rule K12 asks: the plan states the trap of system calls.
 pub(crate) fn is_system_call_allowed(plan: &Plan) -> bool
     ensures { IsTrue result ↔ (plan.now.sys ≡ true) }
 {
     plan.sys
 }
 
-/// Returns the first of K9 and K10 whose own part fails for a load or store; else `None`.
+/// Returns the certificate rule that a load or store breaks in the state `s`: 9, stores in range,
+/// or else 10, alignment; or `None`.
 fn access_fault(b: &Bounds, plan: &Plan, s: &State, shape: Shape) -> Option<u8>
     requires shape { IsShapeInBounds shape }
     requires values { AreInLattice b.now s.now.regs }
@@ -354,8 +361,8 @@ fn access_fault(b: &Bounds, plan: &Plan, s: &State, shape: Shape) -> Option<u8>
     }
 }
 
-/// Returns the address of a load or store if that is known to be a single one; `None` for other
-/// instructions.
+/// Returns the address of a load or store, if the base is a constant or a register with a single
+/// known word. Else, and for other instructions, `None`.
 #[tactic(auto, unfolding(vd_transfer::specs::EffectsOnStates::address_of_access))]
 fn single_address_by_shape(b: &Bounds, plan: &Plan, s: &State, shape: Shape) -> Option<u32>
     requires shape { IsShapeInBounds shape }
@@ -379,8 +386,8 @@ fn single_address_by_shape(b: &Bounds, plan: &Plan, s: &State, shape: Shape) -> 
     }
 }
 
-/// Returns the address of an access if the value of its base register is a single word, else
-/// `None`. `offset` counts unless the base is increased after the access.
+/// Returns the address of an access if the value of its base is a single word, else `None`. If
+/// `after`, the base is increased after the access, and `offset` doesn't count.
 #[inline(always)]
 fn single_address_by_base(
     b: &Bounds,
@@ -404,8 +411,8 @@ fn single_address_by_base(
     Some(alu(Op::Add, x, offset))
 }
 
-/// Tests what K5 asks of the value of a jump's or call's register: true if the value is a Set,
-/// whose words name the targets.
+/// Returns true if a jump or call by a register of this value has known targets, as rule K5 asks:
+/// the value is a Set.
 fn is_set_of_targets(v: &Val) -> bool
     ensures { IsTrue result ↔ IsSome (targets_of_value v.now) }
 {
@@ -415,15 +422,15 @@ fn is_set_of_targets(v: &Val) -> bool
     }
 }
 
-/// Returns true if a frame has restored all lower contexts that were saved, as K6 and K7 ask.
+/// Returns true if a frame has no saved lower context left, as rules K6 (RET) and K7 (RFE) ask.
 fn has_no_saved_lower_context(s: &State) -> bool
     ensures { IsTrue result ↔ (length s.now.locals.items ≡ 0) }
 {
     s.locals.is_empty()
 }
 
-/// Tests what K7 asks of a handler's registers: true for a system call's. Handlers of interrupts
-/// and misaligned accesses must have their entry's lower registers.
+/// Tests what rule K7 asks of a frame's kind and registers at RFE: true for a system call handler,
+/// or another with its entry's lower registers.
 fn is_handler_return_allowed(key: &Key, s: &State) -> bool
     ensures { IsTrue result
         ↔ ((((key.now.kind ≡ irq_kind) ⊎ (key.now.kind ≡ aln_kind)) × (s.now.lower ≡ true))
@@ -436,8 +443,8 @@ fn is_handler_return_allowed(key: &Key, s: &State) -> bool
     }
 }
 
-/// Tests K10's own part: true if each address in `at` is a multiple of `size`, or the plan states
-/// the trap of misaligned accesses.
+/// Returns true if each address in `at` is a multiple of `size`, or the plan states that misaligned
+/// accesses trap (rule K10).
 fn is_aligned_or_trap_stated(plan: &Plan, at: &Val, size: u8) -> bool
     requires well { IsWellFormed at.now }
     requires size { IsOneTwoOrFour size }
@@ -446,8 +453,8 @@ fn is_aligned_or_trap_stated(plan: &Plan, at: &Val, size: u8) -> bool
     plan.aln || aligned(at, size)
 }
 
-/// Tests K10's own part: true if the only address `x` is a multiple of `size`, or the plan states
-/// the trap of misaligned accesses.
+/// Returns true if the only address `x` is a multiple of `size`, or the plan states that misaligned
+/// accesses trap (rule K10).
 fn is_word_aligned_or_trap_stated(plan: &Plan, x: u32, size: u8) -> bool
     requires { IsOneTwoOrFour size }
     ensures { IsTrue result
@@ -458,23 +465,24 @@ fn is_word_aligned_or_trap_stated(plan: &Plan, x: u32, size: u8) -> bool
 
 // K13: the instruction isn't MTCR, and writes none of A0, A1, A8, A9 and A11.
 
-/// Tests K13 for a load: true if none of the registers that it writes is one of the fixed
-/// registers.
+/// Returns false if a load writes one of A0, A1, A8, A9 and A11, fixed by rule K13: as `dst`, or as
+/// an increased `base` (`after`).
 pub(crate) fn keeps_fixed_registers_in_load(dst: u8, base: Arg, after: bool) -> bool
     ensures { IsTrue result ↔ (IsNotFixedRegister dst × IncreasesNoFixedRegister base after) }
 {
     is_not_fixed_register(dst) && keeps_fixed_base_register(base, after)
 }
 
-/// Tests K13 for a branch that compares register `x`: true unless `x` is fixed and decremented.
+/// Returns false if a branch decrements (`lowers`) its register `x`, and `x` is one of A0, A1, A8,
+/// A9 and A11, fixed by rule K13.
 pub(crate) fn keeps_fixed_registers_in_branch(x: u8, lowers: bool) -> bool
     ensures { IsTrue result ↔ (IsTrue lowers → IsNotFixedRegister x) }
 {
     !lowers || is_not_fixed_register(x)
 }
 
-/// Tests K13 for the base of a load or store: true if the access doesn't increase that, or the base
-/// isn't a fixed register.
+/// Returns false if a load or store increases its base (`after`), and the base is one of A0, A1,
+/// A8, A9 and A11, fixed by rule K13.
 pub(crate) fn keeps_fixed_base_register(base: Arg, after: bool) -> bool
     ensures { IsTrue result ↔ IncreasesNoFixedRegister base after }
 {
@@ -484,8 +492,8 @@ pub(crate) fn keeps_fixed_base_register(base: Arg, after: bool) -> bool
     }
 }
 
-/// Tests K13 for a register, where D0 to D15 are 0 to 15 and A0 to A15 are 16 to 31. False for A0,
-/// A1, A8, A9 and A11.
+/// Returns true unless register `r` is one of the fixed A0, A1, A8, A9 and A11, which K13 forbids
+/// to write. D0 to D15 are 0 to 15, and A0 to A15 are 16 to 31.
 #[tactic(auto, unfolding(vd_transfer::specs::Registers::register_slot))]
 pub(crate) fn is_not_fixed_register(r: u8) -> bool
     ensures { IsTrue result ↔ IsNotFixedRegister r }

@@ -60,8 +60,8 @@ fn is_cached_set(v: &Val, words: &[u32]) -> bool
     }
 }
 
-/// Returns the operation of an instruction that the cache may keep. Operands and result are in data
-/// registers, and both operands are Sets of eight or more words.
+/// Returns the operation of an instruction if the cache keeps its result, else `None`. The cache
+/// keeps operations on data registers whose operands are both Sets of eight or more words.
 #[inline(always)]
 fn cacheable_operation(shape: Shape, s: &State) -> Option<SetOperation<'_>>
     ensures shape { IfSome result (λ o. o.shape ≡ shape) }
@@ -84,8 +84,8 @@ fn cacheable_operation(shape: Shape, s: &State) -> Option<SetOperation<'_>>
     })
 }
 
-/// Returns the words of a data register's value, if that is a Set of at least eight words, on which
-/// the cache keeps operations.
+/// Returns the words of a data register's value if that is a Set of at least eight words, on which
+/// the cache keeps operations; else `None`.
 fn cacheable_words(s: &State, r: Arg) -> Option<&[u32]>
     ensures { IfSome result (λ ws. IsSetOperand s.now r ws.now) }
 {
@@ -108,7 +108,7 @@ fn cacheable_words(s: &State, r: Arg) -> Option<&[u32]>
 }
 
 impl CachedOperation {
-    /// An empty entry.
+    /// Returns an empty entry of the cache of operations.
     #[inline(never)]
     fn empty() -> CachedOperation
         ensures { (b : Limits) → IsCorrectEntry b result }
@@ -121,8 +121,8 @@ impl CachedOperation {
         }
     }
 
-    /// Writes what an operation changes into `c`. If the entry has this operation with the same
-    /// operands, its result is copied; else the result is computed, and the entry keeps it.
+    /// Writes into `c` what an operation changes in the state `s`. The result is copied if this
+    /// cache entry has one for equal operands, else computed and kept.
     #[inline(never)]
     fn write_change(
         &mut self,
@@ -174,7 +174,7 @@ impl CachedOperation {
 }
 
 impl OperationCache {
-    /// A cache without results.
+    /// Returns a cache of operations without results.
     #[inline(always)]
     pub fn empty() -> OperationCache
         ensures { (b : Limits) → IsCorrectCache b result }
@@ -187,8 +187,8 @@ impl OperationCache {
         }
     }
 
-    /// Writes what an instruction of this shape changes into `c`, if it is an operation on two sets
-    /// of many words. Returns false if it isn't; then `c` is as it was.
+    /// Writes into `c` what an instruction of this shape changes in the state `s`, if the cache
+    /// keeps such operations. Else returns false, and leaves `c`.
     #[inline(always)]
     pub fn write_change(
         &mut self,

@@ -61,8 +61,8 @@ pub(crate) fn code_byte_at(image: &Image, addr: u32, near: &mut usize) -> Option
     code_byte_anywhere(image, addr, near)
 }
 
-/// Returns the instruction that these bytes of code from rom begin with, and its length, if there
-/// is one.
+/// Returns the instruction that these bytes of code begin with, and its length in bytes; `None` if
+/// the bytes begin with no instruction.
 #[inline(always)]
 fn code_in_bytes(bytes: &[u8]) -> Option<(Inst, u32)>
     ensures { FindsCodeInBytes bytes.now result }

@@ -33,8 +33,8 @@ pub(crate) fn unknown_regs() -> [Val; 27]
     std::array::from_fn(|_| Val::any())
 }
 
-/// Returns the key of the frame in which a run starts: the image's entry, at priority 0, on the
-/// stack that the plan names.
+/// Returns the key of the frame in which a run starts: the image's entry, at priority 0, with the
+/// plan's PSW.IS (interrupt stack in use).
 pub fn start_key(image: &Image, plan: &Plan) -> Key
     ensures { result ≡ entries.start_key image.now plan.now }
 {

@@ -4,7 +4,8 @@ ghost use Rattle.csa_chain.specs.SeveralChains.{OwnerSaveMovesLink, OwnerRestore
 ghost use Rattle.csa_chain.specs.MemoryLaws.{WordsRoundTrip, BytesStayInBounds};
 ghost use Rattle.csa_chain.specs.ContextWordLaws.{ContextWordsStayInBounds, UpperContextRoundTrips, LowerContextRoundTrips, PcxiFieldsRoundTrip};
 
-/// The laws of chains: what a save, a restore and a store do to the free list and the used list.
+/// States the laws of the free and the used list of context save areas. A save moves the first free
+/// area to the used list, a restore moves the first used one back; stores elsewhere change neither.
 pub fn chain_laws()
     ensures save { SaveMovesLink }
     ensures restore { RestoreMovesLink }
@@ -12,21 +13,23 @@ pub fn chain_laws()
     ensures store { ChangeOutsideKeepsChain }
 {}
 
-/// The laws of several chains: what a save or a restore by the owner of one chain does to all.
+/// States the laws of several used lists over the same context save areas. A save or restore moves
+/// one area between its owner's list and the free list; other lists stay.
 pub fn several_chains_laws()
     ensures saves { OwnerSaveMovesLink }
     ensures restores { OwnerRestoreMovesLink }
 {}
 
-/// The laws of contexts: fields and registers that are written to words are read back.
+/// States the laws of contexts: fields of PCXI and registers that are written to the words of a
+/// context are read back.
 pub fn context_laws()
     ensures fields { PcxiFieldsRoundTrip }
     ensures upper { UpperContextRoundTrips }
     ensures lower { LowerContextRoundTrips }
 {}
 
-/// The laws of memory: words that are written are read back, bytes stay below 2^8 and words below
-/// 2^32.
+/// States the laws of memory: words that are written are read back, bytes stay below 2^8 and words
+/// below 2^32.
 pub fn memory_laws()
     ensures written { WordsRoundTrip }
     ensures bytes { BytesStayInBounds }

@@ -60,7 +60,7 @@ pub record ExitCovers (upper x : Exit) : Type 0 where
 abbrev pub joined_exit : Limits → Exit → Exit → Exit
 joined_exit b x y = record { ie = x.ie || y.ie; ccpn = min x.ccpn y.ccpn; lower = joined_regs b x.lower y.lower }
 
--- what stands for an exit where none can be read; lower registers have no values
+-- the exit that a failed reading gives, to have a value: its lower registers have no values
 abbrev pub no_exit : Exit
 no_exit = record { ie = false; ccpn = 0; lower = [] }
 

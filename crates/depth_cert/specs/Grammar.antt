@@ -23,11 +23,11 @@ use Rattle.depth_cert.specs.Certs.{CertData}
 abbrev pub valid_field_or_fault : ℕ → Bool → Place → ℕ × Place → Result (ℕ × Place) FormErr
 valid_field_or_fault kind good p x = if good then Ok x else field_fault_at kind p
 
--- the last of the numbers that the grammar has read in ascending order, if there is one
+-- the last number of a list, if the list isn't empty
 abbrev pub last_number : List ℕ → Option ℕ
 last_number xs = slice_get xs (length xs - 1)
 
--- a number of a certificate is above the last one in its ascending list, if there is one
+-- a number is above the last one of an ascending list; true if there is no last one
 abbrev pub is_above_last : Option ℕ → ℕ → Bool
 is_above_last None x = true
 is_above_last (Some last) x = nat_lt last x
@@ -106,7 +106,7 @@ key_after last p =
 unfoldable pub need_at : Place → Result (ℕ × Place) FormErr
 need_at p = u16_at p >>= λ need. valid_field_or_fault 5 (nat_le need.0 4096) p need
 
--- whether a certificate's node has an exit: only calls and system calls can have one
+-- the flag whether a certificate's node has an exit: only calls and system calls can have one
 unfoldable pub exit_flag_at : ℕ → Place → Result (Bool × Place) FormErr
 exit_flag_at kind p = flag_at p >>= λ exit. if exit.0 && not (kind == call_kind || kind == sys_kind) then field_fault_at 4 p else Ok exit
 

@@ -44,7 +44,8 @@ abbrev pub cert_flag_byte : Bool → ℕ
 cert_flag_byte true = 1
 cert_flag_byte false = 0
 
--- a key as one number: keys are ordered by kind, then entry, then prio, then is
+-- the number of a key with these fields: kind, then entry, then prio, then is, the first one
+-- highest
 abbrev pub key_number : ℕ → ℕ → ℕ → ℕ → ℕ
 key_number kind entry prio is = ((kind * 2 ^ 32 + entry) * 2 ^ 8 + prio) * 2 ^ 8 + is
 

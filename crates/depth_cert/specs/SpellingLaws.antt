@@ -4,6 +4,6 @@ use Rattle.depth_cert.specs.Certs.{CertData, IsCert}
 use Rattle.depth_cert.specs.Grammar.{certificate_of}
 use Rattle.depth_cert.specs.Spelling.{bytes_of_cert}
 
--- the bytes that spell a certificate are read as this certificate
+-- each certificate that keeps the limits is what a reader of its bytes gives
 abbrev pub WrittenCertsAreReadBack : Type 0
 WrittenCertsAreReadBack = (cert : CertData) → IsCert cert → certificate_of (bytes_of_cert cert) ≡ Ok cert

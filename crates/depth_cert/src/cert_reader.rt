@@ -24,7 +24,7 @@ pub fn read_magic(c: &mut FileCursor<'_>) -> Result<u32, FormErr>
     Ok(magic)
 }
 
-/// Reads the format of a certificate, 1 or 2, or returns the fault there.
+/// Reads the format (version) of a certificate, 1 or 2, or returns the fault there.
 #[tactic(auto, unfolding(crate::specs::Grammar::version_at))]
 pub fn read_version(c: &mut FileCursor<'_>) -> Result<u8, FormErr>
     ensures read { ReadsField result c.old c.new version_at }

@@ -17,7 +17,8 @@ pub const SYS: u8 = 3;
 /// The kind of frames of handlers of misaligned accesses.
 pub const ALN: u8 = 4;
 
-/// Returns the kind of a key in letters, `start`, `call`, `irq`, `sys` or `aln`, and a blank.
+/// Returns the name of a key's kind of frame (`START` to `ALN`): `start`, `call`, `irq`, `sys` or
+/// `aln`, each with a blank at its end.
 #[tactic(auto, unfolding(crate::specs::Keys::key_kind_text))]
 #[inline]
 pub fn key_kind_text(kind: u8) -> &'static str
@@ -45,15 +46,15 @@ pub struct Key {
     pub is: bool,
 }
 
-/// Returns the number of a node's key, by which a certificate orders its nodes.
+/// Returns a key as one number: certificates list their nodes in ascending order of these numbers.
 pub fn key_number(key: &Key) -> u64
     ensures { result ≡ number_of_key key.now }
 {
     key_number_of_fields(key.kind, key.entry, key.prio, if key.is { 1 } else { 0 })
 }
 
-/// Returns the number of a key with these fields, by which a certificate orders its nodes: kind,
-/// then entry, then prio, then is.
+/// Packs the parts of a node's key into one number. From the most significant: kind (`START` to
+/// `ALN`), entry address, interrupt priority, PSW.IS (0 or 1).
 pub(crate) fn key_number_of_fields(kind: u8, entry: u32, prio: u8, is: u8) -> u64
     ensures { result ≡ key_number kind entry prio is }
 {

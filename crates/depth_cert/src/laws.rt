@@ -1,7 +1,7 @@
 // The law of spellings.
 ghost use Rattle.depth_cert.specs.SpellingLaws.{WrittenCertsAreReadBack};
 
-/// The law of spellings: the bytes that spell a certificate are read as this certificate.
+/// The round trip: the bytes written for a certificate are read back as that certificate.
 pub fn cert_round_trip_law()
     ensures { WrittenCertsAreReadBack }
 {}

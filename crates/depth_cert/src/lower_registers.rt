@@ -5,7 +5,7 @@ ghost use Rattle.depth_cert.specs.Exits.{lower_values};
 
 use value_domain::Val;
 
-/// Returns the value of lower register `i`: D0 to D7 are 0 to 7, A2 to A7 are 8 to 13.
+/// Returns lower register `i` of a state's values: D0 to D7 are 0 to 7, A2 to A7 are 8 to 13.
 #[inline(always)]
 pub fn lower_register_value(regs: &[Val; 27], i: usize) -> &Val
     requires { i < 14 }

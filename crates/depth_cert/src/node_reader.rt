@@ -14,7 +14,7 @@ use tcd_base::{
 };
 
 /// Reads the key of a certificate's node, or returns the first fault. The key's number must be
-/// above `last`, that of the key before, if there is one.
+/// above `last`, the number of the key before, if there is one.
 #[tactic(auto, unfolding(crate::specs::Grammar::key_after))]
 #[inline]
 pub fn read_key(c: &mut FileCursor<'_>, last: Option<u64>) -> Result<Key, FormErr>
@@ -57,7 +57,7 @@ fn is_above_last_key(last: Option<u64>, number: u64) -> bool
 /// The greatest need of a node, in areas.
 const MOST_NEED: u16 = 4096;
 
-/// Reads the need of a certificate's node, at most 4,096 areas, or returns the fault there.
+/// Reads a node's need, at most 4,096 context save areas, or returns the fault there.
 #[tactic(auto, unfolding(crate::specs::Grammar::need_at))]
 pub fn read_need(c: &mut FileCursor<'_>) -> Result<u16, FormErr>
     ensures { ReadsField result c.old c.new need_at }
@@ -70,8 +70,8 @@ pub fn read_need(c: &mut FileCursor<'_>) -> Result<u16, FormErr>
     Ok(need)
 }
 
-/// Reads whether a certificate's node of this kind has an exit. An exit is a `BAD_VALUE` unless the
-/// kind is that of calls or of system calls.
+/// Reads the flag that says whether a certificate's node has an exit. A set flag is the fault
+/// `BAD_VALUE` unless the node's `kind` is `CALL` or `SYS`.
 #[tactic(auto, unfolding(crate::specs::Grammar::exit_flag_at))]
 pub fn read_exit_flag(c: &mut FileCursor<'_>, kind: u8) -> Result<bool, FormErr>
     ensures { ReadsField result c.old c.new (exit_flag_at kind) }
@@ -84,8 +84,8 @@ pub fn read_exit_flag(c: &mut FileCursor<'_>, kind: u8) -> Result<bool, FormErr>
     Ok(exit)
 }
 
-/// Reads the exit of a certificate's node over `out`: IE, CCPN, and the values of the 14 lower
-/// registers.
+/// Overwrites `out` with the exit at the cursor, in a certificate of format `version`: IE, CCPN,
+/// and the values of the 14 lower registers.
 #[tactic(auto, unfolding(crate::specs::Grammar::exit_at))]
 pub fn read_exit(c: &mut FileCursor<'_>, version: u8, out: &mut Exit) -> Result<(), FormErr>
     ensures ok { OnOk result (exit_at version c.old ≡ Ok (out.new, c.new)) }
@@ -98,8 +98,8 @@ pub fn read_exit(c: &mut FileCursor<'_>, version: u8, out: &mut Exit) -> Result<
     Ok(())
 }
 
-/// Reads the number of points of a certificate's node, or returns the fault there. With the `used`
-/// points of the nodes before there may be at most 65,536.
+/// Reads the number of points of a certificate's node, or returns the fault there. Together with
+/// the `used` points of the nodes before there may be at most 65,536.
 #[tactic(auto, unfolding(crate::specs::Grammar::point_count_at))]
 pub fn read_point_count(c: &mut FileCursor<'_>, used: usize) -> Result<u32, FormErr>
     requires used { used ≤ 2 ^ 16 }

@@ -5,8 +5,8 @@ use crate::Exit;
 use std::marker::Model;
 use value_domain::Val;
 
-/// Returns an exit as room for one of a certificate: IE is off, CCPN is 0, and each lower register
-/// may have any value.
+/// Returns a placeholder, which the exit read from a certificate overwrites: IE is off, CCPN is 0,
+/// and each lower register may have any value.
 pub fn blank_exit() -> Exit
     ensures ie { result.ie ≡ false }
     ensures ccpn { result.ccpn ≡ 0 }

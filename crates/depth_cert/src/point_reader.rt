@@ -7,8 +7,8 @@ use crate::value_reader::read_flag;
 use arrayvec::ArrayVec;
 use tcd_base::{ABOVE_LIMIT, BAD_ORDER, FileCursor, FormErr, form_err_at, read_u8, read_u32};
 
-/// Reads the flags of a state's saved lower contexts: their number, at most 4 in format 1 and 8 in
-/// format 2, and each flag.
+/// Reads the flags of a state's saved lower contexts: first their number, then a byte for each. The
+/// number is at most 4 in a certificate of format (`version`) 1, and 8 in format 2.
 #[tactic(auto, unfolding(crate::specs::Grammar::locals_at))]
 pub fn read_locals(c: &mut FileCursor<'_>, version: u8) -> Result<ArrayVec<bool, 8>, FormErr>
     ensures ok { IfOk result (λ l. locals_at version c.old ≡ Ok (l.items, c.new)) }
@@ -40,7 +40,7 @@ pub fn read_address(c: &mut FileCursor<'_>, last: Option<u32>) -> Result<u32, Fo
     Ok(addr)
 }
 
-/// Reads the flags of `count` saved lower contexts of a certificate's state.
+/// Reads `count` flags of a certificate's state, a byte each: one for each saved lower context.
 #[tactic(auto, unfolding(tcd_base::specs::FieldReaders::many_fields_at))]
 fn read_flags(c: &mut FileCursor<'_>, count: u8) -> Result<ArrayVec<bool, 8>, FormErr>
     requires few { count ≤ 8 }

@@ -32,8 +32,8 @@ pub fn read_flag(c: &mut FileCursor<'_>) -> Result<bool, FormErr>
     Ok(byte == 1)
 }
 
-/// Reads a Set of `n` ascending words from a certificate over `out`, or returns the first fault.
-/// `N` is the room for words while reading.
+/// Reads the Set of `n` ascending words at the cursor of a certificate into `out`, or returns the
+/// first fault. They are collected in an array of `N` words.
 #[tactic(auto, unfolding(crate::specs::Grammar::set_at))]
 #[inline(never)]
 fn read_set<const N: usize>(c: &mut FileCursor<'_>, n: usize, out: &mut Val) -> Result<(), FormErr>
@@ -53,7 +53,7 @@ fn read_set<const N: usize>(c: &mut FileCursor<'_>, n: usize, out: &mut Val) -> 
     Ok(())
 }
 
-/// Reads an abstract value of a certificate of this format over `out`, or returns the first fault.
+/// Overwrites `out` with the value at the cursor, in format `version`, or returns the first fault.
 #[tactic(auto, unfolding(crate::specs::Grammar::value_at))]
 pub fn read_value(c: &mut FileCursor<'_>, version: u8, out: &mut Val) -> Result<(), FormErr>
     ensures ok { OnOk result (value_at version c.old ≡ Ok (out.new, c.new)) }
@@ -79,7 +79,8 @@ pub fn read_value(c: &mut FileCursor<'_>, version: u8, out: &mut Val) -> Result<
     read_span(c, version, byte - SPAN, start, out)
 }
 
-/// Reads an abstract value of this format into each element of `out`, or returns the first fault.
+/// Overwrites each element of `out` with the next value at the cursor, in format `version`, or
+/// returns the first fault.
 #[tactic(auto, unfolding(crate::specs::Grammar::values_at))]
 pub fn read_values(c: &mut FileCursor<'_>, version: u8, out: &mut [Val]) -> Result<(), FormErr>
     ensures ok { OnOk result (values_at version (length out.old) c.old ≡ Ok (out.new, c.new)) }
@@ -92,7 +93,7 @@ pub fn read_values(c: &mut FileCursor<'_>, version: u8, out: &mut [Val]) -> Resu
     Ok(())
 }
 
-/// Reads a word of a certificate's Set. One that isn't above the words before is a `BAD_VALUE`.
+/// Reads a word of a certificate's Set. One that isn't above all words `before` is a `BAD_VALUE`.
 #[tactic(auto, unfolding(crate::specs::Grammar::set_word_after))]
 fn read_set_word(c: &mut FileCursor<'_>, before: &[u32]) -> Result<u32, FormErr>
     ensures read { ReadsField result c.old c.new (set_word_after before.now) }
@@ -124,8 +125,8 @@ fn is_above_last_word(before: &[u32], x: u32) -> bool
     before.is_empty() || before[before.len() - 1] < x
 }
 
-/// Reads the two ends of a Span from a certificate over `out`. The step was read before, at
-/// `start`, where a fault is reported.
+/// Reads the two ends of a Span of this step at the cursor into `out`. A Span that the format
+/// `version` forbids is a fault at offset `start`, where the value began.
 #[tactic(auto, unfolding(crate::specs::Grammar::span_at))]
 fn read_span(
     c: &mut FileCursor<'_>,
@@ -151,8 +152,8 @@ fn read_span(
     Ok(())
 }
 
-/// Returns true if a certificate of this format may spell this Span: one of more members than a Set
-/// can have, but not all words.
+/// Returns true if a certificate of format `version` may spell the Span `lo` to `last` of this
+/// step. Such a Span has more members than a Set can have, but not all words.
 fn is_cert_span(version: u8, lo: u32, last: u32, step: u8) -> bool
     requires { step ≤ 2 }
     ensures { result ≡ is_cert_span version lo last step }

@@ -12,7 +12,7 @@ use crate::value_reader::SPAN;
 use tcd_base::{NoMemory, put_u32};
 use value_domain::Val;
 
-/// Appends the only bytes that spell an abstract value in a certificate.
+/// Appends the encoding of an abstract value in a certificate. Each value has just one.
 pub fn write_value(out: &mut Vec<u8>, v: &Val) -> Result<(), NoMemory>
     requires { IsWellFormed v.now }
     ensures { OnOk result (out.new.items ≡ out.old.items ++ bytes_of_value v.now) }
@@ -23,7 +23,7 @@ pub fn write_value(out: &mut Vec<u8>, v: &Val) -> Result<(), NoMemory>
     }
 }
 
-/// Writes a key in a certificate: appends the bytes that spell it.
+/// Appends the bytes that spell the key of a certificate's node.
 #[tactic(auto, unfolding(crate::specs::Spelling::bytes_of_key))]
 pub fn write_key(out: &mut Vec<u8>, key: &Key) -> Result<(), NoMemory>
     ensures { OnOk result (out.new.items ≡ out.old.items ++ bytes_of_key key.now) }
@@ -52,7 +52,8 @@ fn write_set(out: &mut Vec<u8>, words: &[u32]) -> Result<(), NoMemory>
     write_set_words(out, words)
 }
 
-/// Appends the bytes that spell a Span: 240 plus its step, and its ends; a byte 0 for all words.
+/// Appends the bytes that spell the Span from `lo` to `last`: 240 plus the step, and both ends. The
+/// Span of all words is a single byte 0.
 #[tactic(auto, unfolding(crate::specs::Spelling::bytes_of_value))]
 fn write_span(out: &mut Vec<u8>, lo: u32, last: u32, step: u8) -> Result<(), NoMemory>
     requires { step ≤ 2 }

@@ -27,7 +27,8 @@ pub record AnswerSays (image : ImageData) (plan : PlanData) (cert : CertData) : 
   pub safe : (n : ℕ) → IfAnswerIsYes (Yes n) (Safe image plan) → Safe image plan n
   pub no : (r : ℕ) (k : Key) (p : ℕ) → IsCheckAnswer image plan cert (No r k p) → FirstFaultNamesFirstFailure image plan cert r k p
 
--- what the checker's answers say holds for every image, plan and certificate
+-- for every image, plan and certificate: a yes says that no rule fails and gives the start's need,
+-- and a no names the first fault
 abbrev pub AnswersSayNeedOrFirstFault : Type 0
 AnswersSayNeedOrFirstFault =
     (image : ImageData) (plan : PlanData) (cert : CertData) → image.entry < 2 ^ 32 → IsPlan plan → IsCert cert → AnswerSays image plan cert

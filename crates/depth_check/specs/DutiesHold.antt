@@ -52,8 +52,8 @@ LeavingHolds node s Stays q = Unit {0}
 LeavingHolds node s Ret q = 6 ≡ q → HasCoveringExit node s
 LeavingHolds node s Rfe q = (node.key).kind ≡ sys_kind → 7 ≡ q → HasCoveringExit node s
 
--- what the checker tests of a node's own need for K14, apart from the duties: room for the locals
--- and, at the start's entry, that the reserve stays free
+-- what the checker tests of a node's own need for K14, apart from entries: room for the locals and,
+-- at the start's entry, that the reserve stays free
 pub record IsNeedSufficient (image : ImageData) (plan : PlanData) (node : NodeData) (point : Point) : Type 0 where
   pub locals : length (point.state).locals.items ≤ node.need
   pub start : node.key ≡ start_key image plan → point.addr ≡ image.entry → node.need ≤ plan.areas - plan.reserve

@@ -49,7 +49,7 @@ pub record InterruptsHoldInContext (plan : PlanData) (cert : CertData) (context 
   pub sp : IsInLattice (limits_of_cert plan cert) context.sp
   pub holds : (node : NodeData) (s : State) → FitsContext context node s → InterruptsHold plan cert node s
 
--- in both kept interrupt contexts, A10 is a well-formed value
+-- in both kept interrupt contexts, the stack pointer is a well-formed value
 pub record HasWellFormedSps (kept : LastInterrupts) : Type 0 where
   pub last : IfSome kept.last (λ a. IsWellFormed a.sp)
   pub before : IfSome kept.before (λ a. IsWellFormed a.sp)

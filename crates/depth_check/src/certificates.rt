@@ -29,7 +29,7 @@ pub fn check(image: &Image, plan: &Plan, cert: &Cert) -> Verdict
 }
 
 /// Returns the start's node of the certificate if K1 holds: its point at the image's entry covers
-/// the start state. Else `None`.
+/// the start state. Otherwise returns `None`.
 #[inline(never)]
 pub(crate) fn start_node<'a>(image: &Image, plan: &Plan, cert: &'a Cert) -> Option<Node<'a>>
     ensures none { IsNone result → StartRuleHolds image.now plan.now cert.now → ⊥ }

@@ -32,8 +32,8 @@ use tc_isa::{Shape, Target};
 use value_domain::State;
 use vd_transfer::Change;
 
-/// Returns the least rule that the duties of a checked point break: successors, entries of frames,
-/// interrupts, the exit. `None` if all hold.
+/// Returns the lowest of rules K4 to K14 that fails for what follows from a checked point's
+/// instruction `found`: successors, entered frames, interrupts, the exit. `None` if all hold.
 pub(crate) fn rule_broken_by_duties(
     at: &PointCheck<'_, '_>,
     found: &Located,
@@ -65,8 +65,8 @@ pub(crate) fn rule_broken_by_duties(
     )
 }
 
-/// Returns the least rule that the entries of interrupt handlers at a checked point break. Entries
-/// known to hold are passed over.
+/// Returns the lower of K11 (handlers' nodes) and K14 (needs) that fails for the interrupts at a
+/// checked point. `None` if both hold, or are known to by a cached context.
 pub(crate) fn rule_broken_by_interrupts(at: &PointCheck<'_, '_>) -> Option<u8>
     ensures { FindsLeastBrokenByDuties at.now (interrupt_duties_at at.now) result }
 {
@@ -85,8 +85,8 @@ pub(crate) fn rule_broken_by_interrupts(at: &PointCheck<'_, '_>) -> Option<u8>
     rule_broken_by_possible_irqs(at, irqs.as_slice())
 }
 
-/// Returns the least rule that the entries of these interrupts' handlers break. `entry` is the
-/// change at an entry; its CCPN is replaced by each priority.
+/// Returns the lower of K11 (handlers' nodes) and K14 (needs) that fails for `irqs`, or `None`.
+/// Handlers get the checked state, changed by `entry`, with CCPN at the interrupt's priority.
 pub(crate) fn rule_broken_by_irqs(at: &PointCheck<'_, '_>, irqs: &[u8], entry: Change) -> Option<u8>
     requires { AreWellFormed (state_after at.now.point.state entry).regs }
     ensures { FindsLeastBrokenByDuties at.now
@@ -102,8 +102,9 @@ pub(crate) fn rule_broken_by_irqs(at: &PointCheck<'_, '_>, irqs: &[u8], entry: C
     found
 }
 
-/// Returns the least rule that a checked point breaks by the frames that its call or SYSCALL
-/// enters; `None` for other instructions. `called` is a register whose calls are known to hold.
+/// Returns the lowest rule that a checked call or SYSCALL of `size` bytes breaks: K4 (return), K5
+/// or K12 (entry), K14 (need). `None` also for other instructions. `called` caches a register by
+/// which calls hold in this state.
 fn rule_broken_by_call_or_syscall(
     at: &PointCheck<'_, '_>,
     shape: Shape,
@@ -123,8 +124,8 @@ fn rule_broken_by_call_or_syscall(
     }
 }
 
-/// Returns the least rule that a checked point breaks by the trap of a misaligned access. `None` if
-/// the plan has no such trap or the access is aligned.
+/// Returns the lower of K10 (the handler's node) and K14 (needs) that fails for a trap of a
+/// misaligned access. `None` if both hold, the access is aligned, or the plan has no such trap.
 fn rule_broken_by_misaligned_access(at: &PointCheck<'_, '_>, found: &Located) -> Option<u8>
     requires { IsFaultlessInstructionAt at.now found.now }
     ensures { FindsLeastBrokenByDuties at.now (misaligned_duties_at at.now found.now) result }
@@ -159,8 +160,9 @@ fn rule_broken_by_leaving(node: &Node<'_>, s: &State, shape: Shape) -> Option<u8
     }
 }
 
-/// Returns the least rule that a checked call breaks. A call by the register `called`, whose calls
-/// hold in this state, is passed over if the next point has the same state.
+/// Returns the lowest rule that a checked call to `to` breaks: K4 (return to `back`), K5 (entry) or
+/// K14 (need). If the next point has the same state, a call by the register `called`, checked
+/// before, is skipped.
 fn rule_broken_by_call_unless_known(
     at: &PointCheck<'_, '_>,
     to: Target,
@@ -190,8 +192,8 @@ fn rule_broken_by_call_unless_known(
     found
 }
 
-/// Returns the least rule that a checked SYSCALL `tin` breaks: by the handler's entry, the need, or
-/// the point at `back`, where execution resumes.
+/// Returns the lowest rule that a checked SYSCALL `tin` breaks, or `None`: K4 (return to `back`),
+/// K12 (the handler's entry) or K14 (need).
 #[inline(never)]
 fn rule_broken_by_system_call(at: &PointCheck<'_, '_>, tin: u8, back: u32) -> Option<u8>
     ensures { FindsLeastBrokenByDuties at.now (system_call_duties_at at.now tin back) result }
@@ -202,8 +204,8 @@ fn rule_broken_by_system_call(at: &PointCheck<'_, '_>, tin: u8, back: u32) -> Op
     rule_broken_by_entry(at, NO_SYSTEM_CALL, &key, &entry, Some(back))
 }
 
-/// Returns the least rule that a checked call breaks: by the called functions' entries, the need,
-/// or the point at `back`, where execution resumes.
+/// Returns the lowest rule that a checked call to `to` breaks, or `None`: K4 (return to `back`), K5
+/// (a function's entry) or K14 (need).
 #[inline(never)]
 fn rule_broken_by_call(at: &PointCheck<'_, '_>, to: Target, back: u32) -> Option<u8>
     requires { IsTargetInBounds to }
@@ -217,8 +219,8 @@ fn rule_broken_by_call(at: &PointCheck<'_, '_>, to: Target, back: u32) -> Option
     }
 }
 
-/// Returns the least rule that calls of the functions at these addresses break, with the change
-/// `entry` at their entries. Each returns to `back`.
+/// Returns the lowest rule that calls of these functions break, or `None`: K4 (return to `back`),
+/// K5 (entry) or K14 (need). Each is entered with the checked point's state, changed by `entry`.
 fn rule_broken_by_call_targets(
     at: &PointCheck<'_, '_>,
     entry: &Change,
@@ -240,8 +242,8 @@ fn rule_broken_by_call_targets(
     found
 }
 
-/// Returns the least rule that a call of the node with this key breaks. If its entry state and exit
-/// are those of `held`, a call that holds, only needs are compared.
+/// Returns the lowest rule that a call of `key` breaks: K4 (return to `back`), K5 (entry) or K14
+/// (need). If entry state and exit are those of `held`, checked before, only needs are compared.
 fn rule_broken_by_called_node(
     at: &PointCheck<'_, '_>,
     key: &Key,
@@ -272,7 +274,8 @@ fn rule_broken_by_called_node(
     found
 }
 
-/// Returns the least rule that a checked call breaks by the functions that its register may name.
+/// Returns the lowest rule that a checked CALLI breaks, or `None`: K4 (return to `back`), K5
+/// (entry) or K14 (need). Each possible function is entered with the state changed by `entry`.
 #[inline(never)]
 fn rule_broken_by_calli(
     at: &PointCheck<'_, '_>,
@@ -289,8 +292,8 @@ fn rule_broken_by_calli(
     rule_broken_by_call_targets(at, entry, targets.as_slice(), back)
 }
 
-/// Returns the least rule that a frame's entry breaks: `rule` if no node covers the changed state,
-/// K14 for needs, K4 for `back`.
+/// Returns the lowest rule that entering the frame `key` breaks, or `None`: `rule` (entry point),
+/// K14 (need) or K4 (return to `back`). The entry state is the checked one, changed by `entry`.
 fn rule_broken_by_entry(
     at: &PointCheck<'_, '_>,
     rule: u8,
@@ -316,16 +319,16 @@ fn rule_broken_by_entry(
     lesser_broken_rule(lesser_broken_rule(into, need), on)
 }
 
-/// Returns whether a node's need has room for its locals, one area for the entry, and the entered
-/// node's need: K14.
+/// Returns whether a node's need has room for the saved lower contexts of `s`, one area for the
+/// entry, and the entered node's need (K14).
 fn is_need_sufficient_for_entry(node: &Node<'_>, s: &State, entered: &Node<'_>) -> bool
     ensures { IsTrue result ↔ (length s.now.locals.items + 1 + entered.now.need ≤ node.now.need) }
 {
     s.locals.len() + 1 + usize::from(entered.need) <= usize::from(node.need)
 }
 
-/// Returns true if the node's point at `back` covers the state after the entered frame's return, as
-/// K4 asks. Also true without `back` or without an exit.
+/// Returns true if the node's point at `back` covers `s` after the return of `entered`, a call or a
+/// system call by `kind`. Also true without `back` or without an exit.
 fn is_return_met(
     node: &Node<'_>,
     s: &State,
@@ -342,8 +345,8 @@ fn is_return_met(
     }
 }
 
-/// Returns the least rule that a checked point breaks by the entry of the handler of misaligned
-/// accesses.
+/// Returns the lower of K10 (the handler's node) and K14 (needs) that fails for entering the
+/// handler of misaligned accesses, or `None`.
 #[inline(never)]
 fn rule_broken_by_misaligned_entry(at: &PointCheck<'_, '_>) -> Option<u8>
     ensures { FindsLeastBrokenByDuties at.now (misaligned_duty_at at.now ∷ []) result }
@@ -354,8 +357,8 @@ fn rule_broken_by_misaligned_entry(at: &PointCheck<'_, '_>) -> Option<u8>
     rule_broken_by_entry(at, NO_MISALIGNED, &key, &entry, None)
 }
 
-/// Returns the least rule that entries of handlers break, for `irqs`, all interrupts that may be
-/// taken at a checked point.
+/// Returns the lower of K11 (handlers' nodes) and K14 (needs) that fails for `irqs`, all interrupts
+/// possible at the checked point, or `None`.
 #[inline(never)]
 fn rule_broken_by_possible_irqs(at: &PointCheck<'_, '_>, irqs: &[u8]) -> Option<u8>
     requires { irqs.now ≡ possible_irqs_of at.now.plan at.now.point.state }

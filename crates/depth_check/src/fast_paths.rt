@@ -25,8 +25,8 @@ use tc_isa::Shape;
 use tcd_base::is_in_one_range;
 use tcd_plan::Plan;
 
-/// Returns the address after the checked point's nop or direct jump, if the next point has the same
-/// state, else `None`. A nop16 isn't decoded, which spares 75 to 330 instructions.
+/// Returns the next address of the checked point's nop or direct jump, if the node's next point has
+/// the same state, else `None`. A nop16 isn't decoded, which spares 75 to 330 instructions.
 pub(crate) fn next_after_nop_or_jump(at: &PointCheck<'_, '_>, codes: &mut KnownCodes) -> Option<u32>
     ensures { IfSome result (HasNopOrJump at.now.image at.now.plan at.now.point.addr) }
 {
@@ -108,8 +108,8 @@ pub(crate) struct CheckedRegisters {
 }
 
 impl CheckedRegisters {
-    /// Returns these checked registers if the next point, at `next`, has the same state; else no
-    /// registers.
+    /// Returns these registers, whose targets are checked in the current state, if the next point
+    /// has the same state, so that `next` is its address. Otherwise returns none.
     #[inline(always)]
     pub(crate) fn kept_if_same_state(self, next: Option<u32>) -> CheckedRegisters
         ensures { result ≡ record {
@@ -130,8 +130,8 @@ pub(crate) const NO_REGISTERS: CheckedRegisters = CheckedRegisters {
     jumped: None,
 };
 
-/// Returns K4 if the node has no point at `next` that covers the checked point's own state, which
-/// its instruction keeps.
+/// Returns K4, the rule on successors, if the node has no point at `next` that covers the checked
+/// point's state, which its instruction keeps.
 pub(crate) fn rule_broken_by_kept_state(at: &PointCheck<'_, '_>, next: u32) -> Option<u8>
     ensures { FindsLeastBrokenByDuties at.now (jump_duty next at.now.point.state ∷ []) result }
 {

@@ -34,8 +34,8 @@ impl LastInterrupts {
         }
     }
 
-    /// Returns true only if a kept context shows that the handlers' entries hold in a state of the
-    /// node; false with interrupts off.
+    /// Returns true only if a cached context shows that the rules on interrupt handlers, K11 and
+    /// K14, hold in the node's state `s`. False with interrupts off.
     pub(crate) fn covers(&self, node: &Node<'_>, s: &State) -> bool
         requires stacks { HasWellFormedSps self.now }
         requires stack { IsWellFormed (a10_of s.now) }
@@ -51,8 +51,8 @@ impl LastInterrupts {
         context_covers(&self.before, node, s)
     }
 
-    /// Returns the join of the last kept context's A10 with the state's, if the state fits that
-    /// context except for A10; else `None`.
+    /// Returns the join of the last cached stack pointer with A10 of the state, or `None`. Both
+    /// must be on the interrupt stack, and the state must fit the cached context except for A10.
     fn joined_sp(&self, b: &Bounds, node: &Node<'_>, s: &State) -> Option<Val>
         requires last { IfSome self.now.last (λ a. IsInLattice b.now a.sp) }
         requires values { AreInLattice b.now s.now.regs }
@@ -71,9 +71,9 @@ impl LastInterrupts {
         }
     }
 
-    /// Keeps the interrupt context of a point whose handlers' entries hold, and drops the older of
-    /// the two kept ones. A function of its own, so that the loop over points needs no stack for a
-    /// value.
+    /// Caches the interrupt context of a point whose handlers' entries were checked, so that later
+    /// points that fit the context skip this check. The older of the two cached contexts is
+    /// dropped.
     #[inline(never)]
     pub(crate) fn keep_context(&mut self, at: &PointCheck<'_, '_>)
         requires holds { InterruptsHold at.now.plan at.now.cert at.now.node at.now.point.state }
@@ -99,8 +99,8 @@ pub(crate) struct InterruptContext {
 }
 
 impl InterruptContext {
-    /// Returns the interrupt context of a state of the node, with the stack pointer `sp` instead of
-    /// its A10.
+    /// Returns the interrupt context of the node's state `s`: the stack in use, IE, CCPN and the
+    /// areas that the need leaves. The stack pointer is `sp` instead of A10.
     fn of_state(node: &Node<'_>, s: &State, sp: Val) -> InterruptContext
         ensures same { IsContextExceptSp result node.now s.now }
         ensures sp { result.sp ≡ sp }
@@ -114,8 +114,8 @@ impl InterruptContext {
         }
     }
 
-    /// Returns true only if a state of the node has this context's stack in use, IE and CCPN, and
-    /// leaves at least as many areas. A10 isn't compared.
+    /// Returns true only if the node's state `s` has this context's IE, CCPN and stack in use, and
+    /// the need leaves no fewer areas. The stack pointer isn't compared.
     fn fits_except_sp(&self, node: &Node<'_>, s: &State) -> bool
         ensures { IsTrue result → FitsContextExceptSp self.now node.now s.now }
     {
@@ -126,8 +126,8 @@ impl InterruptContext {
     }
 }
 
-/// Returns true only if there is an interrupt context, and entries of handlers that hold in that
-/// context hold in this state of the node.
+/// Returns true only if there is a cached interrupt context that this state of the node fits. Then
+/// the entries of handlers needn't be checked again.
 fn context_covers(context: &Option<InterruptContext>, node: &Node<'_>, s: &State) -> bool
     requires own { IfSome context.now (λ a. IsWellFormed a.sp) }
     requires stack { IsWellFormed (a10_of s.now) }
@@ -140,12 +140,8 @@ fn context_covers(context: &Option<InterruptContext>, node: &Node<'_>, s: &State
     }
 }
 
-/// An A10 with which the entries of interrupts hold at a point, if they hold with the point's own.
-/// It is the join of the point's own A10 and the last one that was kept, if the point needs more
-/// only because of A10 and the entries hold with the join; else it is the point's own.
-///
-/// With the join kept, an A10 that changes from point to point soon needs nothing more: after some
-/// 64 points the join has all of its values.
+/// Returns the stack pointer to cache for the checked point: A10, joined with the last cached one
+/// if the handlers' rules hold for the join.
 fn sp_to_keep(at: &PointCheck<'_, '_>, kept: &LastInterrupts) -> Val
     requires holds { InterruptsHold at.now.plan at.now.cert at.now.node at.now.point.state }
     requires interrupts { LastInterruptsHold at.now.plan at.now.cert kept.now }

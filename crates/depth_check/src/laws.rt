@@ -8,22 +8,21 @@ pub fn accepted_is_safe()
     ensures { AcceptedIsSafe }
 {}
 
-/// If the rules accept a certificate, the frames of every run are at points whose states hold the
-/// machine, and the edge of each step is a duty of the newest frame's point, or the return to the
-/// frame before it.
+/// If a certificate is accepted, every run's newest frame is at one of its points, whose state
+/// permits the machine's, and all frames have nodes. Each step is one that the rules ask for at
+/// that point, or returns to the frame before.
 pub fn accepted_holds_frames()
     ensures frames { AcceptedHoldsFrames }
     ensures edges { AcceptedOwesEdges }
 {}
 
-/// What the checker's answers say: a yes has the start's need, and no rule fails; a no has the
-/// first fault, and where.
+/// The checker's answers mean what is printed: a yes gives the start's need, and no rule fails; a
+/// no names the first rule that fails, with its node and address.
 pub fn answer_laws()
     ensures { AnswersSayNeedOrFirstFault }
 {}
 
-/// States the law that the checker's answers are exact both ways: a certificate in which a check
-/// finds a first fault isn't one that the rules accept.
+/// The checker's answers are exact both ways: a certificate with a first fault isn't accepted.
 pub fn first_fault_laws()
     ensures { FirstFaultExcludesAcceptance }
 {}

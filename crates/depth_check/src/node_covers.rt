@@ -37,7 +37,7 @@ pub(crate) fn has_covering_points(at: &PointCheck<'_, '_>, targets: &[u32]) -> b
 }
 
 /// Returns true if the node has a point at this address that covers the checked point's own state.
-/// Nothing is compared for a next point with that state.
+/// If that is the next point and has the same state, nothing is compared.
 pub(crate) fn is_own_state_covered(at: &PointCheck<'_, '_>, addr: u32) -> bool
     ensures { IsTrue result ↔ HasCoveringPoint at.now.node addr at.now.point.state }
 {
@@ -47,8 +47,8 @@ pub(crate) fn is_own_state_covered(at: &PointCheck<'_, '_>, addr: u32) -> bool
     at.point.walk.is_covered_at(addr)
 }
 
-/// Returns true if the node has a point at this address that covers the checked branch's state,
-/// unrefined. The walk's next point is tried first; `c` is room.
+/// Returns true if the node has a point at this address that covers the state of a checked branch,
+/// not refined by its condition. `c` is overwritten.
 pub(crate) fn is_unrefined_state_covered(at: &PointCheck<'_, '_>, addr: u32, c: &mut Change) -> bool
     ensures { IsTrue result ↔ HasCoveringPoint at.now.node addr at.now.point.state }
 {
@@ -71,8 +71,8 @@ pub(crate) fn has_point_covering_change(node: &Node<'_>, addr: u32, s: &State, c
     }
 }
 
-/// Returns true if the node has a point at this address that covers the checked point's changed
-/// state. The walk's next point comes first.
+/// Returns true if the node has a point at this address that covers the checked point's state after
+/// the change `c`. The walk's next point is tried first.
 pub(crate) fn is_changed_state_covered(at: &PointCheck<'_, '_>, addr: u32, c: &Change) -> bool
     requires { AreWellFormed (state_after at.now.point.state c.now).regs }
     ensures { IsTrue result
@@ -81,8 +81,8 @@ pub(crate) fn is_changed_state_covered(at: &PointCheck<'_, '_>, addr: u32, c: &C
     at.point.walk.is_covered_by_next(addr, c) || has_point_covering_change(at.node, addr, at.point.state, c)
 }
 
-/// Returns true if the node has a point at `at` that covers the state after the entered frame's
-/// return. Also true if that frame has no exit.
+/// Returns true if the node's point at `at` covers `s` after a return of the entered frame, a call
+/// or a system call by `kind`. Also true if `entered` has no exit.
 pub(crate) fn is_return_covered(
     node: &Node<'_>,
     at: u32,

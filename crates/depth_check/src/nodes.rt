@@ -34,7 +34,7 @@ pub(crate) struct NodeScratch<'a> {
 }
 
 /// Returns the first fault of a certificate's node, by its address and then by its rule, or `None`
-/// if all rules hold there.
+/// if all rules hold there. `scratch` has caches for the next node.
 #[inline(never)]
 pub(crate) fn first_node_fault<'a>(
     b: &Bounds,
@@ -93,8 +93,8 @@ pub(crate) fn first_node_fault<'a>(
     }
 }
 
-/// Returns the first fault of a node up to the point `addr`: K2 at `entry`, unless `good`, or the
-/// rule `found` at `addr`. `None` if there is none.
+/// Returns the earlier of two faults: K2 (entry point and exit values) at `entry` unless `good`,
+/// and `found` at `addr`. An entry above `addr` is left to later points; `None` without a fault.
 fn earlier_node_fault(good: bool, entry: u32, addr: u32, found: Option<u8>) -> Option<Fault>
     ensures { result ≡ nodes.earlier_node_fault good entry addr found }
 {
@@ -110,7 +110,7 @@ fn earlier_node_fault(good: bool, entry: u32, addr: u32, found: Option<u8>) -> O
     })
 }
 
-/// Returns the fault of K2 at the entry of a certificate's node.
+/// Returns the fault K2 at `entry`: a node has no entry point, or its exit has a bad value.
 fn node_entry_fault(entry: u32) -> Fault
     ensures { result ≡ record { rule = 2; addr = entry } }
 {
@@ -125,8 +125,8 @@ fn point_address_fits_word(addr: u32)
     ensures { addr < 2 ^ 32 }
 {}
 
-/// Returns true if K2 holds at a node's entry: a point is there, and the exit's values, if any, are
-/// of the plan's lattice.
+/// Returns true if K2 holds at a node: its entry is a point, and the exit, if any, has only values
+/// that the plan allows.
 pub(crate) fn entry_rule_holds(b: &Bounds, node: &Node<'_>) -> bool
     ensures { IsTrue result ↔ EntryRuleHolds b.now node.now }
 {

@@ -79,8 +79,8 @@ pub(crate) struct PointScratch {
     pub(crate) registers: CheckedRegisters,
 }
 
-/// Returns a change as room, to be overwritten before use: no register is set, IE is off, CCPN is
-/// 0, and there are no locals.
+/// Returns a placeholder change, to be overwritten before use. No register is set, IE is off, CCPN
+/// is 0, and there are no saved lower contexts.
 #[inline(always)]
 pub(crate) fn blank_change() -> Change {
     Change {
@@ -104,8 +104,8 @@ pub(crate) fn blank_change() -> Change {
     }
 }
 
-/// Returns the least rule that fails at a checked point, on a fast path or by its instruction,
-/// duties and need. `None` if all hold.
+/// Returns the lowest of rules K3 to K14 that fails at a checked point, or `None` if all hold. A
+/// nop or direct jump takes a fast path.
 pub(crate) fn rule_broken_at(at: &PointCheck<'_, '_>, scratch: &mut PointScratch) -> Option<u8>
     requires results { IsCorrectCache at.now.bounds scratch.old.cache }
     requires registers { CheckedRegistersHoldAt at.now scratch.old.registers }
@@ -124,8 +124,8 @@ pub(crate) fn rule_broken_at(at: &PointCheck<'_, '_>, scratch: &mut PointScratch
     lesser_broken_rule(lesser_broken_rule(jump, irqs), need)
 }
 
-/// Writes to `scratch.change` how the checked point's instruction changes its state. The result of
-/// an operation on two sets may come from the cache.
+/// Writes to `scratch.change` how the checked point's instruction `found` changes its state. The
+/// result of an operation on two sets may come from the cache.
 #[inline(always)]
 pub(crate) fn write_change_at(at: &PointCheck<'_, '_>, found: &Located, scratch: &mut PointScratch)
     requires found { IsFaultlessInstructionAt at.now found.now }
@@ -156,8 +156,8 @@ pub(crate) fn write_change_at(at: &PointCheck<'_, '_>, found: &Located, scratch:
     );
 }
 
-/// Returns the point at `addr`, where the walk stands, with facts for the fast paths. `known` is
-/// true only if the point before had values of the plan.
+/// Returns the point at `addr`, the walk's current one, with facts for the fast paths. `known` says
+/// that the point before had only values that K2 allows, so that only new ones are tested.
 #[inline(always)]
 pub(crate) fn point_of_walk<'b>(
     b: &Bounds,
@@ -189,8 +189,8 @@ pub(crate) fn point_of_walk<'b>(
     }
 }
 
-/// Returns true if each of these register values is in the lattice of the plan and the format, as
-/// K2 asks.
+/// Returns true if each of these abstract values is a set or range of words that the plan and the
+/// format allow, as K2 asks.
 pub(crate) fn are_in_lattice(b: &Bounds, vs: &[Val]) -> bool
     ensures { IsTrue result ↔ AreInLattice b.now vs.now }
 {
@@ -202,7 +202,8 @@ pub(crate) fn are_in_lattice(b: &Bounds, vs: &[Val]) -> bool
     true
 }
 
-/// Returns true if all values of the checked point's state are in the lattice, as K2 asks.
+/// Returns true if all register values of the checked point's state are sets or ranges that the
+/// plan and the format allow, as K2 asks.
 pub(crate) fn has_values_in_lattice(b: &Bounds, point: CurrentPoint<'_>) -> bool
     requires { IsTrue point.known → AreInLattice b.now point.state.now.regs }
     ensures { IsTrue result ↔ AreInLattice b.now point.entry.state.now.regs }
@@ -213,8 +214,8 @@ pub(crate) fn has_values_in_lattice(b: &Bounds, point: CurrentPoint<'_>) -> bool
     are_in_lattice(b, &point.state.regs)
 }
 
-/// Returns the least rule that fails at a checked point off the fast path: by its decoded
-/// instruction, its duties or its need.
+/// Returns the lowest of rules K3 to K14 that a checked point breaks by its instruction, what
+/// follows from that, or the need. `None` if all hold.
 #[inline(never)]
 fn rule_broken_by_decoded_point(at: &PointCheck<'_, '_>, scratch: &mut PointScratch) -> Option<u8>
     requires results { IsCorrectCache at.now.bounds scratch.old.cache }

@@ -1,4 +1,5 @@
-// The rules that are tested here, by what fails. `check_decoded` of cfg_recover tests the others.
+// The rules that are tested here, by what fails. `check_decoded_instruction` of cfg_recover tests
+// the others.
 ghost use Rattle.std.specs.Prelude.{◌≡◌, ◌↔◌, IsTrue};
 ghost use Rattle.depth_check.specs.LeastBroken as finding;
 ghost use Rattle.depth_check.specs.DutiesHold.{IsNeedSufficient};
@@ -36,7 +37,7 @@ pub(crate) const NO_SYSTEM_CALL: u8 = 12;
 /// K14: the need of the node is too small. It is the last rule that a point may break.
 pub(crate) const SMALL_NEED: u8 = 14;
 
-/// Returns the lesser of two rules that fail at a checked point, or `None` if neither fails.
+/// Returns the lower of two numbers of broken rules, or the only one, or `None` if none is broken.
 pub(crate) fn lesser_broken_rule(a: Option<u8>, b: Option<u8>) -> Option<u8>
     ensures { result ≡ finding.lesser_broken_rule a b }
 {
@@ -47,8 +48,8 @@ pub(crate) fn lesser_broken_rule(a: Option<u8>, b: Option<u8>) -> Option<u8>
     }
 }
 
-/// Returns true if K14's own part holds: the node's need covers the checked point's locals and, at
-/// the start's entry, leaves the reserve free.
+/// Returns true if K14 holds at a checked point, apart from frames entered there. The need is at
+/// least the saved lower contexts and, at the start's entry, leaves the reserve free.
 pub(crate) fn is_need_sufficient(at: &PointCheck<'_, '_>) -> bool
     ensures { IsTrue result ↔ IsNeedSufficient at.now.image at.now.plan at.now.node at.now.point }
 {

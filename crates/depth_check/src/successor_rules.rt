@@ -16,8 +16,8 @@ use cfg_recover::{Located, broken_rule_unless, targets};
 use tc_isa::{Shape, Target};
 use vd_transfer::{Change, write_branch_change};
 
-/// Returns K4 if the node doesn't cover a successor of the checked point in its frame. Those after
-/// calls are checked elsewhere.
+/// Returns K4, the rule on successors, if the node doesn't cover one of the checked instruction
+/// `found`. Those after calls are left to `rule_broken_by_call_or_syscall`.
 pub(crate) fn rule_broken_by_successors(
     at: &PointCheck<'_, '_>,
     found: &Located,
@@ -47,7 +47,8 @@ pub(crate) fn rule_broken_by_successors(
     }
 }
 
-/// Returns K4 if the node doesn't cover a side of a checked branch: `next` if not taken, else `to`.
+/// Returns K4, the rule on successors, if the node doesn't cover a side of a checked branch: `next`
+/// if not taken, else `to`. `c` is overwritten.
 #[inline(never)]
 fn rule_broken_by_branch(
     at: &PointCheck<'_, '_>,
@@ -65,8 +66,8 @@ fn rule_broken_by_branch(
     lesser_broken_rule(straight, taken)
 }
 
-/// Returns K4 if the node doesn't cover a target of the checked jump. Targets are listed only for a
-/// jump by a register.
+/// Returns K4, the rule on successors, if the node doesn't cover a target of the checked jump.
+/// `jumped` caches a register by which jumps hold in this state.
 fn rule_broken_by_jump(at: &PointCheck<'_, '_>, to: Target, jumped: &mut Option<u8>) -> Option<u8>
     requires target { IsTargetInBounds to }
     requires jumped { RegisterJumpsHoldAt at.now jumped.old }
@@ -81,8 +82,8 @@ fn rule_broken_by_jump(at: &PointCheck<'_, '_>, to: Target, jumped: &mut Option<
     }
 }
 
-/// Returns K4 if the node doesn't cover the checked point's state after its instruction, at the
-/// next address.
+/// Returns K4, the rule on successors, if the node doesn't cover the state after the checked
+/// point's instruction `found`, at the next address. The change goes to `scratch`.
 fn rule_broken_by_next(
     at: &PointCheck<'_, '_>,
     found: &Located,
@@ -100,8 +101,8 @@ fn rule_broken_by_next(
     rule_broken_by_changed_state(at, found, scratch)
 }
 
-/// Returns K4 if the node doesn't cover this side of a checked branch, which goes to `to`. A point
-/// that covers the unrefined state suffices, if the branch only refines.
+/// Returns K4, the rule on successors, if one side of a checked branch isn't covered at `to`. The
+/// unrefined state is tried first, unless a register is decremented. `c` is overwritten.
 fn rule_broken_by_branch_side(
     at: &PointCheck<'_, '_>,
     shape: Shape,
@@ -121,8 +122,8 @@ fn rule_broken_by_branch_side(
     rule_broken_by_refined_side(at, shape, taken, to, c)
 }
 
-/// Returns K4 if the node has no point at `to` that covers the refined state on a side of a checked
-/// branch. `None` also for an impossible side.
+/// Returns K4, the rule on successors, if the node's point at `to` doesn't cover the state refined
+/// on one side of a checked branch. `None` also for an impossible side. `c` is overwritten.
 #[inline(never)]
 fn rule_broken_by_refined_side(
     at: &PointCheck<'_, '_>,
@@ -140,8 +141,8 @@ fn rule_broken_by_refined_side(
     broken_rule_unless(is_changed_state_covered(at, to, c), NO_POINT)
 }
 
-/// Returns K4 if the node doesn't cover a target of a jump by the register `r`. Jumps by the
-/// register `jumped` are known to hold and passed over.
+/// Returns K4, the rule on successors, if the node doesn't cover a target of JI by the register
+/// `r`. `jumped` caches a register by which jumps hold in this state.
 #[inline(never)]
 fn rule_broken_by_ji(at: &PointCheck<'_, '_>, r: u8, jumped: &mut Option<u8>) -> Option<u8>
     requires register { r < 32 }
@@ -163,8 +164,8 @@ fn rule_broken_by_ji(at: &PointCheck<'_, '_>, r: u8, jumped: &mut Option<u8>) ->
     }
 }
 
-/// Returns K4 if the node doesn't cover the changed state at the next address. The change is
-/// written to `scratch`.
+/// Returns K4, the rule on successors, if the node doesn't cover the state after the checked
+/// instruction `found`, at the next address. The change goes to `scratch`.
 #[inline(never)]
 fn rule_broken_by_changed_state(
     at: &PointCheck<'_, '_>,

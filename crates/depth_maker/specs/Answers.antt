@@ -54,6 +54,7 @@ abbrev pub RefusalNamesFault : Limits → ImageData → PlanData → Refusal →
 RefusalNamesFault b image plan (refusal.Fault rule x) = (k : Key) × (p : ℕ) × (place_of_spot x ≡ point k p) × IsRefusalFault b image plan rule k p
 RefusalNamesFault b image plan refusal.NoMemory = Unit {0}
 
--- the refusal names a fault of a derived assignment, for the image, plan and limits at hand
+-- the refusal names a fault of a derived assignment, for the image, plan and limits at hand;
+-- nothing is said of NoMemory
 abbrev pub NamesDerivedFault : Ground → Refusal → Type 0
 NamesDerivedFault g e = RefusalNamesFault g.bounds.now g.image.now g.plan.now e

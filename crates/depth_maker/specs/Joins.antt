@@ -27,8 +27,8 @@ use Rattle.depth_maker.specs.declared.inputs_and_limits.Ground.{Ground}
 use Rattle.depth_maker.specs.declared.table.Table as made
 use Rattle.depth_maker.specs.Answers.{NamesDerivedFault}
 
--- v was joined at the place y of the maker's table, which didn't cover v: y is queued and counted,
--- and nothing else changed
+-- the place y of the maker's table, which didn't cover v, is raised by joining v: y is queued and
+-- counted, and nothing else changed
 pub record RaisesOnlyPlace (b : Limits) (s t : made.Table) (y : Spot) (v : Known) : Type 0 where
   pub known : Known
   pub raises : joined_at_place b (value_of_place s.places y) v ≡ Some known

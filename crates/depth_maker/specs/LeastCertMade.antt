@@ -61,7 +61,7 @@ pub record IsLeastAcceptedCert (image : ImageData) (plan : PlanData) (version : 
       (other : CertData) (k : Key) (x : Exit) → IsCert other → other.version ≡ version → Accepts image plan other
       → assignment_of_cert cert (exit k) ≡ Some (leaving x) → (y : Exit) × (assignment_of_cert other (exit k) ≡ Some (leaving y)) × ExitCovers y x
 
--- what the maker proves of a written certificate: derived, closed, without faults, with the least
+-- the certificate of the maker's least fixpoint: derived, closed, without faults, with the least
 -- needs, the start's within the areas
 pub record IsLeastFixpointCert (image : ImageData) (plan : PlanData) (version : ℕ) (cert : CertData) : Type 0 where
   pub is_cert : IsCert cert

@@ -102,8 +102,8 @@ MakeErrExcludesCerts =
     (image : ImageData) (plan : PlanData) (version rule : ℕ) (key : Key) (addr : ℕ) (cert : CertData) → IsRightMakeErr image plan version (Refused rule key addr)
     → IsCert cert → cert.version ≡ version → Accepts image plan cert → ⊥
 
--- law of the maker: a certificate of a derived closed assignment without faults, with the least
--- needs, is the least certificate
+-- law of the maker: the certificate of a least fixpoint (a derived closed assignment without
+-- faults), with the least needs, is the least certificate
 abbrev pub LeastFixpointIsLeastCert : Type 0
 LeastFixpointIsLeastCert =
     (image : ImageData) (plan : PlanData) (version : ℕ) (cert : CertData) → AreMakerInputs (limits_for plan version) image plan → image.entry < 2 ^ 32

@@ -58,8 +58,8 @@ pub record AreRowFramesAmong (v : Visit) (frames : List Key) : Type 0 where
 abbrev pub AreRowsOfTable : Ground → made.Table → List NeedRow → Type 0
 AreRowsOfTable g t rows = AreRowsOfPoints g.bounds.now g.image.now g.plan.now (view_of_table t).cells t.frames.items rows
 
--- what rows are made from: a finished table of the maker, the numbers of its frames, and its
--- interrupt handlers
+-- the source has a finished table of the maker, the numbers of its frames, and its interrupt
+-- handlers
 pub record HasFinishedTable (s : Source) : Type 0 where
   pub done : IsLeastFixpointTable s.ground.now s.table.now
   pub numbers : AreFrameNumbers s.numbers.now (s.table.now).frames.items (s.table.now).frames.items
@@ -87,8 +87,8 @@ pub record IsRowOfOutline (s : Source) (number : ℕ) (o : Outline) (row : NeedR
 abbrev pub OutlinesHaveRows : Source → List NeedRow → List (Option Outline) → Type 0
 OutlinesHaveRows s rows outlines = (number : ℕ) (o : Outline) → slice_get outlines number ≡ Some (Some o) → (row : NeedRow) × Contains rows row × IsRowOfOutline s number o row
 
--- the point is plain, and its outline (IE, CCPN, number of locals) is the one that is listed for
--- its frame
+-- the point enters frames only by interrupts, and its outline (IE, CCPN, number of locals) is the
+-- one that is listed for its frame
 pub record HasListedOutline (outlines : List (Option Outline)) (node : ℕ) (known : Marked Known) : Type 0 where
   pub outline : Outline
   pub there : slice_get outlines node ≡ Some (Some outline)

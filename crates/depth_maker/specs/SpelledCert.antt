@@ -146,16 +146,15 @@ AreTablePointEntries s k xs = (x : PointEntry) → Contains xs x → IsTablePoin
 abbrev pub IsTableFrame : Source → Key → Type 0
 IsTableFrame s k = Contains (s.table.now).frames.items k
 
--- the bytes spell the certificate that the maker proves to be the least closed one
+-- the bytes spell the certificate of the maker's least fixpoint
 abbrev pub AreFixpointCertBytes : ImageData → PlanData → ℕ → List ℕ → Type 0
 AreFixpointCertBytes image plan version bytes = (cert : CertData) × (bytes ≡ bytes_of_cert cert) × IsLeastFixpointCert image plan version cert
 
--- the bytes spell a certificate that the maker proves to be the least closed one for the image and
--- plan of this source
+-- the bytes spell the certificate of the maker's least fixpoint, for the image and plan of this
+-- source
 abbrev pub AreFixpointCertBytesFromSource : Source → ℕ → List ℕ → Type 0
 AreFixpointCertBytesFromSource s version bytes = AreFixpointCertBytes (s.ground.now).image.now (s.ground.now).plan.now version bytes
 
--- the bytes spell a certificate that the maker proves to be the least closed one, for the image and
--- the plan at hand
+-- the bytes spell the certificate of the maker's least fixpoint, for the image and the plan at hand
 abbrev pub AreFixpointCertBytesForInputs : Ground → ℕ → List ℕ → Type 0
 AreFixpointCertBytesForInputs g version bytes = (cert : CertData) × (bytes ≡ bytes_of_cert cert) × IsLeastFixpointCert g.image.now g.plan.now version cert

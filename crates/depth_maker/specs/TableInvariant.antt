@@ -74,8 +74,8 @@ pub record TableInvariantHolds (b : Limits) (image : ImageData) (plan : PlanData
   pub readers : (z : Spot) → AreKnownPlaces t.places (IsAmongReaders (get spot_eq t.readers z))
   pub plain : ArePlainMarksRight image plan t.places
 
--- the maker's finished table: its assignment is derived, closed and without faults, hence the least
--- of these
+-- the maker's finished table is the least fixpoint: its assignment is derived, closed and without
+-- faults, hence the least of these
 pub record IsLeastFixpointTable (g : Ground) (t : made.Table) : Type 0 where
   pub derived : Derived g.bounds.now g.image.now g.plan.now (view_of_table t).cells
   pub closed : Closed g.bounds.now g.image.now g.plan.now (view_of_table t).cells

@@ -57,8 +57,8 @@ OwesDuty v d = VisitedPointOwes (v.ground.now).bounds.now (v.ground.now).image.n
 abbrev pub OwesDuties : Visit → List Owed → Type 0
 OwesDuties v ds = (d : Owed) → Contains ds d → VisitedPointOwes (v.ground.now).bounds.now (v.ground.now).image.now (v.ground.now).plan.now v.key v.addr v.state.now d.duty
 
--- the visit takes the first table to the second by joining these duties, unless the point has new
--- work
+-- the visit joins these duties, which takes the first table to the second: they are covered there,
+-- unless the point has new work
 abbrev pub JoinsDuties : Visit → made.Table → made.Table → List Owed → Type 0
 JoinsDuties v s t ds = AreDutiesJoined (v.ground.now).bounds.now (v.ground.now).image.now (v.ground.now).plan.now s t v.key v.addr v.state.now ds
 
@@ -122,8 +122,8 @@ entry_duties v shape size = entry_duties_of (v.ground.now).plan.now v.key v.addr
 abbrev pub misaligned_duty : Visit → Owed
 misaligned_duty v = misaligned_entry (v.ground.now).plan.now v.key v.state.now
 
--- the visited point's duty to enter the handler of misaligned accesses, if its access may be
--- misaligned and the plan has that trap
+-- the visited point's duties by its access: to enter the handler of misaligned accesses, if the
+-- access may be misaligned
 abbrev pub misaligned_duties : Visit → Located → List Owed
 misaligned_duties v found = misaligned_duties_of (v.ground.now).bounds.now (v.ground.now).plan.now v.key v.state.now found.shape
 

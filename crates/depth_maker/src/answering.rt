@@ -86,8 +86,8 @@ fn cert_as_bytes(alloc: Global, image: &Image, plan: &Plan, version: u8) -> Resu
     cert_bytes_for_inputs(alloc, &ground, version)
 }
 
-/// Returns the bytes of the least certificate for the image, plan and limits in `ground`, or why no
-/// certificate is accepted.
+/// Returns the bytes of the least certificate of format `version` for the image, plan and limits in
+/// `ground`, or why no certificate is accepted.
 fn cert_bytes_for_inputs(alloc: Global, ground: &Ground, version: u8) -> Result<Vec<u8>, MakeErr>
     requires version { (version ≡ 1) ⊎ (version ≡ 2) }
     requires limits { HasLimitsOfFormat ground.now version }
@@ -100,8 +100,8 @@ fn cert_bytes_for_inputs(alloc: Global, ground: &Ground, version: u8) -> Result<
     }
 }
 
-/// Numbers a finished table's frames, and returns the bytes of the least certificate, or a refusal
-/// by K14 if the start needs too many areas.
+/// Numbers a finished table's frames, and returns the bytes of the least certificate. The error is
+/// a refusal by K14, the rule on needs, if the start needs too many areas.
 fn cert_bytes_from_table(
     alloc: Global,
     ground: &Ground,
@@ -125,8 +125,8 @@ fn cert_bytes_from_table(
     cert_with_least_needs(alloc, &source, version)
 }
 
-/// Returns the maker's error for a refusal: the rule that fails with its frame and address, an
-/// exit's being the frame's entry, or NoMemory.
+/// Converts a refusal to the maker's error: the rule that fails with its frame and address, or
+/// NoMemory. For an exit the address is the frame's entry.
 fn make_err_from_refusal(_ground: &Ground, refusal: Refusal) -> MakeErr
     requires { NamesDerivedFault _ground.now refusal }
     ensures { MakeErrNamesRefusal _ground.now result }
@@ -144,8 +144,8 @@ fn make_err_from_refusal(_ground: &Ground, refusal: Refusal) -> MakeErr
     }
 }
 
-/// Returns the certificate's bytes of a finished table with its frames' least needs, or a refusal
-/// by K14 if the start needs too many areas.
+/// Computes the least needs of the frames of the finished table in `source`, and returns the
+/// certificate's bytes. The error is a refusal by K14 if the start needs too many areas.
 fn cert_with_least_needs(alloc: Global, source: &Source, version: u8) -> Result<Vec<u8>, MakeErr>
     requires source { HasFinishedTable source.now }
     requires version { (version ≡ 1) ⊎ (version ≡ 2) }

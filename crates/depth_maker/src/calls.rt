@@ -21,8 +21,8 @@ use tc_isa::Target;
 use value_domain::State;
 use vd_transfer::Change;
 
-/// Joins what a visited CALL, CALLA or CALLI owes: the state at each called function's entry, and
-/// the state after each return to `back`. `c` is overwritten.
+/// Joins what a visited CALL, CALLA or CALLI owes: its state at the entry of each function at `to`,
+/// and the state after each return at `back`. `c` is overwritten.
 pub(crate) fn join_call_duties(
     alloc: Global,
     table: &mut Table,
@@ -48,7 +48,7 @@ pub(crate) fn join_call_duties(
     }
 }
 
-/// Writes to `c` the change by which the visited point's state becomes the state at a called
+/// Writes to `c` the change by which the caller's state `s` becomes the state at a called
 /// function's entry.
 #[inline(always)]
 fn write_call_entry_change(c: &mut Change, s: &State)
@@ -59,8 +59,8 @@ fn write_call_entry_change(c: &mut Change, s: &State)
     c.locals = ArrayVec::new();
 }
 
-/// Joins, at a visited CALLI, the state at the entry of each function that may be called, and the
-/// states after returns to `back`.
+/// Joins the state of a visited CALLI, changed by `entry`, at the entry of each function that `to`
+/// may name. Also joins the states after their returns at `back`.
 #[inline(never)]
 fn join_indirect_calls(
     alloc: Global,
@@ -83,8 +83,8 @@ fn join_indirect_calls(
     join_call_returns(alloc, table, v, targets.as_slice(), back)
 }
 
-/// Joins the state at the entries of the functions that a visited CALLI may call. `entry` is the
-/// change by a call. Joins nothing if a noted call shows that the entries are covered.
+/// Joins the state of a visited CALLI, changed by `entry`, at the entries of the functions
+/// `targets`. Joins nothing if a cached call shows that these are covered.
 fn join_indirect_call_entries(
     alloc: Global,
     table: &mut Table,
@@ -107,8 +107,8 @@ fn join_indirect_call_entries(
     Ok(())
 }
 
-/// Joins, at `back`, the states after the called functions return, and makes the visited point a
-/// reader of their exits.
+/// Joins, at the address `back`, the states after the functions `targets` return, and records that
+/// the visited call depends on their exits.
 fn join_call_returns(
     alloc: Global,
     table: &mut Table,
@@ -129,8 +129,8 @@ fn join_call_returns(
     Ok(())
 }
 
-/// Returns true only if the last noted call of these functions shows that their entries cover the
-/// visited point's state after the change `entry`.
+/// Returns whether the latest cached call of the functions `targets` covers the visited state
+/// changed by `entry`. If so, their entries cover that state too.
 fn has_covering_call(table: &Table, v: &Visit, entry: &Change, targets: &ArrayVec<u32, 128>) -> bool
     requires visited { VisitInvariantHolds v.now table.now }
     requires entry { state_after v.now.state.now entry.now ≡ call_entry v.now.state.now }
@@ -146,8 +146,8 @@ fn has_covering_call(table: &Table, v: &Visit, entry: &Change, targets: &ArrayVe
     }
 }
 
-/// Notes a call of two or more functions, whose entries are covered, as the latest of 16, unless
-/// the visited point has new work.
+/// Caches a call of the functions `targets`, whose entries now cover its state, as the latest of
+/// 16. Caches nothing for fewer than two functions, or if the visited point is queued again.
 #[inline(never)]
 fn cache_covered_call(
     alloc: Global,
@@ -175,8 +175,8 @@ fn cache_covered_call(
     Ok(())
 }
 
-/// Returns the entry state to note for a call of these functions, joined with that of their last
-/// noted call if there is one.
+/// Returns the entry state to cache for a call of the functions `targets`: the visited state
+/// changed by `entry`, joined with that of their latest cached call, if any.
 fn entry_to_cache(
     alloc: Global,
     table: &Table,

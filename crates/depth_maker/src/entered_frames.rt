@@ -13,8 +13,8 @@ use std::alloc::{AllocError, Global};
 use tc_isa::Shape;
 use tcd_plan::Plan;
 
-/// Returns the keys of the frames that a point's instruction enters by a call, a system call or a
-/// misaligned access, in that order.
+/// Returns the keys of the frames that the visited point's instruction `found` enters: by a call, a
+/// system call or a misaligned access, in that order.
 pub(crate) fn entered_frame_keys(
     alloc: Global,
     v: &Visit,
@@ -35,8 +35,8 @@ pub(crate) fn entered_frame_keys(
     Ok(keys)
 }
 
-/// Returns true only if an instruction of this shape enters no frame, interrupts apart: no call,
-/// SYSCALL, or access for which the plan has traps.
+/// Returns true only if an instruction of this shape enters no frame, except by interrupts. A load
+/// or store enters none if the plan has no trap of misaligned accesses.
 pub(crate) fn enters_no_frame(plan: &Plan, shape: Shape) -> bool
     ensures { IsTrue result → ShapeEntersNoFrame plan.now shape }
 {

@@ -29,9 +29,8 @@ pub(crate) struct VisitScratch {
     pub(crate) codes: KnownCodes,
 }
 
-/// Runs the maker's worklist algorithm: returns the table of the least closed assignment, or a
-/// refusal by a fault of a derived one. A function of its own, so that its stack room is free
-/// before the rows are made.
+/// Runs the maker's worklist algorithm: returns the table of the least fixpoint, or a refusal with
+/// a rule that fails on the way. Never inlined: its stack is free when needs are computed.
 #[inline(never)]
 pub(crate) fn least_fixpoint(alloc: Global, ground: &Ground) -> Result<Table, Refusal>
     ensures ok { IfOk result (IsLeastFixpointTable ground.now) }
@@ -46,7 +45,7 @@ pub(crate) fn least_fixpoint(alloc: Global, ground: &Ground) -> Result<Table, Re
     Ok(table)
 }
 
-/// Returns the maker's first table: only the start state at the image's entry is known, and that
+/// Returns the maker's first table: only the start state is known, at the image's entry, and that
 /// point is on the work list.
 #[inline(never)]
 fn initial_table(alloc: Global, ground: &Ground) -> Result<Table, Refusal>
@@ -116,7 +115,7 @@ fn empty_exit_readers(alloc: Global) -> IndexMap<Spot, Vec<Spot>>
 }
 
 /// Takes the next place off the maker's work list, and visits the place unless its work is done.
-/// Returns false if the list was empty.
+/// Returns false if the list was empty. `scratch` and `change` are overwritten.
 fn visit_next_place(
     alloc: Global,
     ground: &Ground,

@@ -48,8 +48,8 @@ impl InterruptContext {
         }
     }
 
-    /// Returns true only if the handlers' entries from this noted context cover those from a frame
-    /// with this state, on the interrupt stack if `is`.
+    /// Returns true only if handlers' entry states from this cached context cover those from the
+    /// state `s`, with the interrupt stack in use if `is`.
     pub(crate) fn covers(&self, is: bool, s: &State) -> bool
         requires own { IsWellFormed self.now.sp }
         requires other { IsWellFormed (a10_of s.now) }
@@ -58,8 +58,8 @@ impl InterruptContext {
         self.is == is && self.ccpn <= s.ccpn && self.covers_sp(s)
     }
 
-    /// Returns true only if the handlers' entries from this context cover those from frames with
-    /// this CCPN and any A10: none uses the interrupt stack.
+    /// Returns true only if this context covers the handlers' entries from frames with this CCPN
+    /// and any A10. Both must be off the interrupt stack, with `is` false.
     #[inline(always)]
     fn covers_any_sp(&self, is: bool, ccpn: u8) -> bool
         ensures { IsTrue result → (s : State) → s.ccpn ≡ ccpn → IsWithinContext self.now is s }
@@ -75,7 +75,7 @@ impl InterruptContext {
         self.is == is && self.ccpn == s.ccpn
     }
 
-    /// Joins the stack pointer A10 of a state into that of this interrupt context, which then
+    /// Joins A10, the stack pointer, of a state into that of this interrupt context, which then
     /// covers both.
     pub(crate) fn join_sp(&mut self, b: &Bounds, s: &State)
         requires own { IsInLattice b.now self.old.sp }
@@ -85,8 +85,8 @@ impl InterruptContext {
         self.sp = join(b, &self.sp, &s.regs[A10_SLOT]);
     }
 
-    /// Returns true if this interrupt context covers A10 of a state, or is off the interrupt stack,
-    /// where A10 doesn't matter to the handlers' entries.
+    /// Returns true if this context's stack pointer covers A10 of the state, or the context is off
+    /// the interrupt stack, where handlers don't get A10.
     fn covers_sp(&self, s: &State) -> bool
         requires own { IsWellFormed self.now.sp }
         requires other { IsWellFormed (a10_of s.now) }
@@ -97,8 +97,8 @@ impl InterruptContext {
     }
 }
 
-/// Returns true only if the last two noted contexts show that the visited point's interrupts enter
-/// no handler in a state that isn't covered.
+/// Returns whether one of the two cached interrupt contexts covers the visited state. If so, the
+/// entries of all handlers that may be entered there are covered.
 pub(crate) fn has_covering_context(table: &Table, v: &Visit) -> bool
     requires { VisitInvariantHolds v.now table.now }
     ensures { IsTrue result → AreDutiesCovered v.now table.now (interrupt_duties v.now) }
@@ -114,8 +114,8 @@ pub(crate) fn has_covering_context(table: &Table, v: &Visit) -> bool
     }
 }
 
-/// Returns true only if `is` is false and the last noted context, off the interrupt stack too,
-/// covers the handlers' entries for this CCPN.
+/// Returns true only if the last cached context covers the handlers' entries from each state with
+/// this CCPN off the interrupt stack. Always false if `is`, on that stack.
 #[inline(always)]
 pub(crate) fn has_covering_context_for_ccpn(table: &Table, is: bool, ccpn: u8) -> bool
     ensures { IsTrue result → HasCoveringContextForCcpn table.now is ccpn }
@@ -126,9 +126,9 @@ pub(crate) fn has_covering_context_for_ccpn(table: &Table, is: bool, ccpn: u8) -
     }
 }
 
-/// Notes the visited point's interrupt context as the last covered one, or joins A10 into the last
-/// if only A10 differs. Nothing is noted if the point has new work. A function of its own: a value
-/// takes room on its stack.
+/// Caches the visited point's interrupt context (stack in use, A10, CCPN), so that handler entries
+/// it covers aren't joined again. Joins A10 into the last context if only A10 differs. Does nothing
+/// if the point is queued again.
 #[inline(never)]
 pub(crate) fn cache_interrupt_context(table: &mut Table, v: &Visit)
     requires fine { TableInvariantHoldsForInputs v.now.ground.now table.old }

@@ -18,8 +18,8 @@ pub(crate) struct Handler {
     node: usize,
 }
 
-/// Returns a handler for each interrupt of the plan: its priority, and the number of the handler's
-/// frame.
+/// Returns the handler of each interrupt of the plan: the interrupt's priority, and the number of
+/// the handler's frame, which `numbers` gives by key.
 pub(crate) fn irq_handlers(
     alloc: Global,
     plan: &Plan,
@@ -56,8 +56,8 @@ pub(crate) fn append_handlers_if_enabled(
     Ok(())
 }
 
-/// Appends the frame numbers of the handlers of all interrupts above this priority to a row's
-/// entered frames, which have room.
+/// Appends to `into`, which has room, the frame number of the handler of each interrupt with a
+/// priority above `ccpn`.
 #[inline(always)]
 fn append_handlers_above(into: &mut Vec<usize>, ccpn: u8, handlers: &[Handler])
     requires { vec_len into.old + length handlers.now ≤ vec_capacity into.old }
@@ -68,8 +68,8 @@ fn append_handlers_above(into: &mut Vec<usize>, ccpn: u8, handlers: &[Handler])
     }
 }
 
-/// Appends a handler's frame number to a row's entered frames, which have room, if its interrupt is
-/// above this priority.
+/// Appends the frame number of `handler` to `into`, which has room, if its interrupt's priority is
+/// above `ccpn`.
 #[inline(always)]
 fn append_handler_if_above(into: &mut Vec<usize>, ccpn: u8, handler: &Handler)
     requires { vec_len into.old < vec_capacity into.old }

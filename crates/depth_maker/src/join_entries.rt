@@ -29,8 +29,8 @@ use std::alloc::Global;
 use tc_isa::Shape;
 use vd_transfer::Change;
 
-/// Joins what a visited call or SYSCALL owes: the entries of the frames, and the states after their
-/// returns. Other instructions owe none of these. `c` is overwritten.
+/// Joins the state of a visited call or SYSCALL at the entries of the frames entered, and the
+/// states after their returns. Does nothing for other instructions. `c` is overwritten.
 pub(crate) fn join_entry_duties(
     alloc: Global,
     table: &mut Table,
@@ -53,8 +53,8 @@ pub(crate) fn join_entry_duties(
     }
 }
 
-/// Joins what a visited access owes: the entry of the handler of misaligned accesses, if that trap
-/// is planned and may happen.
+/// Joins the visited point's state at the entry of the handler of misaligned accesses. Does nothing
+/// if the access is aligned or the plan has no such trap.
 pub(crate) fn join_misaligned_duties(
     alloc: Global,
     table: &mut Table,
@@ -73,8 +73,8 @@ pub(crate) fn join_misaligned_duties(
     join_misaligned_entry(alloc, table, v)
 }
 
-/// Joins the entries of the handlers of all interrupts that may be taken at the visited point; none
-/// if IE is off.
+/// Joins the visited point's state at the entries of the handlers of all interrupts that may be
+/// taken there; none if IE is off.
 pub(crate) fn join_irq_duties(alloc: Global, table: &mut Table, v: &Visit) -> Result<(), Refusal>
     requires visited { VisitInvariantHolds v.now table.old }
     requires owes { OwesDuties v.now (interrupt_duties v.now) }
@@ -96,7 +96,8 @@ pub(crate) fn join_irq_duties(alloc: Global, table: &mut Table, v: &Visit) -> Re
     Ok(())
 }
 
-/// Joins the state after a call, the change `entry`, at the entry of each of these functions.
+/// Joins the visited point's state, changed by `entry` as by a call, at the entry of each function
+/// in `targets`.
 pub(crate) fn join_call_entries(
     alloc: Global,
     table: &mut Table,
@@ -117,8 +118,8 @@ pub(crate) fn join_call_entries(
     Ok(())
 }
 
-/// Joins the visited point's changed state at the entry point of the frame `key`, which the point
-/// enters.
+/// Joins the visited point's state, changed by `c`, at the entry point of the frame `key`, which
+/// the point enters.
 pub(crate) fn join_entry(
     alloc: Global,
     table: &mut Table,
@@ -139,8 +140,8 @@ pub(crate) fn join_entry(
     join_at_place(alloc, table, v, &Spot::Point(key, key.entry), &incoming)
 }
 
-/// Makes the visited point a reader of the exit of the frame `key`, and joins the state after that
-/// frame's return at `back`.
+/// Records that the visited point depends on the exit of the frame `key`, and joins the state after
+/// that frame's return at the address `back`.
 pub(crate) fn read_exit_and_join_return(
     alloc: Global,
     table: &mut Table,
@@ -162,8 +163,8 @@ pub(crate) fn read_exit_and_join_return(
     join_return(alloc, table, v, key, back)
 }
 
-/// Joins the visited point's changed state at the entry of the frame `key`, and the state after
-/// that frame's return at `back`.
+/// Joins the visited point's state, changed by `c`, at the entry of the frame `key`. Also joins the
+/// state after that frame's return at the address `back`.
 pub(crate) fn join_entry_and_return(
     alloc: Global,
     table: &mut Table,
@@ -183,8 +184,8 @@ pub(crate) fn join_entry_and_return(
     read_exit_and_join_return(alloc, table, v, key, back)
 }
 
-/// Joins the entry of the handler of SYSCALL with the number `tin`, and the state after its return
-/// at `back`. A function of its own: a change takes room on its stack.
+/// Joins the visited point's state at the entry of the handler of SYSCALL `tin`, and the state
+/// after its return at `back`. Never inlined, to keep a large `Change` off the caller's stack.
 #[inline(never)]
 fn join_system_call_duties(
     alloc: Global,
@@ -204,8 +205,8 @@ fn join_system_call_duties(
     join_entry_and_return(alloc, table, v, sys_key(g.plan, &v.key), &entry, back)
 }
 
-/// Joins the entry of the handler of misaligned accesses, which the visited load or store may enter
-/// by a trap. A function of its own: a change takes room on its stack.
+/// Joins the visited point's state at the entry of the handler of misaligned accesses, which its
+/// load or store may enter. Never inlined, to keep a large `Change` off the caller's stack.
 #[inline(never)]
 fn join_misaligned_entry(alloc: Global, table: &mut Table, v: &Visit) -> Result<(), Refusal>
     requires visited { VisitInvariantHolds v.now table.old }
@@ -218,8 +219,8 @@ fn join_misaligned_entry(alloc: Global, table: &mut Table, v: &Visit) -> Result<
     join_entry(alloc, table, v, aln_key(g.plan, &v.key), &entry)
 }
 
-/// Joins the entries of the handlers of these interrupts, which are all that may be taken at the
-/// visited point. A function of its own: a change takes room on its stack.
+/// Joins the visited point's state at the entries of the handlers of `irqs`, all interrupts that
+/// may be taken there. Never inlined, to keep a large `Change` off the caller's stack.
 #[inline(never)]
 fn join_interrupt_entries(
     alloc: Global,
@@ -237,8 +238,8 @@ fn join_interrupt_entries(
     join_each_handler_entry(alloc, table, v, irqs, entry)
 }
 
-/// Joins the entry of the handler of each of these interrupts at the visited point. `entry` is the
-/// change at an entry, apart from CCPN.
+/// Joins the visited point's state at the entry of the handler of each interrupt in `irqs`. The
+/// state is changed by `entry`, with CCPN at the interrupt's priority.
 fn join_each_handler_entry(
     alloc: Global,
     table: &mut Table,

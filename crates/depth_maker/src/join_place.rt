@@ -26,9 +26,8 @@ use indexmap::IndexMap;
 use small_states::{Incoming, SmallKnown, incoming_ccpn};
 use std::alloc::{AllocError, Global};
 
-/// Adds the place `y` with this incoming value to the table, and records its point and frame.
-/// Returns `None`; or its number, with nothing added, if `y` is known. Never inlined: with its text
-/// in two callers, LLVM would inline neither `add_or_find_place` nor the pushes of `record_place`.
+/// Adds the place `y` (a point or an exit) with this value to the table and returns `None`, or
+/// returns its number if known. Never inlined, so that LLVM inlines the functions called here.
 #[inline(never)]
 pub(crate) fn add_place_if_new(
     table: &mut Table,
@@ -50,8 +49,8 @@ pub(crate) fn add_place_if_new(
     }
 }
 
-/// Joins what flows from the visited point into the place `y` of the maker's table. If an exit `y`
-/// rose, its readers are queued.
+/// Joins the value `incoming`, which flows from the visited point, at the place `y` (a point or an
+/// exit) of the maker's table. If an exit `y` rose, the points that depend on `y` are queued.
 pub(crate) fn join_at_place(
     alloc: Global,
     table: &mut Table,
@@ -83,8 +82,8 @@ pub(crate) fn join_at_place(
     Ok(())
 }
 
-/// Joins what flows from the visited point into the place `y`, without queuing readers of `y`.
-/// Returns false if `y` covered the incoming value already.
+/// Joins the value `incoming` from the visited point at the place `y` (a point or an exit), without
+/// queuing readers of `y`. Returns false if `y` covered that value already.
 fn join_without_requeuing(
     alloc: Global,
     table: &mut Table,
@@ -116,7 +115,7 @@ fn join_without_requeuing(
 }
 
 /// Puts the points that read the raised exit `y` on the work list, for the next round if `waits`,
-/// and forgets that they read `y`. A point has no readers.
+/// and forgets that they read `y`. A point `y` has no readers.
 fn requeue_readers_after_join(
     places: &mut IndexMap<Spot, Marked<SmallKnown>>,
     work: &mut Work,
@@ -138,8 +137,8 @@ fn requeue_readers_after_join(
     requeue_readers_of(places, work, readers, *y, waits)
 }
 
-/// Raises the known place `y` with this number by what flows from the visited point, and queues
-/// `y`. Returns false if `y` covered the incoming value already.
+/// Joins the value `incoming` from the visited point at the known place `y` with this number, and
+/// queues `y`. Returns false if `y` covered that value already.
 fn join_known_place(
     alloc: Global,
     table: &mut Table,

@@ -33,8 +33,8 @@ struct Side {
     to: u32,
 }
 
-/// Joins the visited point's successors in the same frame. Those after calls and system calls are
-/// left to `join_entry_duties`. `c` is overwritten.
+/// Joins the state after the visited instruction `found` at its successors in the frame, except
+/// after calls (`join_entry_duties`). `c` is overwritten; `cache` has results of set operations.
 pub(crate) fn join_successors(
     alloc: Global,
     table: &mut Table,
@@ -75,8 +75,8 @@ pub(crate) fn join_successors(
     }
 }
 
-/// Joins the visited point's state, changed by `c`, at the successor `to` in the same frame, unless
-/// the point has new work.
+/// Joins the visited point's state, changed by `c`, at the address `to` in the same frame. Does
+/// nothing if the point is queued again.
 pub(crate) fn join_successor(
     alloc: Global,
     table: &mut Table,
@@ -96,8 +96,8 @@ pub(crate) fn join_successor(
     join_first_successor(alloc, table, v, to, c)
 }
 
-/// Joins the visited point's state, changed by `c`, at the successor `to` in the same frame. This
-/// is the first join of a visit, so the table still has that state.
+/// Joins the visited point's state, changed by `c`, at the address `to` in the same frame. Only for
+/// the first join of a visit, when the table still has that state.
 pub(crate) fn join_first_successor(
     alloc: Global,
     table: &mut Table,
@@ -116,8 +116,8 @@ pub(crate) fn join_first_successor(
     join_at_place(alloc, table, v, &Spot::Point(v.key, to), &incoming)
 }
 
-/// Joins the exit of the visited point's frame, at RET or RFE, with the lower registers, IE and
-/// CCPN of its state.
+/// Joins the lower registers, IE and CCPN of the visited state at the exit of its frame, which RET
+/// or RFE leaves.
 pub(crate) fn join_exit(alloc: Global, table: &mut Table, v: &Visit) -> Result<(), Refusal>
     requires visited { VisitInvariantHolds v.now table.old }
     requires owes { OwesDuty v.now (leave (exit_of_state v.now.state.now)) }
@@ -132,8 +132,8 @@ pub(crate) fn join_exit(alloc: Global, table: &mut Table, v: &Visit) -> Result<(
     join_at_place(alloc, table, v, &Spot::Exit(v.key), &incoming)
 }
 
-/// Joins, at the successor `back`, the state after the frame `key` returned, if the exit of that
-/// frame is known.
+/// Joins, at the address `back`, the visited state after the frame `key` returned, if the exit of
+/// that frame is known.
 pub(crate) fn join_return(
     alloc: Global,
     table: &mut Table,
@@ -188,8 +188,8 @@ pub(crate) fn join_exit_if_leaving(
     }
 }
 
-/// Joins both sides of a visited branch: its state, refined by the condition, at the next address
-/// and at the target. `c` is overwritten.
+/// Joins the state of a visited branch, refined by its condition, on both sides: `next` at the next
+/// address, `taken` at the target. `c` is overwritten.
 fn join_branch_sides(
     alloc: Global,
     table: &mut Table,
@@ -238,8 +238,8 @@ fn join_jump_targets(
     }
 }
 
-/// Joins the state after the visited instruction at the next address, as the first join of a visit.
-/// `c` is overwritten.
+/// Joins the state after the visited instruction `found` at the next address, as the first join of
+/// a visit. `c` is overwritten; `cache` has results of set operations.
 fn join_next_instruction(
     alloc: Global,
     table: &mut Table,
@@ -261,8 +261,8 @@ fn join_next_instruction(
     join_first_successor(alloc, table, v, v.addr.wrapping_add(found.size), &*c)
 }
 
-/// Joins one side of a visited branch, refined by its condition, if the state lets the branch go
-/// that way. `c` is overwritten.
+/// Joins the state of a visited branch, refined by its condition, at the successor on one side.
+/// Does nothing if that state rules the side out. `c` is overwritten.
 fn join_branch_side(
     alloc: Global,
     table: &mut Table,

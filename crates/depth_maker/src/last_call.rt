@@ -24,8 +24,8 @@ pub(crate) struct LastCall {
 }
 
 impl LastCall {
-    /// Returns a call of these functions from a frame with this key, with the state at their
-    /// entries, to be noted as covered.
+    /// Returns the cache entry for a call of the functions `targets` from the frame `key`: `entry`
+    /// is a state that all their entries cover.
     pub(crate) fn of(key: &Key, targets: &ArrayVec<u32, 128>, entry: SmallKnown) -> LastCall
         ensures { IsCallOf result key.now targets.now.items entry }
     {
@@ -40,8 +40,8 @@ impl LastCall {
     }
 }
 
-/// Returns the latest of these noted calls of exactly these functions from a frame with the
-/// priority and stack of `key`, or `None`.
+/// Returns the latest of these cached calls of exactly the functions `targets` from a frame with
+/// the priority and stack of `key`, or `None`.
 pub(crate) fn find_cached_call<'a>(
     calls: &'a [LastCall],
     key: &Key,

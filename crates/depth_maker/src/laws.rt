@@ -3,39 +3,39 @@ ghost use Rattle.depth_maker.specs.DutiesMonotone.{AddressesAreMonotone, ReturnS
 ghost use Rattle.depth_maker.specs.WellFormedAssignments.{ReturnStatesAreWellFormed, DutiesAreWellFormed};
 ghost use Rattle.depth_maker.specs.MakerLaws.{MakeErrExcludesCerts, AcceptedIsClosed, DerivedIsBelowClosed, ClosedExcludesFaults, AcceptedExcludesRefusals, SolutionIsAccepted, RefusalMeansNoCertAccepted, LeastFixpointIsLeastCert, LeastCertIsLeastAccepted};
 
-/// Laws of the maker: what a point owes is monotone in its state, and well-formed. A point without
-/// faults has none with a smaller state.
+/// Laws behind the least certificate: with a greater state, a point has no fewer faults and asks no
+/// less of successors, entered frames and exit. What the point asks is well-formed.
 pub fn duty_monotonicity_laws()
     ensures faults { FaultsAreMonotone }
     ensures duties { DutiesAreMonotone }
     ensures well_formed { DutiesAreWellFormed }
 {}
 
-/// Laws of the maker: the state after a return is monotone in the caller's state and in the exit,
-/// and well-formed.
+/// Laws on which the least certificate rests: the state after a return grows with the caller's
+/// state and with the exit, and is well-formed.
 pub fn return_state_laws()
     ensures grows { ReturnStatesAreMonotone }
     ensures well_formed { ReturnStatesAreWellFormed }
 {}
 
-/// Laws of the maker: effects of instructions, addresses of accesses and sides of branches are
-/// monotone in the state.
+/// Laws on which the least certificate rests: effects of instructions, addresses of accesses and
+/// states on the sides of branches grow with the state before.
 pub fn effect_monotonicity_laws()
     ensures transfers { TransfersAreMonotone }
     ensures addresses { AddressesAreMonotone }
     ensures sides { BranchSidesAreMonotone }
 {}
 
-/// Laws of the maker: every derived assignment is below every closed one without faults, which
-/// shows that no derived one has a fault.
+/// Laws of the maker: states that the worklist derives are below each post-fixpoint without faults.
+/// So if there is such a post-fixpoint within the limits, no derived state has a fault.
 pub fn derived_assignment_laws()
     ensures below { DerivedIsBelowClosed }
     ensures faults { ClosedExcludesFaults }
 {}
 
-/// Laws of the maker: an accepted certificate is a closed assignment without faults, and excludes
-/// all refusals. A certificate of a maker's solution, whose nodes have their entry points, is
-/// accepted.
+/// Laws of the maker: an accepted certificate is a post-fixpoint without faults, and excludes all
+/// refusals. A certificate of such a post-fixpoint within the limits, with entry points and
+/// sufficient needs, is accepted.
 pub fn accepted_cert_laws()
     ensures closed { AcceptedIsClosed }
     ensures refusals { AcceptedExcludesRefusals }

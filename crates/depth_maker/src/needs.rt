@@ -25,10 +25,9 @@ pub(crate) fn need_limit(plan: &Plan) -> u32
     plan.areas - plan.reserve
 }
 
-/// Returns the frames' least needs, by their numbers. If the start needs more than the areas
-/// without the reserve, the error is the first recursion, if any. Passes begin at the last row, and
-/// interrupts enter frames of higher priority, so the rows of these are last. If a few passes don't
-/// find the needs, rows are in the order of the ranks.
+/// Returns each frame's least need of areas, by frame number. If the start needs more than the
+/// areas without the reserve, the error is the first recursive point, or `None` without recursion.
+/// Rows are sorted by priority or rank, to take few passes.
 pub(crate) fn least_frame_needs(
     alloc: Global,
     source: &Source,
@@ -54,8 +53,8 @@ pub(crate) fn least_frame_needs(
     least_needs_from_rows(alloc, source, rows.as_slice(), recurs, frames)
 }
 
-/// Returns the refusal by K14 if too many areas are needed: at the first recursion, or at the
-/// start's entry if there is none.
+/// Returns the refusal by K14, the rule on needs, if the start needs too many areas: at `place`,
+/// the first recursion, or at the start's entry if there is none.
 pub(crate) fn need_refusal(source: &Source, place: Option<(Key, u32)>) -> MakeErr
     requires source { HasFinishedTable source.now }
     requires none { StartNeedsTooManyAreas source.now }
@@ -79,8 +78,8 @@ pub(crate) fn need_refusal(source: &Source, place: Option<(Key, u32)>) -> MakeEr
     }
 }
 
-/// Returns the least needs that meet these rows of all points. The error is the first recursion
-/// `recurs`; or `None`, if there is none and no needs are within the areas.
+/// Returns each frame's least need of areas, by frame number, from the rows of all points. The
+/// error is `recurs`, the first recursive point, or `None` if needs exceed the plan's areas.
 fn least_needs_from_rows(
     alloc: Global,
     source: &Source,

@@ -16,9 +16,8 @@ use frame_places::{Refusal, Spot};
 use std::alloc::Global;
 use tc_isa::Shape;
 
-/// Joins a nop's or jump's state at its new successor, which shares the state unread. Otherwise
-/// joins nothing, and returns false. Tried only at the place that was found last: other places'
-/// successors are mostly known.
+/// Fast path of a visit: adds an unknown successor of a nop or direct jump with a copy of its
+/// state, and returns true. If that isn't possible, joins nothing and returns false.
 pub(crate) fn share_state(alloc: Global, table: &mut Table, site: &Site) -> Result<bool, Refusal>
     requires fine { TableInvariantHoldsForInputs site.now.ground.now table.old }
     requires near { IsVisitedPlace table.old (Point site.now.key site.now.addr) }
@@ -61,8 +60,8 @@ fn unchanged_state_successor(site: &Site) -> Option<u32>
     }
 }
 
-/// Returns true only if the visited point was found last, and its interrupts' entries are covered,
-/// so that a new successor may share its state.
+/// Returns true only if the visited point was added to the table last, and the entries of its
+/// interrupts' handlers are covered. Then a new successor may get a copy of its state.
 #[inline(always)]
 fn may_share_state(table: &Table, site: &Site) -> bool
     requires fine { TableInvariantHoldsForInputs site.now.ground.now table.now }

@@ -13,8 +13,8 @@ use frame_places::{
 use small_states::ScratchState;
 use std::alloc::{AllocError, Global};
 
-/// Returns the first point, by key and address, that enters a frame from which the point's frame is
-/// reached, or `None` without recursive frames.
+/// Returns the first point, by key and address, that enters a frame from which its own is reached;
+/// `None` without recursion. `edges` is the call graph of `frames`, `ranks` its topological order.
 pub(crate) fn first_recursion(
     alloc: Global,
     source: &Source,
@@ -40,7 +40,8 @@ pub(crate) fn first_recursion(
     }
 }
 
-/// Returns the least address at which a point of frame `key` enters a marked frame, or `None`.
+/// Returns the least address among those of `points` that are of the frame `key` and enter a marked
+/// frame, or `None`. Marked, by frame number, are the frames that reach `key`.
 fn first_recursive_address(
     alloc: Global,
     source: &Source,
@@ -58,8 +59,8 @@ fn first_recursive_address(
     Ok(first)
 }
 
-/// Returns the lesser of `first` and the place's address, if the place is a point of frame `key`
-/// that enters a marked frame; else `first`.
+/// Returns the lesser of `first` and the place's address, if the place is a point of the frame
+/// `key` that enters a marked frame; else `first`. Marks are by frame number.
 fn lesser_recursive_address(
     alloc: Global,
     source: &Source,
@@ -86,8 +87,8 @@ fn lesser_recursive_address(
     }
 }
 
-/// Returns whether the point at `addr` of the frame `key` enters a frame with a mark; false if the
-/// point isn't known.
+/// Returns whether the point at `addr` of the frame `key` enters a frame whose number is marked
+/// true in `marks`; false if the point isn't known.
 fn enters_marked_frame(
     alloc: Global,
     source: &Source,

@@ -42,8 +42,8 @@ pub(crate) struct KnownPoint<'a> {
     pub(crate) known: &'a Marked<SmallKnown>,
 }
 
-/// Returns the row of a known point for the needs: its frame, its number of locals, and the frames
-/// that it enters. `state` is room that is overwritten.
+/// Returns the row of the known point `at`, from which needs are computed: its frame, its number of
+/// saved lower contexts, and the frames entered. `state` is overwritten.
 pub(crate) fn point_row(
     alloc: Global,
     source: &Source,
@@ -69,8 +69,8 @@ pub(crate) fn point_row(
     }
 }
 
-/// Returns the visited point's row for the needs: its frame's number, `node`; its number of locals;
-/// and the frames that its instruction and interrupts enter.
+/// Returns the visited point's row, from which needs are computed: its frame's number `node`, its
+/// saved lower contexts, and the frames that the instruction `found` and interrupts enter.
 fn visited_point_row(
     alloc: Global,
     v: &Visit,
@@ -109,8 +109,8 @@ pub(crate) struct RowsDraft {
     node: usize,
 }
 
-/// Returns the rows of all known points, from which needs are computed. A plain point with an equal
-/// row in its frame adds none.
+/// Returns a row for each point of the finished table: its frame, its saved lower contexts, and the
+/// frames entered. A row equal to an earlier one may be left out.
 pub(crate) fn need_rows(alloc: Global, source: &Source) -> Result<Vec<NeedRow>, AllocError>
     requires { HasFinishedTable source.now }
     ensures { IfOk result (λ rows. AreRowsOfTable source.now.ground.now source.now.table.now rows.items) }
@@ -128,7 +128,8 @@ pub(crate) fn need_rows(alloc: Global, source: &Source) -> Result<Vec<NeedRow>, 
     Ok(rows)
 }
 
-/// Appends the row of the place with the number `entry`, if a point without an equal row.
+/// Appends to the draft the row (frame, saved lower contexts, entered frames) of the place with the
+/// number `entry`. An exit adds none, nor does a point whose row is known to be listed.
 #[inline(always)]
 fn add_row_of_place(
     alloc: Global,
@@ -162,8 +163,8 @@ fn add_row_of_place(
     Ok(())
 }
 
-/// Returns true only if a row of the frame `node`, by its noted outline, equals that of a plain
-/// point with this value.
+/// Returns true only if the point enters frames only by interrupts, and its outline (IE, CCPN,
+/// saved lower contexts) is listed for its frame `node`. Then the point needs no row of its own.
 #[inline(always)]
 fn has_listed_outline(outlines: &[Option<Outline>], node: usize, known: &Marked<SmallKnown>) -> bool
     ensures { IsTrue result → HasListedOutline outlines.now node known.now }
@@ -181,8 +182,8 @@ fn has_listed_outline(outlines: &[Option<Outline>], node: usize, known: &Marked<
     }
 }
 
-/// Appends the row of a known point. If the point is plain, so that its instruction enters no
-/// frame, IE, CCPN and the number of locals give the row.
+/// Appends the row of the known point `at` to the draft: its frame, saved lower contexts, and
+/// entered frames. If interrupts alone enter frames there, no instruction is decoded.
 #[inline(never)]
 fn add_point_row(
     alloc: Global,

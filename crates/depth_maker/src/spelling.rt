@@ -23,6 +23,7 @@ pub(crate) fn ccpn_fits_byte(_byte: u8)
 {}
 
 /// Appends the certificate's bytes of one point of the maker's table: its address and its state.
+/// `point` is the point's entry in the table.
 fn append_table_point(
     out: &mut Vec<u8>,
     source: &Source,
@@ -81,7 +82,8 @@ fn append_table_exit(out: &mut Vec<u8>, source: &Source, key: Key) -> Result<(),
     Ok(())
 }
 
-/// Returns the least need of a frame, in areas, as a certificate's number of two bytes.
+/// Returns the least need of the frame `key`, in areas, as a certificate's number of two bytes.
+/// `needs` has the needs by the numbers of frames.
 fn need_as_u16(source: &Source, needs: &[u32], key: Key) -> u16
     requires source { HasFinishedTable source.now }
     requires needs { AreLeastTableNeeds source.now needs.now }
@@ -104,7 +106,7 @@ pub(crate) struct Ordered<'a> {
 }
 
 /// Returns the bytes of the certificate of the maker's finished table: the header, and a node for
-/// each frame with its least need.
+/// each frame with its least need, from `needs` by frame number.
 pub(crate) fn serialize_cert(
     alloc: Global,
     source: &Source,

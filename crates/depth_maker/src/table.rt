@@ -30,8 +30,8 @@ pub(crate) struct Table {
 /// a certificate; exits are places too, so more room may be needed later.
 const MOST_ROOM: usize = 65536;
 
-/// Returns the number of places that the maker's table has room for at first: the image's
-/// halfwords, at most 65,536.
+/// Returns the number of places (points and exits) that the maker's table has room for at first:
+/// the image's halfwords, at most 65,536.
 pub(crate) fn initial_table_capacity(image: &Image) -> usize {
     let mut room: usize = 0;
     for segment in image.segments.iter() {

@@ -27,8 +27,8 @@ use std::alloc::Global;
 use tc_isa::Shape;
 use vd_transfer::Change;
 
-/// Joins what the visited place, with the number `table.near`, owes; an exit owes nothing. Returns
-/// true only if its instruction enters no frame by itself.
+/// Visits the place number `table.near`: for a point, joins the states that its instruction leads
+/// to. Returns true only if that enters no frame. `scratch` and `change` are overwritten.
 pub(crate) fn visit_place(
     alloc: Global,
     ground: &Ground,
@@ -66,8 +66,8 @@ pub(crate) fn visit_place(
     visit_point(alloc, table, &site, scratch, change, cache)
 }
 
-/// Writes to `c` the change from the visited point's state to the state after its instruction,
-/// which may be in `cache`.
+/// Writes to `c` the change from the visited point's state to the state after its instruction. The
+/// result of an operation on two sets may come from `cache`.
 #[inline(always)]
 pub(crate) fn write_step_change(v: &Visit, shape: Shape, c: &mut Change, cache: &mut OperationCache)
     requires shape { IsShapeInBounds shape }
@@ -84,8 +84,8 @@ pub(crate) fn write_step_change(v: &Visit, shape: Shape, c: &mut Change, cache: 
     write_successor_change(g.bounds, g.image, g.plan, shape, v.state, c);
 }
 
-/// Joins all that the visited point owes: successors, entries of frames, interrupts, and the exit.
-/// `c` is overwritten.
+/// Joins all that the visited point owes: states at successors, entries of frames, interrupts, and
+/// the exit. `c` is overwritten; `cache` has results of set operations.
 fn join_visit_duties(
     alloc: Global,
     table: &mut Table,
@@ -109,8 +109,8 @@ fn join_visit_duties(
     join_exit_if_leaving(alloc, table, v, found.shape)
 }
 
-/// Visits a point: joins what its state owes, or refuses by the rule that fails there. Returns true
-/// only if its instruction enters no frame. `change` is overwritten.
+/// Joins what follows from the instruction at `site`, or refuses with a rule that fails there.
+/// Returns true only if the instruction enters no frame. `scratch` and `change` are overwritten.
 fn visit_point(
     alloc: Global,
     table: &mut Table,

@@ -36,7 +36,7 @@ abbrev pub are_all_segments_disjoint : List SegmentData → Bool
 are_all_segments_disjoint [] = true
 are_all_segments_disjoint (s ∷ ss) = list_all (are_segments_disjoint s) ss && are_all_segments_disjoint ss
 
--- the bytes in the segments of an image are numbers below 256
+-- the segments of an image hold only bytes, numbers below 256
 abbrev pub HoldOnlyBytes : List SegmentData → Type 0
 HoldOnlyBytes segments = All (λ (s : SegmentData). All (λ b. b < 2 ^ 8) s.bytes) segments
 

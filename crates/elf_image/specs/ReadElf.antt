@@ -8,11 +8,12 @@ use Rattle.elf_image.specs.declared.headers.Header.{Header}
 use Rattle.elf_image.specs.declared.errors.ImageErr.{ImageErr}
 use Rattle.elf_image.specs.declared.errors.ImageErr.TheVariants.{Short, NotElf32Le, NotTriCore, NotExec, BadSegment, TooLarge, Overlap, NoMemory}
 
--- the two bytes of a file from a place on, the least significant first (Elf32_Half in ELFDATA2LSB)
+-- the two bytes of a file at an offset, the least significant first (Elf32_Half in ELFDATA2LSB)
 unfoldable pub elf_half_at : List ℕ → ℕ → ℕ
 elf_half_at bytes at = slice_index bytes at + slice_index bytes (at + 1) * 2 ^ 8
 
--- the four bytes of a file from a place on (Elf32_Word, Elf32_Addr and Elf32_Off)
+-- the four bytes of a file at an offset, the least significant first (Elf32_Word, Elf32_Addr and
+-- Elf32_Off)
 unfoldable pub elf_word_at : List ℕ → ℕ → ℕ
 elf_word_at bytes at =
     slice_index bytes at + slice_index bytes (at + 1) * 2 ^ 8
@@ -93,7 +94,7 @@ is_bad_header bytes h = is_truncated_header bytes h.number || (is_load h && has_
 unfoldable pub loads_file_bytes : Header → Bool
 loads_file_bytes h = is_load h && nat_lt 0 h.file_size
 
--- the program headers that load bytes of the file, in order
+-- the program headers of type PT_LOAD with bytes in the file, in order
 unfoldable pub loading_headers : List ℕ → List Header
 loading_headers bytes = filter loads_file_bytes (program_headers_of bytes)
 

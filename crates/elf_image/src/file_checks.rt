@@ -10,7 +10,7 @@ use crate::headers::{
     program_header_at, program_header_offset,
 };
 
-// Checks that a file begins with the ELF header of an executable for this machine.
+// Checks that a file begins with the header of a 32-bit little-endian ELF executable for TriCore.
 #[tactic(auto, unfolding(crate::specs::ReadElf::elf_header_refusal))]
 pub(crate) fn check_elf_header(bytes: &[u8]) -> Result<(), ImageErr>
     ensures refusal { result_err result ≡ elf_header_refusal bytes.now }
@@ -31,7 +31,8 @@ pub(crate) fn check_elf_header(bytes: &[u8]) -> Result<(), ImageErr>
     Ok(())
 }
 
-// Checks that the program headers of an ELF file have 32 bytes each, and that none is bad.
+// Checks that each program header of an ELF file has 32 bytes, is wholly in the file, and loads
+// bytes within bounds. The error names the first that doesn't.
 #[tactic(auto, unfolding(crate::specs::ReadElf::program_header_refusal))]
 pub(crate) fn check_program_headers(bytes: &[u8]) -> Result<(), ImageErr>
     requires { 52 ≤ length bytes.now }
@@ -46,7 +47,8 @@ pub(crate) fn check_program_headers(bytes: &[u8]) -> Result<(), ImageErr>
     }
 }
 
-// Checks that no two program headers of an ELF file load bytes to the same address.
+// Checks that no two of the program headers `loads` load bytes to the same address. The error has
+// the numbers of the first two that do.
 #[tactic(auto, unfolding(crate::specs::ReadElf::overlap_refusal))]
 pub(crate) fn check_no_segment_overlap(loads: &[Header]) -> Result<(), ImageErr>
     ensures { result_err result ≡ overlap_refusal loads.now }
@@ -59,8 +61,8 @@ pub(crate) fn check_no_segment_overlap(loads: &[Header]) -> Result<(), ImageErr>
     Ok(())
 }
 
-/// Returns true if the bytes of a program header pass the end of a file of length `len`, address
-/// 2^32, or the header's memory size.
+/// Returns true if the bytes that a program header loads pass the file's end (`len`), address 2^32
+/// or the header's memory size.
 pub(crate) fn has_bytes_out_of_bounds(len: usize, header: &Header) -> bool
     ensures { result ≡ has_bytes_out_of_bounds len header.now }
 {
@@ -70,8 +72,8 @@ pub(crate) fn has_bytes_out_of_bounds(len: usize, header: &Header) -> bool
         || header.memory_size < header.file_size
 }
 
-// Returns true if the program header with this number isn't wholly in the file, or is of type
-// PT_LOAD with bytes that pass a bound.
+// Returns true if program header `number`, from 0, isn't wholly in the file, or is PT_LOAD with
+// bytes past the file's end, 2^32 or its memory size.
 #[tactic(auto, unfolding(crate::specs::ReadElf::is_bad_header, crate::specs::ReadElf::program_header_at))]
 pub(crate) fn is_bad_header(bytes: &[u8], number: u16) -> bool
     requires { 52 ≤ length bytes.now }
@@ -84,8 +86,7 @@ pub(crate) fn is_bad_header(bytes: &[u8], number: u16) -> bool
     header.kind == PT_LOAD && has_bytes_out_of_bounds(bytes.len(), &header)
 }
 
-/// Returns true if the bytes that two program headers load share an address, for which an ELF file
-/// is refused.
+/// Returns true if the bytes that two program headers load overlap in memory.
 #[tactic(auto, unfolding(crate::specs::ReadElf::has_overlap_with))]
 pub(crate) fn has_overlap_with(header: &Header, other: &Header) -> bool
     ensures { result ≡ has_overlap_with header.now other.now }
@@ -94,7 +95,8 @@ pub(crate) fn has_overlap_with(header: &Header, other: &Header) -> bool
     at < other_at + u64::from(other.file_size) && other_at < at + u64::from(header.file_size)
 }
 
-// Returns the number of the first bad program header, or `None` if all are good.
+// Returns the number of the first program header that is cut off or has bytes that pass a bound, or
+// None if all are good.
 fn first_bad_header(bytes: &[u8]) -> Option<u32>
     requires { 52 ≤ length bytes.now }
     ensures { result ≡ option_map (λ h. h.number)
@@ -109,7 +111,8 @@ fn first_bad_header(bytes: &[u8]) -> Option<u32>
     None
 }
 
-// Returns the number of the first of `others` that shares an address with `header`, or `None`.
+// Returns the number in the file of the first of `others` that loads a byte to an address of
+// `header`, or None.
 fn first_overlapping_header(header: &Header, others: &[Header]) -> Option<u32>
     ensures { result ≡ option_map (λ k. k.number) (find (has_overlap_with header.now) others.now) }
 {

@@ -6,7 +6,8 @@ ghost use Rattle.elf_image.specs.WrittenElf.{elf_header, program_header, program
 use crate::{ImageErr, Segment};
 use std::alloc::Global;
 
-// Returns the ELF file of these segments. The program begins at the address `entry`.
+// Returns the ELF file of an image with these segments, whose program begins at the address
+// `entry`.
 #[tactic(auto, unfolding(crate::specs::WrittenElf::elf_file))]
 pub(crate) fn elf_file(alloc: Global, entry: u32, segments: &[Segment]) -> Result<Vec<u8>, ImageErr>
     requires few { length segments.now ≤ 64 }
@@ -38,7 +39,8 @@ fn elf_header(entry: u32, count: u16) -> [u8; 52]
     ]
 }
 
-// Appends the program headers of these segments to an ELF file.
+// Appends a program header for each of these segments to an ELF file, whose segments' bytes follow
+// the program headers.
 #[tactic(auto, unfolding(crate::specs::WrittenElf::program_headers))]
 fn append_program_headers(out: &mut Vec<u8>, segments: &[Segment]) -> Result<(), ImageErr>
     requires few { length segments.now ≤ 64 }
@@ -57,7 +59,7 @@ fn append_program_headers(out: &mut Vec<u8>, segments: &[Segment]) -> Result<(),
     Ok(())
 }
 
-// Appends the bytes of these segments to an ELF file, without gaps.
+// Appends the bytes of these segments to an ELF file, one segment after another, without gaps.
 #[tactic(auto, unfolding(crate::specs::WrittenElf::elf_contents))]
 fn append_elf_contents(out: &mut Vec<u8>, segments: &[Segment]) -> Result<(), ImageErr>
     ensures ok { OnOk result
@@ -70,8 +72,8 @@ fn append_elf_contents(out: &mut Vec<u8>, segments: &[Segment]) -> Result<(), Im
     Ok(())
 }
 
-// Returns the program header of `len` bytes at `offset` of the file, which are loaded at the
-// address `at`.
+// Returns the program header of a segment of `len` bytes at `offset` of the file, which are loaded
+// at the address `at`.
 #[tactic(auto, unfolding(crate::specs::WrittenElf::program_header))]
 fn program_header(offset: u32, at: u32, len: u32) -> [u8; 32]
     ensures { result ≡ program_header offset at len }

@@ -43,7 +43,8 @@ pub(crate) struct Header {
     pub(crate) memory_size: u32,
 }
 
-/// Returns the two bytes of an ELF file from a place on as a number (Elf32_Half).
+/// Returns the two bytes at offset `at` of an ELF file as a number, the least significant first
+/// (Elf32_Half).
 #[tactic(auto, unfolding(crate::specs::ReadElf::elf_half_at))]
 pub(crate) fn elf_half_at(bytes: &[u8], at: usize) -> u16
     requires { at + 2 ≤ length bytes.now }
@@ -52,7 +53,8 @@ pub(crate) fn elf_half_at(bytes: &[u8], at: usize) -> u16
     u16::from_le_bytes([bytes[at], bytes[at + 1]])
 }
 
-/// Returns the four bytes of an ELF file from a place on as a number (Elf32_Word).
+/// Returns the four bytes at offset `at` of an ELF file as a number, the least significant first
+/// (Elf32_Word).
 #[tactic(auto, unfolding(crate::specs::ReadElf::elf_word_at))]
 pub(crate) fn elf_word_at(bytes: &[u8], at: usize) -> u32
     requires { at + 4 ≤ length bytes.now }
@@ -70,7 +72,7 @@ pub(crate) fn program_header_offset(bytes: &[u8], number: u16) -> usize
     elf_word_at(bytes, E_PHOFF) as usize + 32 * number as usize
 }
 
-// Reads the program header with this number, from 0, which is wholly in the file.
+// Returns the program header with this number, from 0, which is wholly in the file.
 #[tactic(auto, unfolding(crate::specs::ReadElf::program_header_at))]
 pub(crate) fn program_header_at(bytes: &[u8], number: u16) -> Header
     requires long { 52 ≤ length bytes.now }
@@ -96,8 +98,8 @@ pub(crate) fn loads_file_bytes(header: &Header) -> bool
     header.kind == PT_LOAD && header.file_size > 0
 }
 
-// Returns the program headers of an ELF file that load bytes, in order, or `TooLarge` for more than
-// 64, or more than 2^24 bytes.
+// Returns the program headers of an ELF file that load bytes, in order. The error is `TooLarge` for
+// more than 64 of them, or more than 2^24 bytes.
 pub(crate) fn loading_headers(alloc: Global, bytes: &[u8]) -> Result<Vec<Header>, ImageErr>
     requires long { 52 ≤ length bytes.now }
     requires good { program_header_refusal bytes.now ≡ None }

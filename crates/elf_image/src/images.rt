@@ -32,8 +32,8 @@ impl Image {
     ghost use Rattle.elf_image.specs.ReadElf.{GivesImage, image_of_file};
     ghost use Rattle.elf_image.specs.WrittenElf.{elf_file};
 
-    /// Reads an executable ELF file of 32 bits for this machine. The image has the segments of type
-    /// PT_LOAD with bytes in the file, in the order of their headers, at their physical addresses.
+    /// Reads a 32-bit ELF executable for TriCore. The image has the PT_LOAD segments with bytes in
+    /// the file, in the order of their headers, at their physical addresses.
     pub fn read(alloc: Global, bytes: &[u8]) -> Result<Image, ImageErr>
         requires { length bytes.now ≤ 2 ^ 30 }
         ensures { GivesImage result (image_of_file bytes.now) }

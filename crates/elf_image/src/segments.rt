@@ -29,8 +29,8 @@ pub(crate) fn segment_byte(segment: &Segment, addr: u32) -> Option<u8>
     segment.bytes.get((addr - segment.at) as usize).copied()
 }
 
-/// Establishes that the bytes of segments are numbers below 256, which an image requires. It reads
-/// each byte and changes nothing.
+/// Establishes for proofs that the bytes of segments are numbers below 256, which an image
+/// requires. Each byte is read, and nothing changes.
 pub fn establish_segment_bytes(segments: &[Segment])
     ensures { HoldOnlyBytes (map segment_data segments.now) }
 {
@@ -58,7 +58,7 @@ pub(crate) fn loaded_segments(
     Ok(segments)
 }
 
-/// Establishes a fact for proofs: the bytes of a segment of an executable are numbers below 256.
+/// Establishes for proofs that the bytes of a segment are numbers below 256. Nothing changes.
 fn establish_bytes_below_256(bytes: &[u8])
     ensures { All (λ b. b < 2 ^ 8) bytes.now }
 {
@@ -67,7 +67,8 @@ fn establish_bytes_below_256(bytes: &[u8])
     }
 }
 
-// Returns the segment that a program header loads from an ELF file.
+// Returns the segment that a program header loads from an ELF file: a copy of its bytes, at its
+// physical address.
 fn loaded_segment(alloc: Global, bytes: &[u8], load: &Header) -> Result<Segment, ImageErr>
     requires { load.now.offset + load.now.file_size ≤ length bytes.now }
     ensures ok { IfOk result (λ s. segment_data s ≡ loaded_segment bytes.now load.now) }

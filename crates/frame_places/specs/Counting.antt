@@ -27,12 +27,11 @@ abbrev pub points_with : List Spot → Spot → List Spot
 points_with ps (Point k p) = ps ++ Point k p ∷ []
 points_with ps (Exit k) = ps
 
--- the maker's points after something flows into the place y: a point y is appended, unless known
--- already
+-- the maker's points after the place y is recorded: a point y is appended, unless known already
 abbrev pub points_after_recording : Bool → List Spot → Spot → List Spot
 points_after_recording known ps y = if known then ps else points_with ps y
 
--- the maker's frames after something flows into the place y: the frame of an entry point y is
--- appended, unless y is known already
+-- the maker's frames after the place y is recorded: the frame of an entry point y is appended,
+-- unless y is known already
 abbrev pub frames_after_recording : Bool → List Key → Spot → List Key
 frames_after_recording known ks y = if known then ks else frames_with_entry ks y

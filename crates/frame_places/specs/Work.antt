@@ -14,21 +14,21 @@ pub record WorkLists : Type 0 where
 abbrev pub all_work : WorkLists → List ℕ
 all_work work = work.first ++ (work.next ++ (work.round ++ work.waiting))
 
--- one more place is at the end of the work list's queue
+-- the place with this number is put at the end of the work list's queue
 pub record PushesToQueue (old new : WorkLists) (number : ℕ) : Type 0 where
   pub first : new.first ≡ old.first
   pub next : new.next ≡ old.next ++ number ∷ []
   pub round : new.round ≡ old.round
   pub waiting : new.waiting ≡ old.waiting
 
--- one more place of the work list waits for the next round
+-- the place with this number waits for the work list's next round
 pub record PushesToWaiting (old new : WorkLists) (number : ℕ) : Type 0 where
   pub first : new.first ≡ old.first
   pub next : new.next ≡ old.next
   pub round : new.round ≡ old.round
   pub waiting : IsPermutation (number ∷ old.waiting) new.waiting
 
--- one more place is in the work list's round, at any position
+-- the place with this number is put into the work list's round, at any position
 pub record PushesToRound (old new : WorkLists) (number : ℕ) : Type 0 where
   pub first : new.first ≡ old.first
   pub next : new.next ≡ old.next
@@ -59,14 +59,15 @@ pub record RefillsFront (old new : WorkLists) : Type 0 where
   pub round : new.round ≡ old.round
   pub waiting : new.waiting ≡ old.waiting
 
--- this place is taken off the front of the work list's queue
+-- the place with this number is taken off the front of the work list's queue, which is the end of
+-- its reversed part
 pub record PopsFront (old new : WorkLists) (number : ℕ) : Type 0 where
   pub first : old.first ≡ new.first ++ number ∷ []
   pub next : new.next ≡ old.next
   pub round : new.round ≡ old.round
   pub waiting : new.waiting ≡ old.waiting
 
--- this place, the last of the work list's queue, is taken off
+-- the place with this number is taken off the back of the work list's queue
 pub record PopsBack (old new : WorkLists) (number : ℕ) : Type 0 where
   pub first : new.first ≡ old.first
   pub next : old.next ≡ new.next ++ number ∷ []

@@ -13,8 +13,9 @@ const MOST_POINTS: usize = 65536;
 /// The greatest number of frames in a certificate.
 const MOST_FRAMES: usize = 2048;
 
-/// Appends the place `y`, if a point, to the maker's points, and its frame at an entry point;
-/// nothing if `known`. Refuses by K15 past 65,536 points or 2,048 frames.
+/// Appends an unknown point `y` to the maker's points, and its frame to `frames` if `y` is the
+/// entry point. An exit or a `known` place adds nothing. Refuses by K15 past 65,536 points or 2,048
+/// frames.
 pub fn record_place(
     known: bool,
     points: &mut Vec<Spot>,
@@ -40,8 +41,8 @@ pub fn record_place(
     }
 }
 
-/// Appends a new point to the maker's points, and its frame at the frame's entry. Refuses by K15
-/// past 65,536 points or 2,048 frames.
+/// Appends the new point at `addr` of the frame `key` to the maker's points, and the frame to
+/// `frames` if `addr` is its entry. Refuses by K15 past 65,536 points or 2,048 frames.
 fn record_point(
     points: &mut Vec<Spot>,
     frames: &mut Vec<Key>,

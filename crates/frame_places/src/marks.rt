@@ -19,7 +19,7 @@ pub(crate) fn is_unvisited_entry(entry: bool, visits: u8) -> bool {
     entry && visits == 0
 }
 
-/// Sets the mark of the place with this number: idle, plain, queued, or being visited.
+/// Sets the mark of a place (a point or an exit), by number: idle, plain, queued or being visited.
 #[inline(always)]
 pub(crate) fn mark_place<V>(places: &mut IndexMap<Spot, Marked<V>>, number: usize, mark: Mark)
     ensures { (x : Spot) → PlaceHasNumber places.old number x
@@ -35,7 +35,7 @@ pub(crate) fn mark_place<V>(places: &mut IndexMap<Spot, Marked<V>>, number: usiz
 const PATIENT: u8 = 2;
 
 /// Returns whether the place with this number, if queued again, waits for the next round: if
-/// `waits`, or after two visits. So a call of many functions waits until their exits have risen.
+/// `waits`, or if visited twice. So a call of many functions waits until their exits have risen.
 #[inline(always)]
 pub(crate) fn must_wait_for_round<V>(
     places: &IndexMap<Spot, Marked<V>>,
@@ -49,7 +49,7 @@ pub(crate) fn must_wait_for_round<V>(
 }
 
 /// Puts each of these known places on the work list unless queued: for the next round if `waits` or
-/// after two visits, else as next.
+/// if visited twice, else at the end of the queue.
 pub(crate) fn requeue_places<V>(
     places: &mut IndexMap<Spot, Marked<V>>,
     work: &mut Work,
@@ -67,7 +67,7 @@ pub(crate) fn requeue_places<V>(
     Ok(())
 }
 
-/// Returns whether the place with this number is queued.
+/// Returns whether the place (a point or an exit) with this number is queued for a visit.
 #[inline(always)]
 pub fn is_place_queued<V>(places: &IndexMap<Spot, Marked<V>>, number: usize) -> bool
     ensures { (x : Spot) → PlaceHasNumber places.now number x
@@ -112,8 +112,8 @@ pub fn end_visit<V>(places: &mut IndexMap<Spot, Marked<V>>, number: usize, plain
     }
 }
 
-/// Puts the known place `x` on the work list unless queued: for the next round if `waits` or after
-/// two visits, else as next.
+/// Puts the known place `x` on the work list unless queued: for the next round if `waits` or if
+/// visited twice, else at the end of the queue.
 pub(crate) fn requeue_place<V>(
     places: &mut IndexMap<Spot, Marked<V>>,
     work: &mut Work,
@@ -136,8 +136,8 @@ pub(crate) fn requeue_place<V>(
     Ok(())
 }
 
-/// Returns the mark of a place after a visit: queued if new work came meanwhile, else plain or
-/// idle.
+/// Returns the mark of a place after its visit: still queued if queued meanwhile, else plain if its
+/// instruction enters no frame (`plain`), else idle.
 #[inline(always)]
 fn mark_after_visit(mark: Mark, plain: bool) -> Mark
     ensures { result ≡ mark_at_visit_end plain (Some mark) }

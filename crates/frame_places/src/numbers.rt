@@ -36,8 +36,8 @@ pub fn frame_number(numbers: &IndexMap<Key, usize>, key: Key) -> usize
     }
 }
 
-/// Returns the number of the frame with this key, or 0 if the map has none. The number `near` is
-/// tried first.
+/// Returns the number of the frame with this key, or 0 if the map has none. The likely number
+/// `near`, as that of the frame looked up before, is tried first.
 #[inline(always)]
 pub fn frame_number_with_hint(numbers: &IndexMap<Key, usize>, near: usize, key: &Key) -> usize
     ensures { (frames : List Key) → AreNumbersOfFrames numbers.now frames
@@ -51,7 +51,8 @@ pub fn frame_number_with_hint(numbers: &IndexMap<Key, usize>, near: usize, key: 
     frame_number(numbers, *key)
 }
 
-/// Returns the numbers of the entered frames, in a list with room for `more` others.
+/// Returns the numbers of the frames with the keys `entered`, in their order, in a list with room
+/// for `more` others. A key that the map lacks gets 0.
 pub fn entered_frame_numbers(
     alloc: Global,
     numbers: &IndexMap<Key, usize>,

@@ -111,7 +111,8 @@ pub fn place_address(place: &Spot) -> u32
     }
 }
 
-/// Returns the address of a place if the place is a point of the frame `key`, else `None`.
+/// Returns the address of a place (a point or an exit) if the place is a point of the frame `key`,
+/// else `None`.
 pub fn address_in_frame(key: Key, place: Spot) -> Option<u32>
     ensures { IsAddressInFrame key place result }
 {
@@ -121,8 +122,8 @@ pub fn address_in_frame(key: Key, place: Spot) -> Option<u32>
     if other == key { Some(addr) } else { None }
 }
 
-/// Adds the unknown place `y` with this value to the map of places, marks `y` as queued, and puts
-/// `y` on the work list.
+/// Adds the unknown place `y` (a point or an exit of a frame) with this value to the map of places.
+/// The place is marked as queued and put on the work list.
 #[inline(always)]
 pub fn add_queued_place<V: Drop>(
     places: &mut IndexMap<Spot, Marked<V>>,
@@ -147,8 +148,8 @@ pub fn add_queued_place<V: Drop>(
     Ok(())
 }
 
-/// Returns the number of the place `y` if known. Otherwise adds `y` with this value, marked as
-/// queued, to the map and the work list, and returns `None`.
+/// Returns the number of the place `y` (a point or an exit of a frame) if known. Otherwise adds `y`
+/// with this value, marked as queued, to the map and the work list, and returns `None`.
 #[inline(always)]
 pub fn add_or_find_place<V: Drop>(
     places: &mut IndexMap<Spot, Marked<V>>,
@@ -175,9 +176,9 @@ pub fn add_or_find_place<V: Drop>(
     }
 }
 
-/// Sets the value of the place with this number, and queues the place unless queued. An entry point
-/// (`entry`) waits for the next round, any other place is next. An entry point that is queued and
-/// unvisited is queued again, before the places found earlier.
+/// Sets the value of the place (a point or an exit) with this number, and queues the place unless
+/// queued. A frame's entry point (`entry`) waits for the next round, or moves ahead if queued but
+/// not visited yet.
 #[inline(always)]
 pub fn set_and_queue_place<V: Drop>(
     places: &mut IndexMap<Spot, Marked<V>>,

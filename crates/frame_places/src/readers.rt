@@ -15,7 +15,8 @@ use std::alloc::{AllocError, Global};
 /// The least number of readers for which a list is searched for duplicates.
 const MANY: usize = 1024;
 
-/// Appends a point to a list of an exit's readers, unless the list ends in that point.
+/// Appends a point to the readers of an exit, the points to visit again when the exit changes,
+/// unless the list ends in that point.
 pub(crate) fn push_reader_unless_last(out: &mut Vec<Spot>, x: Spot) -> Result<(), AllocError>
     ensures { OnOk result ((q : Spot)
         → Contains out.new.items q ↔ (Contains out.old.items q ⊎ (q ≡ x))) }
@@ -29,7 +30,8 @@ pub(crate) fn push_reader_unless_last(out: &mut Vec<Spot>, x: Spot) -> Result<()
     Ok(())
 }
 
-/// Records that the point `x` reads the exit `z`, so that `x` is queued when `z` rises.
+/// Records that the point `x` reads the exit `z`: the state after the call or system call at `x`
+/// depends on `z`. So `x` is queued when `z` rises.
 pub fn register_reader(
     alloc: Global,
     readers: &mut IndexMap<Spot, Vec<Spot>>,
@@ -48,8 +50,8 @@ pub fn register_reader(
     Ok(())
 }
 
-/// Requeues all points that read the exit `y`, for the next round if `waits` or after two visits,
-/// and forgets that they read `y`.
+/// Requeues all points that read the exit `y`, and forgets that they do. They wait for the next
+/// round if `waits`, or if visited twice already.
 pub fn requeue_readers_of<V>(
     places: &mut IndexMap<Spot, Marked<V>>,
     work: &mut Work,
@@ -72,8 +74,8 @@ pub fn requeue_readers_of<V>(
     Ok(())
 }
 
-/// Returns a copy of a list of readers without those that equal the one before: of a sorted list,
-/// without duplicates.
+/// Returns a copy of `list`, the points that read an exit, without those equal to the one before. A
+/// sorted list thus loses all duplicates.
 pub(crate) fn dedup_readers(alloc: Global, list: &[Spot]) -> Result<Vec<Spot>, AllocError>
     ensures { IfOk result (λ out. (q : Spot) → Contains out.items q ↔ Contains list.now q) }
 {
@@ -84,8 +86,8 @@ pub(crate) fn dedup_readers(alloc: Global, list: &[Spot]) -> Result<Vec<Spot>, A
     Ok(out)
 }
 
-/// Appends a point to an exit's readers. Whenever a long list's length is a power of two,
-/// duplicates are looked for.
+/// Appends a point to the readers of an exit. When the list reaches 1,024 points, or a greater
+/// power of two, duplicates are looked for.
 #[inline(always)]
 fn push_reader(alloc: Global, list: &mut Vec<Spot>, x: Spot) -> Result<(), AllocError>
     ensures { OnOk result ((q : Spot)

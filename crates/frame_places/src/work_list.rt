@@ -79,7 +79,8 @@ impl Work {
             && self.waiting.is_empty()
     }
 
-    /// Puts a place on the work list, at the end of the queue of those that are next.
+    /// Puts the place with this number at the end of the work list's queue, which is visited first
+    /// in, first out.
     #[inline(always)]
     pub(crate) fn push_to_queue(&mut self, number: usize) -> Result<(), AllocError>
         ensures { OnOk result (PushesToQueue self.old self.new number) }
@@ -88,7 +89,8 @@ impl Work {
         Ok(())
     }
 
-    /// Puts a place on the work list among those that wait for the next round.
+    /// Puts the place with this number among the places of the work list that wait for the next
+    /// round.
     #[inline(always)]
     pub(crate) fn push_to_waiting(&mut self, number: usize) -> Result<(), AllocError>
         ensures { OnOk result (PushesToWaiting self.old self.new number) }
@@ -97,9 +99,9 @@ impl Work {
         Ok(())
     }
 
-    /// Puts an unvisited entry point into the work list's round, before the places left of the
-    /// round. Entry points put there since the last pop, up to 64, are taken earlier. A listed
-    /// place is listed again, once for each rise of its state.
+    /// Puts the unvisited entry point with this number into the round, the places taken when the
+    /// queue is empty. The point comes before places left of the round, but after up to 64 put
+    /// there since the last pop.
     #[inline(always)]
     pub(crate) fn push_to_round(&mut self, number: usize) -> Result<(), AllocError>
         ensures { OnOk result (PushesToRound self.old self.new number) }
@@ -110,8 +112,8 @@ impl Work {
         Ok(())
     }
 
-    /// Takes the place to be visited next off the work list, or `None` if the list is empty. On an
-    /// error, for lack of memory, all places stay listed.
+    /// Takes the number of the place to visit next off the work list; returns `None` if the list is
+    /// empty. If out of memory, all places stay listed.
     #[inline(always)]
     pub fn pop(&mut self) -> Result<Option<usize>, AllocError>
         ensures some { IfOk result (λ o. IfSome o (PopsPlace self.old self.new)) }
@@ -129,7 +131,8 @@ impl Work {
         Ok(self.pop_from_round())
     }
 
-    /// Takes the first place of the work list's queue, or `None` if no place is next.
+    /// Takes the number of the first place off the work list's queue, or returns `None` if the
+    /// queue is empty.
     #[inline(always)]
     fn pop_from_queue(&mut self) -> Option<usize>
         ensures some { IfSome result (PopsPlace self.old self.new) }
@@ -145,7 +148,8 @@ impl Work {
         self.pop_back()
     }
 
-    /// Takes a place of the work list's current round, or `None` if the round is over.
+    /// Takes the number of a place off the work list's current round, or returns `None` if the
+    /// round is over.
     #[inline(always)]
     fn pop_from_round(&mut self) -> Option<usize>
         ensures some { IfSome result (PopsFromRound self.old self.new) }
@@ -156,8 +160,8 @@ impl Work {
         number
     }
 
-    /// Begins the work list's next round with up to 64 of the waiting places: those found first,
-    /// the earliest at the end, taken first.
+    /// Begins the work list's next round with up to 64 of the waiting places, which are taken by
+    /// ascending number.
     fn begin_round(&mut self) -> Result<(), AllocError>
         ensures round { OnOk result (BeginsRound self.old self.new) }
         ensures err { OnErr result (HasSameWork self.old self.new) }
@@ -173,7 +177,8 @@ impl Work {
         Ok(())
     }
 
-    /// Takes the front place of the work list's queue, or `None` if its reversed part is empty.
+    /// Takes the number of the front place off the reversed part of the work list's queue, or
+    /// returns `None` if that part is empty.
     #[inline(always)]
     fn pop_front(&mut self) -> Option<usize>
         ensures some { IfSome result (PopsFront self.old self.new) }
@@ -182,8 +187,8 @@ impl Work {
         self.first.pop()
     }
 
-    /// Refills the reversed part of the work list's queue, from whose end places are taken, with
-    /// the places that are next.
+    /// Moves the work list's queue, reversed, to the part from whose end places are taken, so that
+    /// the oldest is taken first.
     fn refill_front(&mut self)
         ensures { RefillsFront self.old self.new }
     {
@@ -191,8 +196,8 @@ impl Work {
         self.first.reverse();
     }
 
-    /// Takes the last place of the part of the work list's queue that isn't reversed, or `None` if
-    /// that part is empty.
+    /// Takes the number of the last place off the queue's part that isn't reversed, or returns
+    /// `None` if that part is empty.
     #[inline(always)]
     fn pop_back(&mut self) -> Option<usize>
         ensures some { IfSome result (PopsBack self.old self.new) }
@@ -202,7 +207,8 @@ impl Work {
     }
 }
 
-/// Puts a place on the work list: for the next round if `waits`, else at the end of the queue.
+/// Puts the place with this number on the work list: for the next round if `waits`, else at the end
+/// of the queue.
 #[inline(always)]
 pub(crate) fn enqueue(work: &mut Work, number: usize, waits: bool) -> Result<(), AllocError>
     ensures { OnOk result (PushesToWaitingOrQueue waits work.old work.new number) }
@@ -214,8 +220,8 @@ pub(crate) fn enqueue(work: &mut Work, number: usize, waits: bool) -> Result<(),
     }
 }
 
-/// Puts a new place on the work list: a frame's entry point before the places found earlier, any
-/// other at the end of the queue.
+/// Puts the new place with this number on the work list: if a frame's entry point (`entry`), before
+/// the places found earlier, else at the end of the queue.
 #[inline(always)]
 pub(crate) fn enqueue_new(work: &mut Work, number: usize, entry: bool) -> Result<(), AllocError>
     ensures { OnOk result (PushesToRoundOrQueue entry work.old work.new number) }

@@ -21,8 +21,8 @@ pub record ChangesOnlyRow (before after : List Val) (row : ValueRow) : Type 0 wh
   pub within : row.behind ≤ length before
   pub kept : (k : ℕ) → k < length before → IsOutsideRow row k → slice_index_or after k any_val ≡ slice_index_or before k any_val
 
--- a row of changed values, if it isn't empty, says where its first value is among the values from x
--- on
+-- a row of changed values, if not empty, says the offset of its first value, among the values from
+-- offset x on
 abbrev pub IsRowOfValuesAt : List ℕ → ℕ → ValueRow → Type 0
 IsRowOfValuesAt bytes x row = 0 < row.behind → row.from ≡ offset_after_values bytes x row.first
 
@@ -30,7 +30,7 @@ IsRowOfValuesAt bytes x row = 0 < row.behind → row.from ≡ offset_after_value
 abbrev pub IsWholeRow : ℕ → ValueRow → Type 0
 IsWholeRow n row = (row.first ≡ 0) × (row.behind ≡ n)
 
--- the row `more` has value number `place`, which was read last, beside the values of this row
+-- the row `more` is this row, extended to the value number `place`, which was read last
 pub record IsRowExtendedTo (row : ValueRow) (place : ℕ) (more : ValueRow) : Type 0 where
   pub first : more.first ≤ place
   pub behind : more.behind ≡ place + 1

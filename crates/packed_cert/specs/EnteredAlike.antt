@@ -17,7 +17,8 @@ node_state_at addr n = option_map (λ p. p.state) (find_point addr n.points)
 abbrev pub HaveSameEntryAndExit : List NodeData → Key → Key → Type 0
 HaveSameEntryAndExit ns a b = (n m : NodeData) → find_node a ns ≡ Some n → find_node b ns ≡ Some m → (node_state_at a.entry n ≡ node_state_at b.entry m) × (n.exit ≡ m.exit)
 
--- the node of a key, if any, has this place's state at the key's entry, and the other place's exit
+-- the node of a key, if any, has at the key's entry the state decoded at one offset, and the exit
+-- decoded at the other
 abbrev pub HasEntryAndExitAt : ℕ → List ℕ → List NodePlaces → Key → ℕ → Option ℕ → Type 0
 HasEntryAndExitAt version bytes ns k state exit =
     (n : NodeData) → find_node k (nodes_in_bytes version bytes ns) ≡ Some n → (node_state_at k.entry n ≡ Some (state_in_bytes version bytes state)) × (n.exit ≡ option_map (exit_in_bytes version bytes) exit)

@@ -15,7 +15,7 @@ pub record DiffersOnlyInRow (version : ℕ) (bytes : List ℕ) (before : State) 
   pub stand : 0 < (p.row).behind → drop (p.row).first (state_in_bytes version bytes p.place).regs ≡ values_in_bytes version bytes (p.row).from (27 - (p.row).first)
   pub same : IsTrue p.same → state_in_bytes version bytes p.place ≡ before
 
--- a walk may have this state at hand before point k: that of the point before k, or any state if k
+-- a walk may have this current state before point k: that of the point before k, or any state if k
 -- is the first
 pub record IsStateBefore (version : ℕ) (bytes : List ℕ) (ps : List PointPlace) (k : ℕ) (s : State) : Type 0 where
   pub count : length s.regs ≡ 27

@@ -20,19 +20,19 @@ use Rattle.packed_cert.specs.PointsInBytes.{points_in_bytes, StateBeginsAt}
 use Rattle.packed_cert.specs.Moves.{AllDifferOnlyInRows}
 use Rattle.depth_cert.specs.Exits.{no_exit}
 
--- the exit at a place of a certificate's bytes
+-- the exit that is decoded at an offset of a certificate's bytes
 abbrev pub exit_in_bytes : ℕ → List ℕ → ℕ → Exit
 exit_in_bytes version bytes place = read_from_bytes_or no_exit (exit_at version (place_in_bytes bytes place))
 
--- there is an exit at a place of a certificate's bytes
+-- a node's exit begins at this offset of the bytes of a certificate of this format
 abbrev pub ExitBeginsAt : ℕ → List ℕ → ℕ → Type 0
 ExitBeginsAt version bytes place = (x : Exit × Place) × (exit_at version (place_in_bytes bytes place) ≡ Ok x)
 
--- an exit of a certificate is in the bytes from one place to another
+-- an exit of a certificate is in the bytes from one cursor to another
 abbrev pub IsExitBetween : ℕ → Place → Place → Type 0
 IsExitBetween version c d = (x : Exit) × (exit_at version c ≡ Ok (x, d))
 
--- these are the places of an exit in a certificate's bytes: of its start and its end
+-- these are the offsets of an exit in a certificate's bytes: of its start and its end
 pub record AreExitPlaces (version : ℕ) (bytes : List ℕ) (p : ExitPlaces) : Type 0 where
   pub order : p.start ≤ p.end
   pub within : p.end ≤ length bytes
@@ -42,17 +42,19 @@ pub record AreExitPlaces (version : ℕ) (bytes : List ℕ) (p : ExitPlaces) : T
 abbrev pub HasLastExit : ℕ → List ℕ → ExitRoom → Type 0
 HasLastExit version bytes room = IfSome room.last (AreExitPlaces version bytes)
 
--- what always holds of an `ExitAt`: an exit is at its place, and IE's and CCPN's bytes are inside
+-- what always holds of an `ExitAt`: an exit begins at its offset, and IE's and CCPN's bytes are
+-- inside
 pub record IsExitAt (version : ℕ) (bytes : List ℕ) (place : ℕ) : Type 0 where
   pub short : length bytes ≤ 2 ^ 30
   pub exit : ExitBeginsAt version bytes place
   pub room : place + 2 ≤ length bytes
 
--- the node with this key and need, an exit at this place, if any, and points at these places
+-- the node with this key and need, an exit decoded at this offset, if any, and points with states
+-- decoded at theirs
 abbrev pub node_of_fields : ℕ → List ℕ → Key → ℕ → Option ℕ → List PointPlace → NodeData
 node_of_fields version bytes key need exit points = record { key = key; need = need; exit = option_map (exit_in_bytes version bytes) exit; points = points_in_bytes version bytes points }
 
--- what always holds of a `Node`: its points ascend, and states and an exit are at their places
+-- what always holds of a `Node`: its points ascend, and states and an exit are at their offsets
 pub record IsNodeAt (version : ℕ) (bytes : List ℕ) (exit_place : Option ℕ) (points : List PointPlace) : Type 0 where
   pub short : length bytes ≤ 2 ^ 30
   pub rising : IsStrictlyIncreasing (map (λ p. p.addr) points)
@@ -60,15 +62,15 @@ pub record IsNodeAt (version : ℕ) (bytes : List ℕ) (exit_place : Option ℕ)
   pub exit : IfSome exit_place (ExitBeginsAt version bytes)
   pub moves : AllDifferOnlyInRows version bytes points
 
--- the node of a certificate that has these places in the bytes
+-- the node of a certificate that has these offsets in the bytes
 abbrev pub node_in_bytes : ℕ → List ℕ → NodePlaces → NodeData
 node_in_bytes version bytes n = node_of_fields version bytes n.key n.need n.exit n.points.items
 
--- the nodes of a certificate that have these places in the bytes
+-- the nodes of a certificate that have these offsets in the bytes
 abbrev pub nodes_in_bytes : ℕ → List ℕ → List NodePlaces → List NodeData
 nodes_in_bytes version bytes ns = map (node_in_bytes version bytes) ns
 
--- these are the places of a node in a certificate's bytes: the number is that of its key, and
+-- these are the offsets of a node in a certificate's bytes: the number is that of its key, and
 -- states and an exit are there
 pub record AreNodePlaces (version : ℕ) (bytes : List ℕ) (n : NodePlaces) : Type 0 where
   pub number : n.number ≡ number_of_key n.key
@@ -86,7 +88,7 @@ IsCountOfNodesBelow number ns k = IsPartitionPoint (λ n. nat_lt n.number number
 abbrev pub count_node_points : List NodePlaces → ℕ
 count_node_points ns = sum_by (λ n. length n.points.items) ns
 
--- the certificate of this format whose nodes have these places in the bytes, as plain data
+-- the certificate of this format whose nodes have these offsets in the bytes, as plain data
 abbrev pub cert_in_bytes : ℕ → List ℕ → List NodePlaces → CertData
 cert_in_bytes version bytes ns = record { version = version; nodes = nodes_in_bytes version bytes ns }
 

@@ -12,19 +12,19 @@ use Rattle.packed_cert.specs.declared.point_reader.ReadingRoom.{ReadingRoom}
 use Rattle.packed_cert.specs.ValuesInBytes.{AreValuesInBytes, place_in_bytes, read_from_bytes_or}
 use Rattle.value_domain.specs.State.{no_state}
 
--- the state at a place of a certificate's bytes
+-- the state that is decoded at an offset of a certificate's bytes
 abbrev pub state_in_bytes : ℕ → List ℕ → ℕ → State
 state_in_bytes version bytes place = read_from_bytes_or no_state (state_at version (place_in_bytes bytes place))
 
--- there is a state at a place of a certificate's bytes
+-- a point's state begins at this offset of the bytes of a certificate of this format
 abbrev pub StateBeginsAt : ℕ → List ℕ → ℕ → Type 0
 StateBeginsAt version bytes place = (x : State × Place) × (state_at version (place_in_bytes bytes place) ≡ Ok x)
 
--- the point whose address and place of its state are given, with the state decoded
+-- the point that has this address, with the state that is decoded at its offset
 abbrev pub point_in_bytes : ℕ → List ℕ → PointPlace → Point
 point_in_bytes version bytes p = record { addr = p.addr; state = state_in_bytes version bytes p.place }
 
--- the points of a list, each with the state at its place
+-- the points of a list, each with the state that is decoded at its offset
 abbrev pub points_in_bytes : ℕ → List ℕ → List PointPlace → List Point
 points_in_bytes version bytes ps = map (point_in_bytes version bytes) ps
 
@@ -40,7 +40,8 @@ AscendByAddress ps = IsStrictlyIncreasing (map (λ p. p.addr) ps)
 abbrev pub IsCountOfPointsBelow : ℕ → List PointPlace → ℕ → Type 0
 IsCountOfPointsBelow addr ps k = IsPartitionPoint (λ p. nat_lt p.addr addr ≡ true) (λ p. nat_lt p.addr addr ≡ false) ps k
 
--- these are the places of this state in a certificate's bytes: of its start, its values and its end
+-- these are the offsets of this state in a certificate's bytes: of its start, its values and its
+-- end
 pub record AreStatePlaces (version : ℕ) (bytes : List ℕ) (s : State) (p : StatePlaces) : Type 0 where
   pub order : p.start ≤ p.end
   pub within : p.end ≤ length bytes
@@ -51,13 +52,13 @@ pub record AreStatePlaces (version : ℕ) (bytes : List ℕ) (s : State) (p : St
 abbrev pub HasLastState : ℕ → List ℕ → ReadingRoom → Type 0
 HasLastState version bytes room = IfSome room.last (AreStatePlaces version bytes room.state)
 
--- what always holds of a `StateAt`: a state is at its place, and the flags of its locals are inside
+-- what always holds of a `StateAt`: a state begins at its offset, and the flags of its locals are
+-- inside
 pub record IsStateAt (version : ℕ) (bytes : List ℕ) (place : ℕ) : Type 0 where
   pub state : StateBeginsAt version bytes place
   pub room : place + 4 + slice_index bytes (place + 3) ≤ length bytes
 
--- n truth values that the bytes have from a place on, a byte each, as a point's state has its
--- locals
+-- n truth values from an offset of the bytes on, a byte each, as a point's state has its locals
 abbrev pub flags_in_bytes : List ℕ → ℕ → ℕ → List Bool
 flags_in_bytes bytes place zero = []
 flags_in_bytes bytes place (suc n) = (slice_index bytes place == 1) ∷ flags_in_bytes bytes (place + 1) n

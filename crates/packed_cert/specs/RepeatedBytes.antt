@@ -10,7 +10,7 @@ use Rattle.tcd_base.specs.Bytes.{word_in_bytes}
 abbrev pub AreBytesRepeated : List ℕ → ℕ → ℕ → ℕ → Type 0
 AreBytesRepeated bytes x y n = take n (drop x bytes) ≡ take n (drop y bytes)
 
--- the first bytes of a certificate's state, as many as p counts, come again at a place
+-- the first bytes of a certificate's state, as many as p counts, are repeated at an offset
 pub record IsStartRepeatedAt (bytes : List ℕ) (place : ℕ) (p : RepeatedState) : Type 0 where
   pub first : (p.at).start + p.same ≤ length bytes
   pub second : place + p.same ≤ length bytes
@@ -22,12 +22,12 @@ abbrev pub SkipsRepeatedBytes : List ℕ → ℕ → ℕ → Place → Place →
 SkipsRepeatedBytes bytes x n before after =
     (after ≡ record before { place = before.place + n }) × (before.place + n ≤ length bytes) × (take n (drop x bytes) ≡ take n (drop before.place bytes))
 
--- a state in the bytes has these values, and its first bytes, as many as p counts, come again at
--- this place
+-- a state in the bytes has these values, and its first bytes, as many as p counts, are repeated at
+-- this offset
 pub record IsRepeatedStateAt (version : ℕ) (bytes : List ℕ) (vs : List Val) (place : ℕ) (p : RepeatedState) : Type 0 where
   pub values : AreValuesInBytes version bytes vs (p.at).values (p.at).end
   pub repeated : IsStartRepeatedAt bytes place p
 
--- the eight bytes from a place on as one number, little-endian
+-- the eight bytes from an offset on as one number, little-endian
 abbrev pub double_word_in_bytes : List ℕ → ℕ → ℕ
 double_word_in_bytes bytes place = word_in_bytes bytes place + word_in_bytes bytes (place + 4) * 4294967296

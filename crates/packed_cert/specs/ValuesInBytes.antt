@@ -8,7 +8,7 @@ use Rattle.depth_cert.specs.Grammar.{value_at}
 use Rattle.tcd_base.specs.declared.errors.FormErr.{FormErr}
 use Rattle.packed_cert.specs.declared.restored_values.ValuesAt.{ValuesAt}
 
--- n words from a place of a certificate's bytes on
+-- n words from an offset of a certificate's bytes on
 unfoldable pub words_in_bytes : List ℕ → ℕ → ℕ → List ℕ
 words_in_bytes bytes place zero = []
 words_in_bytes bytes place (suc n) = word_in_bytes bytes place ∷ words_in_bytes bytes (place + 4) n
@@ -18,15 +18,15 @@ abbrev pub read_from_bytes_or : {A : Type 0} → A → Result (A × Place) FormE
 read_from_bytes_or d (Ok x) = x.0
 read_from_bytes_or d (Err e) = d
 
--- the place of this number in the bytes of a packed certificate
+-- a cursor over the bytes of a certificate, at this offset
 abbrev pub place_in_bytes : List ℕ → ℕ → Place
 place_in_bytes bytes place = record { bytes = bytes; place = place }
 
--- the abstract value at a place of a certificate's bytes
+-- the abstract value that is decoded at an offset of a certificate's bytes
 abbrev pub value_in_bytes : ℕ → List ℕ → ℕ → Val
 value_in_bytes version bytes place = read_from_bytes_or any_val (value_at version (place_in_bytes bytes place))
 
--- there is an abstract value at a place of a certificate's bytes
+-- an abstract value begins at this offset of the bytes of a certificate of this format
 abbrev pub ValueBeginsAt : ℕ → List ℕ → ℕ → Type 0
 ValueBeginsAt version bytes place = (x : Val × Place) × (value_at version (place_in_bytes bytes place) ≡ Ok x) × (place ≤ length bytes)
 
@@ -34,32 +34,33 @@ ValueBeginsAt version bytes place = (x : Val × Place) × (value_at version (pla
 abbrev pub value_length_by_tag : ℕ → ℕ
 value_length_by_tag tag = if tag == 0 then 1 else if nat_le tag 128 then 1 + 4 * tag else 9
 
--- the place after a value in a certificate's bytes
+-- the offset of the first byte after the value at an offset of a certificate's bytes
 abbrev pub offset_after_value : List ℕ → ℕ → ℕ
 offset_after_value bytes place = place + value_length_by_tag (slice_index bytes place)
 
--- the n abstract values that a certificate's bytes have from a place on
+-- the n abstract values that are decoded from an offset of a certificate's bytes on
 abbrev pub values_in_bytes : ℕ → List ℕ → ℕ → ℕ → List Val
 values_in_bytes version bytes place zero = []
 values_in_bytes version bytes place (suc n) = value_in_bytes version bytes place ∷ values_in_bytes version bytes (offset_after_value bytes place) n
 
--- a certificate's bytes have n abstract values from a place on
+-- n abstract values, one after another, begin at this offset of the bytes of a certificate of this
+-- format
 abbrev pub ValuesBeginAt : ℕ → List ℕ → ℕ → ℕ → Type 0
 ValuesBeginAt version bytes place zero = Unit {0}
 ValuesBeginAt version bytes place (suc n) = ValueBeginsAt version bytes place × ValuesBeginAt version bytes (offset_after_value bytes place) n
 
--- the place after n values that a certificate's bytes have one after another from a place on
+-- the offset of the first byte after the n values from an offset of a certificate's bytes on
 abbrev pub offset_after_values : List ℕ → ℕ → ℕ → ℕ
 offset_after_values bytes place zero = place
 offset_after_values bytes place (suc n) = offset_after_values bytes (offset_after_value bytes place) n
 
--- these values are in a certificate's bytes, one after another, from one place to another
+-- these values are in a certificate's bytes, one after another, from one offset to another
 abbrev pub AreValuesBetween : ℕ → List ℕ → ℕ → List Val → ℕ → Type 0
 AreValuesBetween version bytes place [] end = place ≡ end
 AreValuesBetween version bytes place (v ∷ vs) end = (value_at version (place_in_bytes bytes place) ≡ Ok (v, place_in_bytes bytes (offset_after_value bytes place))) × AreValuesBetween version bytes (offset_after_value bytes place) vs end
 
--- these values are in a certificate's bytes, one after another, from place x, which isn't past
--- their end, to another
+-- these values are in a certificate's bytes, one after another, from offset x, which isn't past the
+-- bytes' end, to another
 abbrev pub AreValuesInBytes : ℕ → List ℕ → List Val → ℕ → ℕ → Type 0
 AreValuesInBytes version bytes vs x end = (x ≤ length bytes) × AreValuesBetween version bytes x vs end
 

@@ -13,28 +13,28 @@ use Rattle.packed_cert.specs.declared.places.ValueRow.{ValueRow}
 use Rattle.packed_cert.specs.PointsInBytes.{StateBeginsAt}
 use Rattle.packed_cert.specs.Moves.{IsStateBefore, AllDifferOnlyInRows}
 
--- a walk over a node's points: all of them, the state at hand, its values that the last step may
--- have read, those left
+-- a walk over a node's points: all of them, the current state, its values that the last step may
+-- have read, and the points left
 pub record WalkData : Type 0 where
   pub points : List Point
   pub current : State
   pub anew : List Val
   pub left : List Point
 
--- after a walk advanced, each value of the state at hand is as before, or one of those that may be
+-- after a walk advanced, each value of the current state is as before, or one of those that may be
 -- new
 abbrev pub KeepsOtherValues : State → WalkData → Type 0
 KeepsOtherValues before after =
     (r : ℕ) → r < length (after.current).regs → ((r < length before.regs) × (slice_index_or (after.current).regs r any_val ≡ slice_index_or before.regs r any_val)) ⊎ Contains after.anew (slice_index_or (after.current).regs r any_val)
 
--- a walk advances: the address and the state at hand are those of the first point that was left; no
--- address if none was left
+-- a walk advances: address and current state are those of the first point that was left; no address
+-- if none was left
 abbrev pub AdvancesTo : WalkData → Option ℕ → WalkData → Type 0
 AdvancesTo before None after = (before.left ≡ []) × (after ≡ before)
 AdvancesTo before (Some addr) after =
     (before.left ≡ record { addr = addr; state = after.current } ∷ after.left) × KeepsOtherValues before.current after × (after.points ≡ before.points)
 
--- the next point of a walk has this address and the state at hand
+-- the next point of a walk has this address and the current state
 abbrev pub IsNextWithSameState : WalkData → ℕ → Type 0
 IsNextWithSameState w addr = w.left ≡ record { addr = addr; state = w.current } ∷ drop 1 w.left
 
@@ -42,12 +42,12 @@ IsNextWithSameState w addr = w.left ≡ record { addr = addr; state = w.current 
 abbrev pub IsCoveredByNext : WalkData → ℕ → State → Type 0
 IsCoveredByNext w addr s = (t : State) × (w.left ≡ record { addr = addr; state = t } ∷ drop 1 w.left) × Covers t s
 
--- the state at hand of a walk is covered by the state of the node's point at this address
+-- the current state of a walk is covered by the state of the node's point at this address
 abbrev pub IsCoveredAt : WalkData → ℕ → Type 0
 IsCoveredAt w addr = IsSomeAnd (find_point addr w.points) (λ p. Covers p.state w.current)
 
--- what always holds of a walk: states are at their places, each point shares what it says with the
--- state before it, and the state at hand is the one before the next point
+-- what always holds of a walk: states are at their offsets, points differ only in their rows, and
+-- the current state is the one before the next point
 pub record IsWalk (version : ℕ) (bytes : List ℕ) (points : List PointPlace) (next : ℕ) (read : ValueRow) (state : State) : Type 0 where
   pub states : All (λ p. StateBeginsAt version bytes p.place) points
   pub rising : IsStrictlyIncreasing (map (λ p. p.addr) points)

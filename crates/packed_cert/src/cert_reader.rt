@@ -13,8 +13,8 @@ use depth_cert::{CertErr, blank_exit, read_magic, read_node_count, read_version}
 use std::alloc::Global;
 use tcd_base::{FileCursor, TRAILING, form_err_at};
 
-/// Reads the format and the places of the nodes of the certificate that the bytes spell, or returns
-/// their first fault.
+/// Reads the format of the certificate that the bytes spell, and each node: key, need, and the byte
+/// offsets of exit and states. An error is the first fault of the bytes, or `NoMemory`.
 #[tactic(auto, unfolding(depth_cert::specs::Grammar::certificate_of, depth_cert::specs::Grammar::cert_at))]
 pub(crate) fn read_cert_data(alloc: Global, bytes: &[u8]) -> Result<(u8, Vec<NodePlaces>), CertErr>
     requires { length bytes.now ≤ 2 ^ 30 }
@@ -35,8 +35,8 @@ pub(crate) fn read_cert_data(alloc: Global, bytes: &[u8]) -> Result<(u8, Vec<Nod
     Ok((version, nodes))
 }
 
-/// Reads `count` nodes of a certificate from the cursor: for each the key, the need, and the places
-/// of its exit and states in `bytes`.
+/// Reads `count` nodes of a certificate of format `version` at the cursor: keys, needs, and byte
+/// offsets of exits and states. `bytes` are those of the cursor.
 fn read_nodes(
     alloc: Global,
     c: &mut FileCursor<'_>,

@@ -39,8 +39,8 @@ impl Cert {
     ghost use Rattle.depth_cert.specs.Spelling.{bytes_of_cert};
     ghost use Rattle.packed_cert.specs.EnteredAlike.{HaveSameEntryAndExit};
 
-    /// Makes a `Cert`, which keeps the bytes that spell a certificate and the places of its
-    /// nodes, or returns the first fault of the bytes.
+    /// Parses a certificate, and keeps the bytes with the offsets of the exits and states in them.
+    /// An error is the first fault of the bytes, or `NoMemory`.
     pub fn read(alloc: Global, bytes: Vec<u8>) -> Result<Cert, CertErr>
         requires { length bytes.items ≤ 2 ^ 30 }
         ensures ok { IfOk result (λ c. certificate_of bytes.items ≡ Ok c) }
@@ -65,7 +65,7 @@ impl Cert {
         self.bytes
     }
 
-    /// Returns the format of a certificate, 1 or 2, whose limits each certificate keeps.
+    /// Returns the format: 1 (at most 64 words in a Set, 4 saved lower contexts), or 2 (128, 8).
     pub fn version(&self) -> u8
         ensures version { result ≡ self.now.version }
         ensures limits { IsCert self.now }
@@ -110,8 +110,8 @@ impl Cert {
         None
     }
 
-    /// Returns true only if the nodes of two keys have the same state at their entries and the same
-    /// exit. Places in the bytes are compared, not values.
+    /// Returns true only if the nodes of two keys have the same state at their entries, and the
+    /// same exit. Byte offsets are compared, not values, so two that are equal may give false.
     pub fn have_same_entry_and_exit(&self, a: &Key, b: &Key) -> bool
         ensures { IsTrue result → HaveSameEntryAndExit self.now.nodes a.now b.now }
     {
@@ -127,8 +127,8 @@ impl Cert {
     }
 }
 
-/// Returns the places of the state at a key's entry and of the node's exit, if any; `None` without
-/// such a node or point. `bytes` and `version` are for the contract.
+/// Returns the byte offsets of the state at a key's entry address and of the node's exit, if any.
+/// `None` without such a node or point. `bytes` and `version` are for the contract.
 fn entry_and_exit_offsets(
     bytes: &[u8],
     version: u8,
@@ -153,7 +153,7 @@ fn entry_and_exit_offsets(
     Some((points[first].place, node.exit))
 }
 
-/// A fact for proofs: the bytes of a packed certificate are below 256, as their type says.
+/// A fact for proofs, no code: each byte of a certificate is below 256, as its type says.
 pub(crate) fn cert_bytes_below_256(bytes: &[u8])
     ensures { (k : ℕ) → slice_index bytes.now k < 2 ^ 8 }
 {}
@@ -170,8 +170,8 @@ fn count_points_of_nodes(nodes: &[NodePlaces]) -> usize
     total
 }
 
-/// Returns the number of a certificate's nodes whose keys are below the key of this number, by
-/// binary search.
+/// Returns how many nodes of a certificate have keys below the key whose number is `number`. The
+/// nodes ascend by key, so a binary search finds the count.
 fn count_nodes_below(nodes: &[NodePlaces], number: u64) -> usize
     requires { AscendByKey nodes.now }
     ensures { IsCountOfNodesBelow number nodes.now result }
@@ -179,7 +179,7 @@ fn count_nodes_below(nodes: &[NodePlaces], number: u64) -> usize
     nodes.partition_point(|n| is_cert_node_below(n, number))
 }
 
-/// Returns true if the key of a packed certificate's node is below the key of this number.
+/// Returns true if the key of a certificate's node is below the key whose number is `number`.
 fn is_cert_node_below(node: &NodePlaces, number: u64) -> bool
     ensures { result ≡ nat_lt node.now.number number }
 {

@@ -27,8 +27,8 @@ pub(crate) enum ToCover<'a> {
     Lower(&'a State),
 }
 
-/// Returns true if each of the `n` values to cover is below the value in its turn in a
-/// certificate's bytes, from `place` on.
+/// Returns true if each of `n` given values is below the certificate's value in the same position.
+/// The certificate's values begin at the offset `place`, in format `version`.
 #[inline(always)]
 pub(crate) fn are_values_covered_at(
     values: &ToCover,
@@ -56,8 +56,7 @@ pub(crate) fn are_values_covered_at(
     true
 }
 
-/// Returns true if the abstract value at the place `low` of a certificate's bytes is below the
-/// value at the place `high`. The first one is decoded.
+/// Returns true if the abstract value encoded at `low` in a certificate is below the one at `high`.
 #[inline(never)]
 pub(crate) fn is_encoded_value_below(low: ValuesAt<'_>, high: ValuesAt<'_>) -> bool
     requires low { PointsToValue low }
@@ -69,7 +68,7 @@ pub(crate) fn is_encoded_value_below(low: ValuesAt<'_>, high: ValuesAt<'_>) -> b
     is_below_value_at(&v, high.bytes, high.version, high.place)
 }
 
-/// Returns true if an abstract value is below the Span at a place of a certificate's bytes.
+/// Returns true if `v` is below the Span at offset `place` of a certificate of format `version`.
 pub(crate) fn is_below_span_at(v: &Val, bytes: &[u8], version: u8, place: usize) -> bool
     requires well { IsWellFormed v.now }
     requires stands { ValueBeginsAt version bytes.now place }
@@ -86,8 +85,8 @@ pub(crate) fn is_below_span_at(v: &Val, bytes: &[u8], version: u8, place: usize)
     step <= e.step
 }
 
-/// Returns true if each of the ascending words `own` is one of the `n` ascending words at a place
-/// of a certificate's bytes. Both lists are walked once.
+/// Returns true if each of the ascending words `own` is one of the `n` ascending words from the
+/// offset `place` of a certificate on. Both lists are walked once.
 pub(crate) fn are_words_in_set_at(own: &[u32], bytes: &[u8], place: usize, n: usize) -> bool
     requires within { place + 4 * n ≤ length bytes.now }
     requires own { IsAscending own.now }
@@ -105,8 +104,8 @@ pub(crate) fn are_words_in_set_at(own: &[u32], bytes: &[u8], place: usize, n: us
     true
 }
 
-/// Returns true if an abstract value is below the one at a place of a certificate's bytes, which is
-/// decoded. A function of its own, so that faster paths need no stack for a value.
+/// Returns true if `v` is below the value decoded at the offset `place` of a certificate of format
+/// `version`. A function of its own, so that faster paths need no stack for a value.
 #[inline(never)]
 pub(crate) fn is_below_decoded_value(v: &Val, bytes: &[u8], version: u8, place: usize) -> bool
     requires well { IsWellFormed v.now }
@@ -116,7 +115,7 @@ pub(crate) fn is_below_decoded_value(v: &Val, bytes: &[u8], version: u8, place: 
     leq(v, &value_at_offset(bytes, version, place))
 }
 
-/// Returns value number `i` of those that a certificate's values are to cover. `any`, a value of
+/// Returns value number `i` of `values`, those that a certificate has to cover. `any`, the value of
 /// all words, is returned for a register that a change makes unknown.
 #[inline(always)]
 fn value_to_cover<'a>(values: &'a ToCover, any: &'a Val, i: usize) -> &'a Val
@@ -150,8 +149,8 @@ fn value_in_slot<'a>(s: &'a State, i: usize) -> &'a Val
     &s.regs[i]
 }
 
-/// Returns the number of the first of the `n` words at a place, from number `k` on, that is at
-/// least `x`. `n` if there is none.
+/// Returns the index of the first of `n` words, from index `k` on, that is at least `x`; `n` if
+/// there is none. The words begin at the offset `place` of a certificate.
 fn first_word_at_least(bytes: &[u8], place: usize, n: usize, k: usize, x: u32) -> usize
     requires within { place + 4 * n ≤ length bytes.now }
     requires start { k ≤ n }

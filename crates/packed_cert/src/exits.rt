@@ -40,7 +40,7 @@ impl<'a> ExitAt<'a> {
     ghost use Rattle.depth_cert.specs.Exits.{exit_of_state, ExitCovers};
     ghost use Rattle.packed_cert.specs.ValuesInBytes.{decoded_values, PointsToValues};
 
-    /// Returns the exit of a certificate's node at a place of the bytes.
+    /// Returns the exit that begins at offset `place` of a certificate of format `version`.
     pub(crate) fn new(bytes: &'a [u8], version: u8, place: usize) -> ExitAt<'a>
         requires short { length bytes.now ≤ 2 ^ 30 }
         requires exit { ExitBeginsAt version bytes.now place }
@@ -60,14 +60,14 @@ impl<'a> ExitAt<'a> {
         self.bytes[self.place] == 1
     }
 
-    /// Returns the least CCPN after a return by this exit.
+    /// Returns the lower bound of CCPN after a return by this exit.
     pub fn ccpn(&self) -> u8
         ensures { result ≡ self.now.ccpn }
     {
         self.bytes[self.place + 1]
     }
 
-    /// Returns the place of this exit's 14 values of lower registers in the certificate's bytes.
+    /// Returns where in the certificate's bytes this exit's values of the 14 lower registers begin.
     pub(crate) fn lower(&self) -> ValuesAt<'a>
         ensures have { PointsToValues result 14 }
         ensures values { self.now.lower ≡ decoded_values result 14 }
@@ -80,7 +80,8 @@ impl<'a> ExitAt<'a> {
         }
     }
 
-    /// Returns true if the values of this exit are in the lattice of the plan and the format.
+    /// Returns true if each value of this exit is in the lattice of `b`: a small enough Set, or a
+    /// Span between the plan's thresholds.
     pub fn has_lattice_values(&self, b: &Bounds) -> bool
         ensures { IsTrue result ↔ AreInLattice b.now self.now.lower }
     {
@@ -88,8 +89,8 @@ impl<'a> ExitAt<'a> {
         are_values_at(b, lower.bytes, lower.version, lower.place, LOWER_VALUES)
     }
 
-    /// Returns true if this exit covers the one of a frame that returns in state `s`. Its own
-    /// values are compared in the certificate's bytes.
+    /// Returns true if this exit covers a return in state `s`: IE, least CCPN, and the lower
+    /// registers' values, compared in the certificate's bytes.
     pub fn covers(&self, s: &State) -> bool
         requires { AreWellFormed s.now.regs }
         ensures { IsTrue result ↔ ExitCovers self.now (exit_of_state s.now) }
@@ -123,8 +124,8 @@ impl<'a> ExitAt<'a> {
     }
 }
 
-/// Reads whether a certificate's node of this kind has an exit, and reads that over the last one in
-/// `room`. Returns the exit's place, `None` without an exit.
+/// Reads a node's exit, if a flag says that there is one, and returns its byte offset, else `None`.
+/// Only a `kind` CALL or SYS may have one; `room` keeps the exit read last, to skip equal bytes.
 #[tactic(auto, unfolding(depth_cert::specs::Grammar::optional_exit_at))]
 pub(crate) fn read_optional_exit(
     c: &mut FileCursor<'_>,
@@ -149,8 +150,8 @@ pub(crate) fn read_optional_exit(
     Ok(Some(read_or_skip_exit(c, bytes, version, room)?))
 }
 
-/// Reads an exit of a certificate over the last one in `room`, and returns the place. If the last
-/// one's bytes come again, they are skipped and the last place is returned.
+/// Reads the exit at the cursor into `room`, in format `version`, and returns the byte offset. If
+/// the bytes equal those of the exit read last, they are skipped, and its offset is returned.
 pub(crate) fn read_or_skip_exit(
     c: &mut FileCursor<'_>,
     bytes: &[u8],

@@ -18,8 +18,8 @@ use std::marker::Model;
 use value_domain::{State, Val, flags_imply, leq};
 use vd_transfer::{Change, changed_value};
 
-/// Returns true only if each value that the change `c` sets outside the row is below the unchanged
-/// state's value in that register.
+/// Returns true only if each value that the change `c` writes is below the value that `s` had in
+/// the same register slot. Slots in the range `row` aren't compared.
 pub(crate) fn are_changed_values_below(s: &State, c: &Change, row: ValueRow) -> bool
     requires base { c.now.base ≡ Same }
     requires hand { AreWellFormed s.now.regs }
@@ -37,8 +37,8 @@ pub(crate) fn are_changed_values_below(s: &State, c: &Change, row: ValueRow) -> 
     is_changed_value_below(s, c, row, c.third.at)
 }
 
-/// Returns true only if each value of `s` after the change `c`, in the row of a certificate's
-/// point, is below the point's own.
+/// Returns true only if each value of `s` after the change `c` in the slots of `point.row` is below
+/// that of `point`'s state. In other slots that state has the values of `s`.
 pub(crate) fn is_changed_row_below(
     s: &State,
     c: &Change,
@@ -65,8 +65,8 @@ pub(crate) fn is_changed_row_below(
     true
 }
 
-/// Returns true only if the state of the next point covers `s` after the change `c`. Only values
-/// that `c` sets or that are in the point's row are compared.
+/// Returns true only if the next point's state, in format `version`, covers `s` after the change
+/// `c`. Only values that `c` writes, or that may differ at that point, are compared.
 pub(crate) fn is_covered_by_next_point(
     s: &State,
     c: &Change,
@@ -93,8 +93,8 @@ pub(crate) fn is_covered_by_next_point(
     are_changed_values_below(s, c, point.row) && is_changed_row_below(s, c, bytes, version, point)
 }
 
-/// Returns true only if the value in slot `place` after the change `c` is below the unchanged
-/// state's. True without a slot, or if the row has the slot.
+/// Returns true only if the value of `s` in slot `place` after the change `c` is below the
+/// unchanged one. Without a slot, or for one in `row`, the answer is true, and nothing is compared.
 fn is_changed_value_below(s: &State, c: &Change, row: ValueRow, place: Option<usize>) -> bool
     requires hand { AreWellFormed s.now.regs }
     requires well { AreWellFormed (state_after s.now c.now).regs }

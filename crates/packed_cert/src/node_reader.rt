@@ -14,8 +14,8 @@ use depth_cert::{CertErr, key_number, read_key, read_need};
 use std::alloc::Global;
 use tcd_base::FileCursor;
 
-/// Reads a node of a packed certificate, after those before: its key, need and exit, and the places
-/// of its points' states.
+/// Reads the node after `before`, in format `version`: key, need, byte offsets of exit and states.
+/// `room` keeps the exit and state read last, to skip equal bytes.
 #[tactic(auto, unfolding(depth_cert::specs::Grammar::node_after))]
 pub(crate) fn read_node(
     alloc: Global,
@@ -58,8 +58,8 @@ pub(crate) fn read_node(
     })
 }
 
-/// Returns the number of the key that the reader of nodes read last, which the next key's number
-/// must be above; `None` if no node was read.
+/// Returns the number of the last node's key, which the next key's number has to exceed; `None` if
+/// no node of the certificate was read.
 fn last_key_number(nodes: &[NodePlaces]) -> Option<u64>
     ensures { result ≡ last_number (map (λ n. n.number) nodes.now) }
 {

@@ -38,7 +38,7 @@ impl<'a> Model for Node<'a> {
 impl<'a> Node<'a> {
     ghost use Rattle.depth_cert.specs.Points.{AreAscendingPoints, find_point};
 
-    /// Returns the node of a packed certificate that has these places.
+    /// Returns the node of a certificate of format `version` with this key, need and byte offsets.
     pub(crate) fn new(bytes: &'a [u8], version: u8, places: &'a NodePlaces) -> Node<'a>
         requires { AreNodePlaces version bytes.now places.now }
         ensures { result ≡ node_in_bytes version bytes.now places.now }
@@ -86,8 +86,7 @@ impl<'a> Node<'a> {
         self.points.len()
     }
 
-    /// Starts `walk` again, before the first of this `Node`'s points, which are by ascending
-    /// address.
+    /// Resets `walk` to before the first of this node's points, which ascend by address.
     pub fn start_walk(&self, walk: &mut PointWalk<'a>)
         ensures all { walk.new.left ≡ self.now.points }
         ensures points { walk.new.points ≡ self.now.points }
@@ -110,8 +109,8 @@ impl<'a> Node<'a> {
     }
 }
 
-/// Returns the number of points whose addresses are below `addr`. Points number `near` and `near +
-/// 1` are tried first, then a guess, then a binary search.
+/// Returns the number of points whose addresses are below `addr`. The points with index `near` and
+/// `near + 1` are tried first, then a guess, then a binary search.
 pub(crate) fn count_points_below(points: &[PointPlace], addr: u32, near: usize) -> usize
     requires { AscendByAddress points.now }
     ensures { IsCountOfPointsBelow addr points.now result }
@@ -130,8 +129,8 @@ pub(crate) fn count_points_below(points: &[PointPlace], addr: u32, near: usize) 
     points.partition_point(|p| is_node_point_below(p, addr))
 }
 
-/// Returns the number that the point at `addr` has if each instruction between `addr` and point
-/// number `near` has four bytes and a point. A guess, to save a search.
+/// Guesses the index of the point at `addr` from that of the point at index `near`, as if each
+/// instruction had four bytes. A wrong guess costs a binary search.
 fn guessed_point_index(points: &[PointPlace], addr: u32, near: usize) -> usize {
     if near >= points.len() {
         return near;
@@ -144,7 +143,7 @@ fn guessed_point_index(points: &[PointPlace], addr: u32, near: usize) -> usize {
     }
 }
 
-/// Returns true if the address of a packed node's point is below `addr`.
+/// Returns true if the address of this point of a certificate's node is below `addr`.
 fn is_node_point_below(point: &PointPlace, addr: u32) -> bool
     ensures { result ≡ nat_lt point.now.addr addr }
 {

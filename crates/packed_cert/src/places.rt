@@ -75,8 +75,8 @@ pub(crate) struct ExitPlaces {
     pub(crate) end: usize,
 }
 
-/// Returns the empty row: none of the 27 values of a point's state differ from those of the point
-/// before.
+/// Returns the empty range of register slots: no value of a point's state differs from that of the
+/// point before.
 pub(crate) fn empty_row() -> ValueRow
     ensures { result ≡ record { first = 0; behind = 0; from = 0 } }
 {

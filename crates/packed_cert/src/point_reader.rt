@@ -42,8 +42,8 @@ pub(crate) struct ExitRoom {
     pub(crate) last: Option<ExitPlaces>,
 }
 
-/// Returns a state of which no value is known, as room for the first state of a point that is read
-/// from a packed certificate.
+/// Returns a placeholder, which the first state read from a certificate overwrites: each register
+/// may have any value, and there are no saved lower contexts.
 pub(crate) fn blank_state_for_reading() -> State {
     State {
         regs: std::array::from_fn(|_| Val::any()),
@@ -54,8 +54,8 @@ pub(crate) fn blank_state_for_reading() -> State {
     }
 }
 
-/// Reads the points of a certificate's node, as many as the bytes say: addresses and places of
-/// states. `room` has the state read last, and the number of points so far.
+/// Reads the addresses of a node's points and the offsets of their states, in format `version`.
+/// `room` keeps the state read last, to skip equal bytes, and counts the points.
 #[tactic(auto, unfolding(depth_cert::specs::Grammar::points_at))]
 pub(crate) fn read_points(
     alloc: Global,
@@ -100,8 +100,8 @@ pub(crate) fn read_points(
     Ok(points)
 }
 
-/// Reads a point's state into `out`, which has the state at the places `before`, if any. If all
-/// bytes of that state come again, they are skipped.
+/// Reads the state at the cursor into `out`, in format `version`. If its bytes equal those at the
+/// offsets `before`, from which `out` was read, they are skipped.
 #[inline(always)]
 pub(crate) fn read_or_skip_state(
     c: &mut FileCursor<'_>,
@@ -137,8 +137,8 @@ pub(crate) fn read_or_skip_state(
     read_changed_state(c, bytes, version, Some(repeated), out)
 }
 
-/// Reads the fields of a point's state into `out`, which has the state `before`, if any. Returns
-/// the place of the values, and the row of those that were read.
+/// Reads the state at the cursor into `out`, in format `version`. `before`, if any, says where
+/// `out` was read. Returns the offset of the values, and the range of slots that may have changed.
 #[tactic(auto, unfolding(depth_cert::specs::Grammar::state_at))]
 pub(crate) fn read_state_fields(
     c: &mut FileCursor<'_>,
@@ -167,8 +167,8 @@ pub(crate) fn read_state_fields(
     Ok((at, row))
 }
 
-/// Reads a point's state into `out`, over the state `before`, if any, of whose bytes not all come
-/// again.
+/// Reads the state at the cursor into `out`, in format `version`. `before`, if any, says where
+/// `out` was read, and how many bytes at the start, not all, the two states share.
 #[inline(never)]
 pub(crate) fn read_changed_state(
     c: &mut FileCursor<'_>,
@@ -202,8 +202,8 @@ pub(crate) fn read_changed_state(
     })
 }
 
-/// Returns what a certificate's point keeps of the state read for it. For a node's first point the
-/// row has all values, as a walk may begin with any state.
+/// Makes a walk over a node's points read all 27 values of the `first` point's state, as any state
+/// may come before. Returns `read` unchanged for other points.
 fn with_whole_row_if_first(read: ReadState, first: bool) -> ReadState
     requires { read.at.values < 2 ^ 32 }
     ensures first { IsTrue first → IsWholeRow 27 result.row × (result.same ≡ false) }

@@ -8,8 +8,8 @@ use crate::places::RepeatedState;
 use crate::value_reader::FEW_BYTES;
 use tcd_base::FileCursor;
 
-/// Returns how many bytes from `x` on, before `end`, are repeated from `y` on, up to the first that
-/// differs.
+/// Returns the length of the common prefix of two parts of a certificate: from offset `x` to before
+/// `end`, and from `y` on.
 pub(crate) fn count_repeated_before(bytes: &[u8], x: usize, y: usize, end: usize) -> usize
     requires first { x ≤ length bytes.now }
     requires second { y ≤ length bytes.now }
@@ -21,8 +21,8 @@ pub(crate) fn count_repeated_before(bytes: &[u8], x: usize, y: usize, end: usize
     count_repeated_bytes(bytes, x, y, n)
 }
 
-/// Returns how many of the `n` bytes from `x` on are repeated from `y` on, up to the first that
-/// differs. The contract says only that the counted bytes are equal.
+/// Returns the length of the common prefix of the `n` bytes from offset `x` on and those from
+/// offset `y` on. The contract promises a common prefix, not the longest.
 pub(crate) fn count_repeated_bytes(bytes: &[u8], x: usize, y: usize, n: usize) -> usize
     requires first { x + n ≤ length bytes.now }
     requires second { y + n ≤ length bytes.now }
@@ -44,7 +44,7 @@ pub(crate) fn count_repeated_bytes(bytes: &[u8], x: usize, y: usize, n: usize) -
 /// bytes, but doesn't tell where they differ.
 const MANY_BYTES: usize = 1024;
 
-/// Returns true only if the `n` bytes from `x` on are repeated from `y` on.
+/// Returns true only if the `n` bytes from offset `x` on equal those from offset `y` on.
 fn are_bytes_repeated(bytes: &[u8], x: usize, y: usize, n: usize) -> bool
     requires first { x + n ≤ length bytes.now }
     requires second { y + n ≤ length bytes.now }
@@ -58,7 +58,7 @@ fn are_bytes_repeated(bytes: &[u8], x: usize, y: usize, n: usize) -> bool
 /// The number of bytes that are compared in a turn.
 const BLOCK: usize = 64;
 
-/// Returns how many of the `n` bytes from `x` on are repeated from `y` on, in whole blocks of 64.
+/// Returns how many of `n` bytes from `x` on equal those from `y` on, in whole blocks of 64 bytes.
 #[inline(always)]
 fn count_repeated_by_blocks(bytes: &[u8], x: usize, y: usize, n: usize) -> usize
     requires first { x + n ≤ length bytes.now }
@@ -76,8 +76,8 @@ fn count_repeated_by_blocks(bytes: &[u8], x: usize, y: usize, n: usize) -> usize
     i
 }
 
-/// Returns how many of the `n` bytes from `x` on are repeated from `y` on, as far as eight at a
-/// time are. The first `from` are known to be.
+/// Returns how many of `n` bytes from offset `x` on equal those from `y` on, eight by eight up to a
+/// difference. The first `from` are known to be equal.
 #[inline(always)]
 fn count_repeated_by_eights(bytes: &[u8], x: usize, y: usize, from: usize, n: usize) -> usize
     requires first { x + n ≤ length bytes.now }
@@ -104,8 +104,8 @@ fn count_repeated_by_eights(bytes: &[u8], x: usize, y: usize, from: usize, n: us
     i
 }
 
-/// Returns true only if the first `from` bytes, known to be repeated, reach up to the last eight of
-/// `n`, and these are repeated.
+/// Returns true only if the `n` bytes from offset `x` on equal those from `y` on. The first `from`
+/// do; if at most eight follow, the last eight are compared, else the answer is false.
 #[inline(always)]
 fn are_last_eight_repeated(bytes: &[u8], x: usize, y: usize, from: usize, n: usize) -> bool
     requires first { x + n ≤ length bytes.now }
@@ -119,7 +119,7 @@ fn are_last_eight_repeated(bytes: &[u8], x: usize, y: usize, from: usize, n: usi
     are_eight_bytes_repeated(bytes, x + (n - 8), y + (n - 8))
 }
 
-/// Returns how many of the `n` bytes from `x` on are repeated from `y` on. The first `from` are.
+/// Returns how many of `n` bytes from `x` on equal those from `y` on. The first `from` do.
 #[inline(always)]
 fn count_repeated_one_by_one(bytes: &[u8], x: usize, y: usize, from: usize, n: usize) -> usize
     requires first { x + n ≤ length bytes.now }
@@ -139,8 +139,8 @@ fn count_repeated_one_by_one(bytes: &[u8], x: usize, y: usize, from: usize, n: u
     i
 }
 
-/// Skips `n` bytes of a certificate if they equal the `n` bytes from `x` on. Otherwise, or if fewer
-/// are left, returns false, and the cursor stays.
+/// Skips `n` bytes of a certificate if they equal the `n` bytes from offset `x` on. Otherwise, or
+/// if fewer are left, returns false, and the cursor stays.
 #[inline(always)]
 pub(crate) fn skip_if_repeated(c: &mut FileCursor<'_>, bytes: &[u8], x: usize, n: usize) -> bool
     requires same { c.old.bytes ≡ bytes.now }
@@ -160,8 +160,8 @@ pub(crate) fn skip_if_repeated(c: &mut FileCursor<'_>, bytes: &[u8], x: usize, n
     before == here && c.take(n).is_some()
 }
 
-/// Returns the place up to which the values of the last state are repeated at `at`, in the state
-/// that begins at `start`.
+/// Returns the offset up to which the bytes of the values of `state` equal those of the next
+/// state's. The next state begins at offset `start`, its values at offset `at`.
 pub(crate) fn end_of_repeated(bytes: &[u8], state: RepeatedState, start: usize, at: usize) -> usize
     requires inside { at ≤ length bytes.now }
     requires values { state.at.values ≤ length bytes.now }
@@ -178,7 +178,7 @@ pub(crate) fn end_of_repeated(bytes: &[u8], state: RepeatedState, start: usize, 
     state.at.values + count_repeated_before(bytes, state.at.values, at, state.at.end)
 }
 
-/// Returns true only if the 64 bytes after the first `i` from `x` on are repeated from `y` on.
+/// Returns true only if the 64 bytes at `x + i` equal those at `y + i`. The `i` before them do.
 #[inline(always)]
 fn is_block_repeated(bytes: &[u8], x: usize, y: usize, i: usize) -> bool
     requires first { x + i + 64 ≤ length bytes.now }
@@ -192,7 +192,7 @@ fn is_block_repeated(bytes: &[u8], x: usize, y: usize, i: usize) -> bool
     is_half_block_repeated(bytes, x, y, i + 32)
 }
 
-/// Returns true only if the 32 bytes after the first `i` from `x` on are repeated from `y` on.
+/// Returns true only if the 32 bytes at `x + i` equal those at `y + i`. The `i` before them do.
 #[inline(always)]
 fn is_half_block_repeated(bytes: &[u8], x: usize, y: usize, i: usize) -> bool
     requires first { x + i + 32 ≤ length bytes.now }
@@ -212,7 +212,7 @@ fn is_half_block_repeated(bytes: &[u8], x: usize, y: usize, i: usize) -> bool
     are_eight_bytes_repeated(bytes, x + (i + 24), y + (i + 24))
 }
 
-/// Returns true if the eight bytes from `x` on are repeated from `y` on.
+/// Returns true if the eight bytes from offset `x` on equal those from offset `y` on.
 fn are_eight_bytes_repeated(bytes: &[u8], x: usize, y: usize) -> bool
     requires first { x + 8 ≤ length bytes.now }
     requires second { y + 8 ≤ length bytes.now }
@@ -221,7 +221,7 @@ fn are_eight_bytes_repeated(bytes: &[u8], x: usize, y: usize) -> bool
     read_double_word(bytes, x) == read_double_word(bytes, y)
 }
 
-/// Returns the eight bytes from a place of a certificate on as one number, little-endian.
+/// Returns the eight bytes at the offset `place` of a certificate as a number, little-endian.
 #[inline(always)]
 fn read_double_word(bytes: &[u8], place: usize) -> u64
     requires { place + 8 ≤ length bytes.now }

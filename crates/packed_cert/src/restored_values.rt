@@ -22,8 +22,8 @@ pub(crate) struct ValuesAt<'a> {
     pub(crate) place: usize,
 }
 
-/// Returns true if all values after a return are below those at `high` in a certificate. Lower
-/// registers have the exit's values at `lower`, others the caller's `regs`.
+/// Returns true if each register's value after a return is below the one that a certificate has at
+/// `high`. Lower registers get the exit's values at `lower`, others keep the caller's `regs`.
 pub(crate) fn are_restored_below(regs: &[Val; 27], lower: ValuesAt<'_>, high: ValuesAt<'_>) -> bool
     requires well { AreWellFormed regs.now }
     requires low { PointsToValues lower 14 }
@@ -55,8 +55,8 @@ pub(crate) fn are_restored_below(regs: &[Val; 27], lower: ValuesAt<'_>, high: Va
     true
 }
 
-/// Returns true if value number `i` after a return is below the one at `high` in a certificate. For
-/// a lower register that is the exit's at `low`, else the caller's.
+/// Returns true if the value in register slot `i` after a return is below the one at `high` in a
+/// certificate. A lower register gets the exit's value at `low`, others keep that of `regs`.
 fn is_restored_below(regs: &[Val; 27], i: usize, low: ValuesAt<'_>, high: ValuesAt<'_>) -> bool
     requires place { i < 27 }
     requires well { AreWellFormed regs.now }
@@ -79,8 +79,8 @@ fn is_restored_below(regs: &[Val; 27], i: usize, low: ValuesAt<'_>, high: Values
     is_below_value_at(&regs[i], high.bytes, high.version, high.place)
 }
 
-/// Returns the place of the exit's value for the next lower register: the one after `low` if slot
-/// `i` is a lower register's, else `low`.
+/// Returns the byte offset of the exit's value for the next lower register. If slot `i` is a lower
+/// register's, that is after the value at `low`, else at `low`.
 fn next_exit_value_offset(i: usize, low: ValuesAt<'_>) -> usize
     requires { IsTrue (is_lower_slot i) → PointsToValue low }
     ensures { result

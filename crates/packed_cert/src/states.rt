@@ -36,7 +36,7 @@ impl<'a> Model for StateAt<'a> {
 }
 
 impl<'a> StateAt<'a> {
-    /// Returns the state of a certificate's point at a place of the bytes.
+    /// Returns the state that begins at offset `place` of a certificate of format `version`.
     pub(crate) fn new(bytes: &'a [u8], version: u8, place: usize) -> StateAt<'a>
         requires { StateBeginsAt version bytes.now place }
         ensures { result ≡ state_in_bytes version bytes.now place }
@@ -57,21 +57,22 @@ impl<'a> StateAt<'a> {
         self.bytes[self.place] == 1
     }
 
-    /// Returns the least CCPN in this state of a certificate.
+    /// Returns the lower bound of CCPN in this state of a certificate.
     pub fn ccpn(&self) -> u8
         ensures { result ≡ self.now.ccpn }
     {
         self.bytes[self.place + 1]
     }
 
-    /// Returns true if the lower registers are those of the frame's entry.
+    /// Returns true if D0 to D7 and A2 to A7 have the values that they had at the frame's entry.
     pub fn lower(&self) -> bool
         ensures { result ≡ self.now.lower }
     {
         self.bytes[self.place + 2] == 1
     }
 
-    /// Returns the flags of the saved lower contexts in this state of a certificate.
+    /// Returns a flag for each saved lower context, the oldest first: set if the context has the
+    /// lower registers of the frame's entry.
     pub fn locals(&self) -> ArrayVec<bool, 8>
         ensures { result.items ≡ self.now.locals.items }
     {
@@ -85,7 +86,8 @@ impl<'a> StateAt<'a> {
     ghost use Rattle.depth_cert.specs.Exits.{state_after_return};
     ghost use Rattle.vd_transfer.specs.Changes.{state_after};
 
-    /// Returns true if this state's context (IE, least CCPN, `lower`) covers the given one.
+    /// Returns true if this state covers another's IE, least CCPN and flag `lower`. A set `lower`
+    /// says that D0 to D7 and A2 to A7 have the values that they had at the frame's entry.
     pub fn covers_context(&self, ie: bool, ccpn: u8, lower: bool) -> bool
         ensures { IsTrue result
             ↔ ((IsTrue ie → IsTrue self.now.ie) × (self.now.ccpn ≤ ccpn)
@@ -135,7 +137,7 @@ impl<'a> StateAt<'a> {
     }
 
     /// Returns true if this state covers the caller's state `s` after a return by `exit`. `kind` is
-    /// CALL for a call, SYS for a system call.
+    /// CALL after a call, SYS after a system call, which keeps the caller's IE and CCPN.
     pub fn covers_after_return(&self, s: &State, exit: &ExitAt<'_>, kind: u8) -> bool
         requires { AreWellFormed s.now.regs }
         ensures { IsTrue result ↔ Covers self.now (state_after_return s.now exit.now kind) }
@@ -156,7 +158,8 @@ impl<'a> StateAt<'a> {
     }
 }
 
-/// Returns IE and CCPN after a return: the exit's after a call, the caller's after a system call.
+/// Returns IE and the least CCPN after a return to the caller's state `s`. They are those of `exit`
+/// if `kind` is CALL, else the caller's, as after a system call.
 fn ie_and_ccpn_after_return(s: &State, exit: &ExitAt<'_>, kind: u8) -> (bool, u8)
     ensures ie { result.0 ≡ (if kind == call_kind then exit.now.ie else s.now.ie) }
     ensures ccpn { result.1 ≡ (if kind == call_kind then exit.now.ccpn else s.now.ccpn) }
@@ -167,8 +170,8 @@ fn ie_and_ccpn_after_return(s: &State, exit: &ExitAt<'_>, kind: u8) -> (bool, u8
     (s.ie, s.ccpn)
 }
 
-/// Returns the flags of a state's `count` saved lower contexts, which a certificate's bytes have
-/// from a place on, a byte each.
+/// Returns the flags of a state's `count` saved lower contexts: a byte each, from the offset
+/// `place` of a certificate on.
 fn state_locals_at(bytes: &[u8], place: usize, count: u8) -> ArrayVec<bool, 8>
     requires within { place + count ≤ length bytes.now }
     requires few { count ≤ 8 }
@@ -181,7 +184,8 @@ fn state_locals_at(bytes: &[u8], place: usize, count: u8) -> ArrayVec<bool, 8>
     flags
 }
 
-/// Returns the place of the 27 register values of the state at `place` in a certificate's bytes.
+/// Returns the byte offset of the 27 register values of the state that begins at offset `place` of
+/// a certificate of format `version`.
 fn offset_of_register_values(bytes: &[u8], version: u8, place: usize) -> usize
     requires { IsStateAt version bytes.now place }
     ensures have { ValuesBeginAt version bytes.now result 27 }

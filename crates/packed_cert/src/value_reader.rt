@@ -18,8 +18,8 @@ pub(crate) const MOST_WORDS: u8 = 128;
 /// Fewer bytes than these are compared here, as the comparison of std takes longer to begin.
 pub(crate) const FEW_BYTES: usize = 64;
 
-/// Reads a state's values into `out`, which has those at the places `before`, and returns the row
-/// of those read. Values whose bytes come again, up to `stop` at least, are skipped.
+/// Reads the values at the cursor into `out`, skipping bytes equal to those at `before`, where
+/// `out` was read, at least up to `stop`. Returns the range of slots read.
 pub(crate) fn read_changed_values(
     c: &mut FileCursor<'_>,
     bytes: &[u8],
@@ -67,7 +67,8 @@ pub(crate) fn read_changed_values(
     Ok(row)
 }
 
-/// Returns how many bytes an abstract value has in a certificate, by the first of them.
+/// Returns how many bytes a value has in a certificate, by the first, its `tag`. The tag is 0 for
+/// any word, n for a Set of n words, above 128 for a Span.
 #[inline(always)]
 pub(crate) fn value_length_by_tag(tag: u8) -> usize
     ensures { result ≡ value_length_by_tag tag }
@@ -79,7 +80,7 @@ pub(crate) fn value_length_by_tag(tag: u8) -> usize
     }
 }
 
-/// Skips the bytes of a certificate up to a place, without reading the values there.
+/// Moves the cursor forward to the offset `place` of a certificate. Values before are skipped.
 #[inline(always)]
 pub(crate) fn skip_values_to(c: &mut FileCursor<'_>, place: usize)
     requires order { c.old.place ≤ place }
@@ -90,8 +91,8 @@ pub(crate) fn skip_values_to(c: &mut FileCursor<'_>, place: usize)
     let _passed = c.take(n);
 }
 
-/// Reads the values of a state that begins at `start`, and returns the row of those that were read.
-/// `out` has the values of the state before, if there is one; repeated bytes are skipped.
+/// Reads the values of the state that begins at offset `start` into `out`, in format `version`.
+/// Equal bytes are skipped if `before` says where `out` was read. Returns the range of slots read.
 pub(crate) fn read_or_skip_values(
     c: &mut FileCursor<'_>,
     bytes: &[u8],
@@ -125,8 +126,8 @@ pub(crate) fn read_or_skip_values(
     }
 }
 
-/// Returns a row of values that were read with one more: value number `i`, after the others, at
-/// `place`.
+/// Returns the range of register slots read so far, extended to slot `i`, whose value begins at the
+/// offset `place`.
 fn row_extended_to(row: ValueRow, i: u8, place: u32) -> ValueRow
     requires order { row.first ≤ row.behind }
     requires behind { row.behind ≤ i }

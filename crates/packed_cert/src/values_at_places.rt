@@ -13,7 +13,8 @@ use crate::value_reader::{MOST_WORDS, value_length_by_tag};
 use depth_cert::SPAN;
 use value_domain::{Bounds, Val, is_value, set_span, set_words, write_any};
 
-/// Returns true if an abstract value is below the one at a place of a certificate's bytes.
+/// Returns true if `v` is below the abstract value at the offset `place` of a certificate of format
+/// `version`. Equal values are below each other.
 pub(crate) fn is_below_value_at(v: &Val, bytes: &[u8], version: u8, place: usize) -> bool
     requires well { IsWellFormed v.now }
     requires stands { ValueBeginsAt version bytes.now place }
@@ -35,8 +36,8 @@ pub(crate) fn is_below_value_at(v: &Val, bytes: &[u8], version: u8, place: usize
     }
 }
 
-/// Returns true if each of the `n` values at a place of a certificate's bytes is in the lattice of
-/// the plan and the format.
+/// Returns true if each of the `n` values from offset `place` on is in the lattice of `b`. The
+/// lattice has Sets of limited size, and Spans between thresholds of the plan.
 pub(crate) fn are_values_at(b: &Bounds, bytes: &[u8], version: u8, place: usize, n: usize) -> bool
     requires { ValuesBeginAt version bytes.now place n }
     ensures { IsTrue result ↔ AreInLattice b.now (values_in_bytes version bytes.now place n) }
@@ -54,7 +55,7 @@ pub(crate) fn are_values_at(b: &Bounds, bytes: &[u8], version: u8, place: usize,
     true
 }
 
-/// Decodes and returns the abstract value at a place of a certificate's bytes.
+/// Decodes the abstract value at the offset `place` of a certificate of format `version`.
 #[inline(never)]
 pub(crate) fn value_at_offset(bytes: &[u8], version: u8, place: usize) -> Val
     requires { ValueBeginsAt version bytes.now place }
@@ -65,8 +66,8 @@ pub(crate) fn value_at_offset(bytes: &[u8], version: u8, place: usize) -> Val
     out
 }
 
-/// Reads the abstract value at a place of a certificate's bytes over `out`, without a cursor.
-/// Nothing is written if `out` is that Set of two or more words already.
+/// Overwrites `out` with the abstract value at the offset `place` of a certificate of format
+/// `version`. Nothing is written if `out` is that Set of two or more words already.
 pub(crate) fn read_value_at_offset(bytes: &[u8], version: u8, place: usize, out: &mut Val)
     requires { ValueBeginsAt version bytes.now place }
     ensures { out.new ≡ value_in_bytes version bytes.now place }
@@ -96,8 +97,8 @@ pub(crate) fn read_value_at_offset(bytes: &[u8], version: u8, place: usize, out:
     }
 }
 
-/// Overwrites `out` with the Set of the `n` words at a place of a certificate's bytes. There are at
-/// most `N` words, which is the room for them.
+/// Overwrites `out` with the Set of the `n` words from the offset `place` of a certificate on. They
+/// are collected in an array of `N` words.
 fn read_set_at_offset<const N: usize>(out: &mut Val, bytes: &[u8], place: usize, n: usize)
     requires within { place + 4 * n ≤ length bytes.now }
     requires few { n ≤ N }
@@ -112,8 +113,8 @@ fn read_set_at_offset<const N: usize>(out: &mut Val, bytes: &[u8], place: usize,
     set_words(out, &words[..n]);
 }
 
-/// Returns true if an abstract value is the Set of just the `n` words at a place of a certificate's
-/// bytes.
+/// Returns true if the value `v` is the Set of just the `n` words from the offset `place` of a
+/// certificate on.
 fn is_set_of_words_at(v: &Val, bytes: &[u8], place: usize, n: usize) -> bool
     requires within { place + 4 * n ≤ length bytes.now }
     ensures { IsTrue result → v.now ≡ Set (words_in_bytes bytes.now place n) }
@@ -133,8 +134,8 @@ fn is_set_of_words_at(v: &Val, bytes: &[u8], place: usize, n: usize) -> bool
     true
 }
 
-/// Returns true if the value at a place of a certificate's bytes is in the lattice of the plan and
-/// the format.
+/// Returns true if the value at offset `place` of a certificate is in the lattice of `b`. The
+/// lattice has Sets of limited size, and Spans between thresholds of the plan.
 #[inline(never)]
 fn is_value_at(b: &Bounds, bytes: &[u8], version: u8, place: usize) -> bool
     requires { ValueBeginsAt version bytes.now place }
@@ -143,7 +144,7 @@ fn is_value_at(b: &Bounds, bytes: &[u8], version: u8, place: usize) -> bool
     is_value(b, &value_at_offset(bytes, version, place))
 }
 
-/// Returns the word at a place of a certificate's bytes, little-endian.
+/// Returns the word of four bytes at the offset `place` of a certificate, little-endian.
 pub(crate) fn word_at_offset(bytes: &[u8], place: usize) -> u32
     requires { place + 4 ≤ length bytes.now }
     ensures { result ≡ word_in_bytes bytes.now place }

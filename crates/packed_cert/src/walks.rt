@@ -53,7 +53,7 @@ impl<'a> PointWalk<'a> {
     ghost use Rattle.packed_cert.specs.Moves.{AllDifferOnlyInRows};
     ghost use Rattle.packed_cert.specs.Walks.{AdvancesTo, IsNextWithSameState, IsCoveredByNext, IsCoveredAt};
 
-    /// Returns a walk over no points, as room for a walk over the points of a certificate's node.
+    /// Returns a walk over no points, to be restarted on the points of a certificate's node.
     pub fn empty() -> PointWalk<'a>
         ensures { result.left ≡ [] }
     {
@@ -67,8 +67,8 @@ impl<'a> PointWalk<'a> {
         }
     }
 
-    /// Starts this walk again, before the first of these points of a certificate's node. The state
-    /// at hand stays, as room for theirs.
+    /// Resets this walk to before the first of these points of a certificate's node, in format
+    /// `version`. The current state stays until `advance` overwrites the values that differ.
     pub(crate) fn restart(&mut self, bytes: &'a [u8], version: u8, points: &'a [PointPlace])
         requires states { PointsHaveStates version bytes.now points.now }
         requires rising { AscendByAddress points.now }
@@ -83,8 +83,8 @@ impl<'a> PointWalk<'a> {
         self.row = empty_row();
     }
 
-    /// Goes on to the next point of a certificate's node and returns its address, or `None` after
-    /// the last. The walk then has the point's state.
+    /// Advances to the next point of a certificate's node and returns its address, or `None` after
+    /// the last. The point's state becomes the current state.
     #[inline(always)]
     pub fn advance(&mut self) -> Option<u32>
         ensures { AdvancesTo self.old result self.new }
@@ -98,8 +98,7 @@ impl<'a> PointWalk<'a> {
         Some(point.addr)
     }
 
-    /// Returns the address of the walk's next point if that has the same state as the point at
-    /// hand, else `None`.
+    /// Returns the address of the walk's next point if its state is the current one, else `None`.
     pub fn next_address_if_same_state(&self) -> Option<u32>
         ensures { IfSome result (IsNextWithSameState self.now) }
     {
@@ -110,8 +109,8 @@ impl<'a> PointWalk<'a> {
         if point.same { Some(point.addr) } else { None }
     }
 
-    /// Returns true only if the walk's next point is at `addr` and covers the state at hand after
-    /// the change `c`. Only values set or in the point's row are compared.
+    /// Returns true only if the walk's next point is at `addr` and covers the current state after
+    /// the change `c`. Only values that `c` writes, or that may differ at that point, are compared.
     pub fn is_covered_by_next(&self, addr: u32, c: &Change) -> bool
         requires hand { AreWellFormed self.now.current.regs }
         requires changed { AreWellFormed (state_after self.now.current c.now).regs }
@@ -131,8 +130,8 @@ impl<'a> PointWalk<'a> {
         }
     }
 
-    /// Returns true if the node has a point at this address whose state covers the one at hand.
-    /// Values aren't compared if both are at the same place of the file.
+    /// Returns true if the node has a point at `addr` whose state covers the current one. Values
+    /// aren't compared if both are at the same offset in the file.
     pub fn is_covered_at(&self, addr: u32) -> bool
         requires { AreWellFormed self.now.current.regs }
         ensures { IsTrue result ↔ IsCoveredAt self.now addr }
@@ -149,15 +148,15 @@ impl<'a> PointWalk<'a> {
         false
     }
 
-    /// Returns the abstract state of the walk's point at hand.
+    /// Returns the current state of the walk: that of the point advanced to last.
     pub fn state(&self) -> &State
         ensures { result.now ≡ self.now.current }
     {
         &self.state
     }
 
-    /// Returns the values of the state at hand that the walk's last advance may have changed. All
-    /// others were at hand before.
+    /// Returns the values of the current state that the walk's last advance may have changed. All
+    /// others were in the state before too.
     pub fn new_values(&self) -> &[Val]
         ensures { result.now ≡ self.now.anew }
     {
@@ -166,8 +165,8 @@ impl<'a> PointWalk<'a> {
     }
 }
 
-/// Overwrites `room`, the state before a point of a certificate, with the point's state. Only
-/// values of the point's row are read. Returns that row, empty for the same state.
+/// Overwrites `room`, the state of the point before, with that of `point`, in format `version`.
+/// Returns the range of register slots whose values may have changed.
 fn read_state_of_point(bytes: &[u8], version: u8, point: PointPlace, room: &mut State) -> ValueRow
     requires state { StateBeginsAt version bytes.now point.place }
     requires moved { DiffersOnlyInRow version bytes.now room.old point }
@@ -187,8 +186,8 @@ fn read_state_of_point(bytes: &[u8], version: u8, point: PointPlace, room: &mut 
     point.row
 }
 
-/// Reads the values of a point's row, those that may differ, over the register values `out` of the
-/// state before.
+/// Overwrites `out`, the register values of the point before, with those of `point`, in format
+/// `version`. Only the slots of `point.row` are read, as no others differ.
 fn read_row_values(bytes: &[u8], version: u8, point: PointPlace, out: &mut [Val; 27])
     requires row { ChangesOnlyRow out.old
         (state_in_bytes version bytes.now point.place).regs point.row }

@@ -14,7 +14,8 @@ use Rattle.small_states.specs.declared.known.KnownForm.{KnownForm}
 use Rattle.small_states.specs.declared.known.KnownForm.TheVariants.{Point, Leaves}
 use Rattle.small_states.specs.declared.known.Outline.{Outline}
 
--- the values that an entry of a compact list stands for: unknown ones, then a known one
+-- the values that an entry of a compact list stands for: as many unknown ones as the entry says,
+-- then its known one
 abbrev pub spaced_values : SpacedValue → List Val
 spaced_values s = replicate s.anys any_val ++ s.value ∷ []
 

@@ -14,7 +14,8 @@ use Rattle.depth_cert.specs.declared.points.Exit.{Exit}
 use Rattle.small_states.specs.declared.incoming.Given.{Given}
 use Rattle.small_states.specs.declared.incoming.Given.TheVariants.{Whole, Compact}
 
--- the state or exit that flows into a place: after a change, after a return, or at leaving a frame
+-- the state or exit that flows into a point or into a frame's exit: after a change, after a return,
+-- or at leaving a frame
 abbrev pub incoming_known : Incoming → Known
 incoming_known (Changed s c) = state (state_after s.now c.now)
 incoming_known (After s x kind) = state (state_after_return s.now (whole_exit x.now) kind)
@@ -32,7 +33,7 @@ incoming_values (Changed s c) = (state_after s.now c.now).regs
 incoming_values (After s x kind) = (state_after_return s.now (whole_exit x.now) kind).regs
 incoming_values (Leaving s) = lower_values (s.now).regs
 
--- what flows into a place is an exit, not a state
+-- what flows into a place (a point or a frame's exit) is an exit, not a state
 abbrev pub is_incoming_exit : Incoming → Bool
 is_incoming_exit (Changed s c) = false
 is_incoming_exit (After s x kind) = false

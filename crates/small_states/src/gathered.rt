@@ -59,8 +59,8 @@ impl Gathered {
         Ok(())
     }
 
-    /// Appends the buffered bytes of a state to `out`, and empties the buffer. Few states are so
-    /// long that this happens before their end.
+    /// Appends the buffered bytes to `out` and empties the buffer. Most states fit into the buffer
+    /// and need no flush.
     #[inline(never)]
     pub(crate) fn flush(&mut self, out: &mut Vec<u8>) -> Result<(), NoMemory>
         ensures added { OnOk result (out.new.items ≡ out.old.items ++ self.old) }
@@ -137,8 +137,8 @@ impl Gathered {
         Ok(())
     }
 
-    /// Appends the bytes of `here`, unknown values and then a single word, to the buffer. Returns
-    /// false, with nothing appended, for another value or without room.
+    /// Appends the bytes of `here`, unknown values and a known one after them, to the buffer.
+    /// Returns false and appends nothing if the known one isn't a single word or room is missing.
     #[inline(always)]
     pub(crate) fn push_spaced_word(&mut self, here: &SpacedValue) -> bool
         ensures put { IsTrue result

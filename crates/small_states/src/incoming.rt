@@ -51,7 +51,7 @@ pub(crate) struct Context<'a> {
     pub locals: &'a ArrayVec<bool, 8>,
 }
 
-/// Returns the CCPN of the state or exit that flows into a place.
+/// Returns the lower bound of CCPN in the state or exit that flows into a point or an exit.
 #[inline(always)]
 pub fn incoming_ccpn(incoming: &Incoming) -> u8
     ensures { result ≡ known_ccpn (incoming_known incoming.now) }
@@ -63,7 +63,7 @@ pub fn incoming_ccpn(incoming: &Incoming) -> u8
     }
 }
 
-/// Returns whether what flows into a place is the exit of a frame, not a state.
+/// Returns true if what flows into a place (a point or a frame's exit) is an exit, not a state.
 #[inline(always)]
 pub(crate) fn is_incoming_exit(incoming: &Incoming) -> bool
     ensures { result ≡ is_incoming_exit incoming.now }
@@ -75,8 +75,8 @@ pub(crate) fn is_incoming_exit(incoming: &Incoming) -> bool
     }
 }
 
-/// Returns what flows into a place beside register values: IE, CCPN, whether the lower registers
-/// are the entry's, and the locals.
+/// Returns the incoming facts besides register values: IE, CCPN, whether the lower registers are
+/// the entry's, and a flag for each saved lower context.
 pub(crate) fn incoming_context<'a>(incoming: &Incoming<'a>) -> Context<'a>
     ensures { incoming_known incoming.now ≡ incoming_known_with incoming.now result }
 {
@@ -104,7 +104,7 @@ pub(crate) fn incoming_context<'a>(incoming: &Incoming<'a>) -> Context<'a>
     }
 }
 
-/// Returns the compact form of the state or exit that flows into a place, from its compact values.
+/// Returns the compact form of the incoming state or exit, whose register values are `values`.
 pub(crate) fn incoming_form(values: Rc<Values>, incoming: &Incoming) -> KnownForm
     requires { all_values values.value ≡ incoming_values incoming.now }
     ensures { whole_known result ≡ incoming_known incoming.now }
@@ -126,8 +126,8 @@ pub(crate) fn incoming_form(values: Rc<Values>, incoming: &Incoming) -> KnownFor
     })
 }
 
-/// Returns whether a compact state covers the state that flows into its place, with the context
-/// `k`.
+/// Returns true if the compact state `upper` covers the incoming state. `k` has that state's IE,
+/// CCPN, `lower` and flags of saved lower contexts.
 pub(crate) fn is_incoming_state_covered(
     upper: &SmallState,
     incoming: &Incoming,
@@ -150,8 +150,8 @@ pub(crate) fn is_incoming_state_covered(
     are_incoming_values_covered(upper.regs.as_ref(), incoming)
 }
 
-/// Returns the least compact state that covers `left` and the incoming state with the context `k`,
-/// or `None` if their numbers of locals differ.
+/// Returns the least compact state, within the limits `b`, that covers `left` and the incoming
+/// state, whose IE, CCPN and flags `k` has. `None` if their numbers of saved lower contexts differ.
 pub(crate) fn join_incoming_state(
     alloc: Global,
     b: &Bounds,
@@ -185,7 +185,7 @@ pub(crate) fn join_incoming_state(
     Ok(Some(SmallKnown { form }))
 }
 
-/// Returns whether a compact exit covers the exit that flows into its place, with the context `k`.
+/// Returns true if the compact exit `upper` covers the incoming one, whose IE and CCPN `k` has.
 pub(crate) fn is_incoming_exit_covered(upper: &SmallExit, incoming: &Incoming, k: &Context) -> bool
     requires upper { AreWellFormed (all_values upper.now.lower.value) }
     requires incoming { AreWellFormed (incoming_values incoming.now) }
@@ -201,8 +201,8 @@ pub(crate) fn is_incoming_exit_covered(upper: &SmallExit, incoming: &Incoming, k
     are_incoming_values_covered(upper.lower.as_ref(), incoming)
 }
 
-/// Returns the least compact exit that covers `exit` and the incoming exit with the context `k`.
-/// The result is never `None`.
+/// Returns the least compact exit, within the limits `b`, that covers `exit` and the incoming exit,
+/// whose IE and CCPN `k` has. The result is never `None`.
 pub(crate) fn join_incoming_exit(
     alloc: Global,
     b: &Bounds,

@@ -19,8 +19,8 @@ use std::rc::Rc;
 use value_domain::{A10_SLOT, Bounds, State, Val};
 use vd_transfer::{Base, Change, RegisterWrite, is_lower_slot};
 
-/// Returns a new compact list of the values that flow in, each copied from the sender's state, the
-/// change or the exit. A function of its own: a whole value takes room on its stack.
+/// Returns a new compact list with a copy of each incoming register value. Never inlined, since a
+/// whole value takes room on the stack.
 #[inline(never)]
 pub(crate) fn copy_incoming_values(alloc: Global, incoming: &Incoming) -> Result<Values, AllocError>
     ensures { IfOk result (λ values. all_values values ≡ incoming_values incoming.now) }
@@ -40,8 +40,8 @@ pub(crate) fn copy_incoming_values(alloc: Global, incoming: &Incoming) -> Result
     Ok(values)
 }
 
-/// Returns the values that flow in as a compact list, from the sender's compact list `own`, which
-/// is shared if no value changes.
+/// Returns the compact list of the incoming register values, made from `own`, the values at the
+/// point that they flow from. A change that keeps all values shares `own`.
 pub(crate) fn incoming_values_from_sender(
     alloc: Global,
     own: &Rc<Values>,
@@ -59,7 +59,7 @@ pub(crate) fn incoming_values_from_sender(
     }
 }
 
-/// Returns whether each incoming value is below the value of `upper` at the same index. Unknown
+/// Returns true if the value of `upper` at each index covers the incoming register value. Unknown
 /// values of `upper`, which cover all, are skipped.
 pub(crate) fn are_incoming_values_covered(upper: &Values, incoming: &Incoming) -> bool
     requires upper { AreWellFormed (all_values upper.now) }
@@ -126,8 +126,8 @@ pub(crate) fn join_incoming_values(
     Ok(values)
 }
 
-/// Returns the incoming value at an index of the state's or exit's values. `any` is a compact
-/// unknown value, for what isn't known.
+/// Returns the incoming register value at the index `i`, of 27 for a state or 14 for an exit.
+/// `any`, a compact unknown value, is returned for what isn't known.
 #[inline(always)]
 pub(crate) fn incoming_value<'a>(incoming: &'a Incoming, any: &'a Small, i: usize) -> Given<'a>
     requires place { i < length (incoming_values incoming.now) }
@@ -166,8 +166,8 @@ fn values_after_change(
     apply_change(alloc, own, c)
 }
 
-/// Returns a new compact list of the values that flow in, copied from the sender's compact list
-/// `own` and the exit's.
+/// Returns a new compact list of the incoming register values. They are copied from `own`, the
+/// values at the point that they flow from; after a return, lower registers come from the exit.
 #[inline(never)]
 fn copy_sent_values(alloc: Global, own: &Values, incoming: &Incoming) -> Result<Values, AllocError>
     requires { all_values own.now ≡ (sender_state incoming.now).regs }
@@ -197,8 +197,8 @@ fn copy_sent_values(alloc: Global, own: &Values, incoming: &Incoming) -> Result<
     }
 }
 
-/// Returns a compact list of the values `own` after a change. The list is shared if the change
-/// keeps all values.
+/// Returns the compact list of the values `own` after the change `c`. If the change keeps all
+/// values, `own` itself is shared.
 #[inline(always)]
 fn apply_change(alloc: Global, own: &Rc<Values>, c: &Change) -> Result<Rc<Values>, AllocError>
     requires { length (all_values own.now.value) ≡ 27 }
@@ -217,8 +217,8 @@ fn apply_change(alloc: Global, own: &Rc<Values>, c: &Change) -> Result<Rc<Values
     Ok(Rc::new(alloc, values)?)
 }
 
-/// Returns the compact list that a change of `own` starts from: all values, those without the lower
-/// registers, or only unknown ones.
+/// Returns the compact list before the writes of a change, as `base` says: `own`, `own` with the
+/// lower registers unknown, or only unknown values.
 #[inline(always)]
 fn base_values(alloc: Global, own: &Values, base: Base) -> Result<Values, AllocError>
     requires { length (all_values own.now) ≡ 27 }
@@ -234,7 +234,7 @@ fn base_values(alloc: Global, own: &Values, base: Base) -> Result<Values, AllocE
     }
 }
 
-/// Sets one register's value of a change in a compact list, if the change has that value.
+/// Sets the value of one write of a change in a compact list, if that write has a slot.
 #[inline(always)]
 fn apply_write(alloc: Global, values: &mut Values, write: &RegisterWrite) -> Result<(), AllocError>
     ensures { OnOk result (all_values values.new ≡ with_write (all_values values.old) write.now) }
@@ -246,7 +246,7 @@ fn apply_write(alloc: Global, values: &mut Values, write: &RegisterWrite) -> Res
     values.set_at_index(at, value)
 }
 
-/// Returns a compact list of a state's values `own`, those of the lower registers unknown.
+/// Returns a copy of a state's compact values, with the lower registers (D0..D7, A2..A7) unknown.
 #[inline(never)]
 fn without_lower_values(alloc: Global, own: &Values) -> Result<Values, AllocError>
     requires { length (all_values own.now) ≡ 27 }
@@ -283,8 +283,8 @@ fn changed_state_value<'a>(s: &'a State, c: &'a Change, any: &'a Small, i: usize
     base_value(s, c.base, any, i)
 }
 
-/// Returns the value at an index of the caller's state `s` after a called frame returned with this
-/// exit. `any` is a compact unknown value.
+/// Returns the value at the index `i` of the caller's state `s` after a called frame returned with
+/// this exit. `any` is a compact unknown value.
 #[inline(always)]
 fn value_after_return<'a>(s: &'a State, exit: &'a SmallExit, any: &'a Small, i: usize) -> Given<'a>
     requires place { i < 27 }
@@ -297,8 +297,8 @@ fn value_after_return<'a>(s: &'a State, exit: &'a SmallExit, any: &'a Small, i: 
     lower_or_caller_value(i, exit, any, &s.regs[i])
 }
 
-/// Returns the value at an index of what a change of `s` starts from, before values are set. `any`
-/// is a compact unknown value.
+/// Returns the value at the index `i` before a change's writes: that of `s`, or `any`, a compact
+/// unknown value, if the register is forgotten.
 #[inline(always)]
 fn base_value<'a>(s: &'a State, base: Base, any: &'a Small, i: usize) -> Given<'a>
     requires place { i < 27 }
@@ -319,8 +319,8 @@ fn base_value<'a>(s: &'a State, base: Base, any: &'a Small, i: usize) -> Given<'
     }
 }
 
-/// Returns the value at an index after a return: the exit's for a lower register, else `v`, the
-/// caller's. `any` is a compact unknown value.
+/// Returns the value at the index `i` of a state after a return: the exit's for a lower register,
+/// else `v`, the caller's. `any` is a compact unknown value.
 #[inline(always)]
 fn lower_or_caller_value<'a>(i: usize, exit: &'a SmallExit, any: &'a Small, v: &'a Val) -> Given<'a>
     requires { any.now ≡ any_val }
@@ -336,8 +336,7 @@ fn lower_or_caller_value<'a>(i: usize, exit: &'a SmallExit, any: &'a Small, v: &
     }
 }
 
-/// Returns the number of register values of what flows into a place: 27 for a state, 14 for an
-/// exit.
+/// Returns the number of incoming register values: 27 for a state, 14 for an exit.
 pub(crate) fn count_incoming_values(incoming: &Incoming) -> usize
     ensures long { result ≡ length (incoming_values incoming.now) }
     ensures few { result ≤ 27 }

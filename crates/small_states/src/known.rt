@@ -53,8 +53,8 @@ impl Model for SmallKnown {
     ghost view = { λ c. whole_known c.form };
 }
 
-/// Returns whether the incoming state may cover the known compact one: only a hint, which saves
-/// most comparisons.
+/// Guesses, without comparing all values, whether the state that flows into a point covers the one
+/// known there. A wrong guess only costs time or memory.
 #[inline(always)]
 fn may_cover_known(known: &KnownForm, incoming: &Incoming) -> bool {
     let KnownForm::Point(known) = known else {
@@ -69,8 +69,8 @@ fn may_cover_known(known: &KnownForm, incoming: &Incoming) -> bool {
         && may_cover_known_value(known, &c.third)
 }
 
-/// Returns, as a hint, whether a change's value for a register covers the known compact one: equal,
-/// or with more words. True without a value.
+/// Guesses whether a register's written value covers its known one: both are equal, the written one
+/// has more words, or there is no write.
 fn may_cover_known_value(known: &SmallState, write: &RegisterWrite) -> bool {
     let Some(at) = write.at else {
         return true;
@@ -85,7 +85,7 @@ fn may_cover_known_value(known: &SmallState, write: &RegisterWrite) -> bool {
 }
 
 impl SmallKnown {
-    /// Returns a compact copy of the state or exit that flows into a place.
+    /// Returns a compact copy of the incoming state or exit, for a point or exit not known yet.
     pub fn new(alloc: Global, _b: &Bounds, incoming: &Incoming) -> Result<SmallKnown, AllocError>
         requires { IsWellFormedKnown _b.now (incoming_known incoming.now) }
         ensures { IfOk result (λ c. c ≡ incoming_known incoming.now) }
@@ -95,8 +95,8 @@ impl SmallKnown {
         Ok(SmallKnown { form })
     }
 
-    /// Returns a compact copy of the state or exit that flows from the point with this known state.
-    /// Unchanged lists of values are shared.
+    /// Returns a compact copy of the state or exit that flows out of the point with this known
+    /// state. An unchanged list of values is shared, not copied.
     pub fn copy_incoming(&self, alloc: Global, incoming: &Incoming) -> Result<SmallKnown, AllocError>
         requires { self.now ≡ state (sender_state incoming.now) }
         ensures { IfOk result (λ c. c ≡ incoming_known incoming.now) }
@@ -109,7 +109,7 @@ impl SmallKnown {
         Ok(SmallKnown { form })
     }
 
-    /// Returns a copy of what is known at a place. The copies share their values.
+    /// Returns a copy of this known state or exit, which shares its values.
     pub fn copy(&self) -> Result<SmallKnown, AllocError>
         ensures { IfOk result (λ c. c ≡ self.now) }
     {
@@ -126,7 +126,7 @@ impl SmallKnown {
         Ok(SmallKnown { form })
     }
 
-    /// Returns whether what is known at a place covers the state or exit that flows into the place.
+    /// Returns true if this known state (or exit) covers the incoming state (or exit).
     pub fn covers(&self, _b: &Bounds, incoming: &Incoming) -> bool
         requires known { IsWellFormedKnown _b.now self.now }
         requires incoming { IsWellFormedKnown _b.now (incoming_known incoming.now) }
@@ -150,7 +150,7 @@ impl SmallKnown {
     }
 
     /// Returns the least state or exit, within the limits `b`, that covers the known and the
-    /// incoming one. `None` for a state and an exit, or for unequal numbers of locals.
+    /// incoming one. `None` for a state and an exit, or if their numbers of saved contexts differ.
     pub fn join(
         &self,
         alloc: Global,
@@ -178,8 +178,8 @@ impl SmallKnown {
         }
     }
 
-    /// Returns what `join` returns, and shares values with `own`, the sender's state, if the
-    /// incoming state covers the known one.
+    /// Returns the same as `join`. To save memory, the result may share values with `own`, the
+    /// state of the point that the incoming one flows from.
     pub fn join_sharing(
         &self,
         alloc: Global,
@@ -201,8 +201,8 @@ impl SmallKnown {
         self.join(alloc, b, incoming)
     }
 
-    /// Returns IE, CCPN and the number of locals of a known state, on which needs depend, or `None`
-    /// for an exit.
+    /// Returns what of a known state affects how many context save areas its frame needs: IE, CCPN,
+    /// the number of saved lower contexts. `None` for an exit.
     pub fn outline(&self) -> Option<Outline>
         ensures { IfSome result (IsOutline self.now) }
     {
@@ -216,8 +216,8 @@ impl SmallKnown {
         }
     }
 
-    /// Writes the known compact state, as whole values, over the scratch state `into`. For an exit,
-    /// nothing is written.
+    /// Overwrites the scratch state `into` with this known state, its compact values made whole.
+    /// For an exit, nothing is written.
     pub fn write_state(&self, _b: &Bounds, into: &mut ScratchState)
         requires { IsWellFormedKnown _b.now self.now }
         ensures { IsKnownState self.now into.new }
@@ -241,7 +241,7 @@ impl SmallKnown {
         }
     }
 
-    /// Returns the compact exit that is known at a place, or `None` for a state.
+    /// Returns this known exit in its compact form, or `None` if a state is known.
     pub fn exit(&self) -> Option<&SmallExit>
         ensures some { IfSome result (λ x. self.now ≡ leaving (whole_exit x.now)) }
         ensures none { IfNone result (IsNotExit self.now) }
@@ -252,8 +252,8 @@ impl SmallKnown {
         }
     }
 
-    /// Returns true only if both are states, with the same gaps between known values, and this
-    /// state covers `low`.
+    /// Returns true only if both are states, with known values at the same indices, and this state
+    /// covers `low`.
     fn covers_with_same_gaps(&self, low: &SmallKnown, _b: &Bounds) -> bool
         requires own { IsWellFormedKnown _b.now self.now }
         requires low { IsWellFormedKnown _b.now low.now }

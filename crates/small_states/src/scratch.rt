@@ -28,8 +28,8 @@ impl Model for ScratchState {
     ghost invariant = { λ s. IfSome s.last (λ last. s.state.regs ≡ all_values last.value) };
 }
 
-/// Writes 27 compact values over the whole ones of a scratch state, and notes them in `last` as
-/// those written last.
+/// Overwrites `regs`, the registers of a reused state, with compact `values`. `last` remembers what
+/// was written, so that equal values are skipped next time; `None` if out of memory.
 #[inline(always)]
 fn write_scratch_values(values: &Rc<Values>, last: &mut Option<Rc<Values>>, regs: &mut [Val; 27])
     requires long { length (all_values values.now.value) ≡ 27 }
@@ -51,8 +51,8 @@ fn write_scratch_values(values: &Rc<Values>, last: &mut Option<Rc<Values>>, regs
     };
 }
 
-/// Writes compact values over `regs`, which have the values `last`. With the same gaps, only values
-/// that differ are written. Returns true only if none was.
+/// Overwrites `regs`, which holds the values `last`, with `values`; equal ones are skipped if both
+/// lists have unknown values at the same indices. Returns true only if all are equal.
 #[inline(always)]
 fn overwrite_last_values(values: &Values, last: &Values, regs: &mut [Val; 27]) -> bool
     requires long { length (all_values values.now) ≡ 27 }
@@ -86,8 +86,7 @@ fn overwrite_last_values(values: &Values, last: &Values, regs: &mut [Val; 27]) -
 }
 
 impl ScratchState {
-    /// Returns a scratch state that begins with this state, and over which compact states are
-    /// written.
+    /// Returns a state buffer that begins with `state` and over which compact states are written.
     pub fn new(state: State) -> ScratchState
         ensures { result ≡ state }
     {

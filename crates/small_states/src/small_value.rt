@@ -70,8 +70,8 @@ fn have_same_words(v: &Val, w: &Val) -> bool
     own.len() == words.len() && starts_with_words(own, words)
 }
 
-/// Returns how many of `words`, before the first that isn't a word of the set `own`, are words of
-/// that set. Both lists ascend.
+/// Returns the length of the longest prefix of `words` whose words are all in the set `own`. Both
+/// lists ascend.
 fn count_leading_members(own: &[u32], words: &[u32]) -> usize
     requires own { IsAscending own.now }
     requires words { IsAscending words.now }
@@ -136,7 +136,7 @@ fn is_word_in_range(x: u32, lo: u32, last: u32, step: u8) -> bool
     lo <= x && x <= last && step <= alignment_log2(x)
 }
 
-/// Returns the compact form of a range that isn't all words. Never inlined.
+/// Returns the compact form of a range: the multiples of `2 ^ step` from `lo` to `last`.
 #[inline(never)]
 fn range_form(lo: u32, last: u32, step: u8) -> SmallForm
     ensures { whole_value result ≡ Span lo last step }
@@ -144,8 +144,8 @@ fn range_form(lo: u32, last: u32, step: u8) -> SmallForm
     SmallForm::Range { lo, last, step }
 }
 
-/// Returns true only if the words `own` start with `words`. All are compared, since that takes
-/// several at once.
+/// Returns true only if the words `own` start with `words`. There is no early exit, so that several
+/// words are compared at once.
 #[inline(always)]
 fn starts_with_words(own: &[u32], words: &[u32]) -> bool
     ensures { IsTrue result → (rest : List ℕ) × (own.now ≡ words.now ++ rest) }
@@ -344,7 +344,7 @@ impl Small {
         }
     }
 
-    /// Returns whether a compact value is a word or a set, and the other value has more words.
+    /// Hints that `v` may cover this value: true for a word or a set of fewer words than `v`.
     pub(crate) fn has_fewer_words(&self, v: &Val) -> bool {
         let most = match v.words() {
             Some(words) => words.len(),
@@ -430,7 +430,7 @@ impl Small {
         }
     }
 
-    /// Returns a compact value that holds a copy of a whole one, which its copies share.
+    /// Returns a compact value that holds a copy of the whole value `v`, which its copies share.
     #[inline(never)]
     fn with_shared_copy(alloc: Global, v: &Val) -> Result<Small, AllocError>
         ensures { IfOk result (λ s. s ≡ v.now) }
@@ -455,7 +455,7 @@ impl Small {
         }
     }
 
-    /// Returns true only if a compact value has the form of this range.
+    /// Returns true only if the form is the range of the multiples of `2 ^ step` in `lo..=last`.
     #[inline(always)]
     fn is_range(&self, lo: u32, last: u32, step: u8) -> bool
         ensures { IsTrue result → self.now ≡ Span lo last step }
@@ -507,7 +507,7 @@ impl Small {
         }
     }
 
-    /// Returns true only if a compact value's form shows that all words of a range are its members.
+    /// Returns true only if the form shows all multiples of `2 ^ step` in `lo..=last` as members.
     #[inline(always)]
     fn has_all_of_range(&self, lo: u32, last: u32, step: u8) -> bool
         ensures { IsTrue result → IsBelow (Span lo last step) self.now }
@@ -533,7 +533,7 @@ impl Small {
     }
 
     /// Returns the least compact value with the members of this one and of `v`, the set of `words`.
-    /// The shorter part is added to a copy of the other set; more than 16 missing words are merged.
+    /// How both are merged depends on how many words are missing.
     #[inline(never)]
     fn join_word_set(
         &self,
@@ -637,8 +637,8 @@ impl Small {
         self.copy()
     }
 
-    /// Returns the least compact value with the members of this one and of a whole one, which are
-    /// added to a whole copy.
+    /// Returns the least compact value with the members of this one and of the whole value `v`, by
+    /// joining `v` into a whole copy.
     #[inline(never)]
     fn join_in_whole_copy(&self, alloc: Global, b: &Bounds, v: &Val) -> Result<Small, AllocError>
         requires own { IsInLattice b.now self.now }
@@ -663,7 +663,7 @@ impl Small {
         Small::from_value(alloc, &v)
     }
 
-    /// Returns true only if a compact value's form shows that its members are words of a range.
+    /// Returns true only if the form shows all members as multiples of `2 ^ step` in `lo..=last`.
     #[inline(always)]
     fn is_inside_range(&self, lo: u32, last: u32, step: u8) -> bool
         ensures { IsTrue result → IsBelow self.now (Span lo last step) }

@@ -12,7 +12,7 @@ use crate::states::{SmallExit, SmallState};
 use crate::values::Values;
 use tcd_base::NoMemory;
 
-/// Returns the byte that spells a flag of a compact state or exit: 1 or 0.
+/// Returns the byte that spells a flag in a certificate: 1 for true, 0 for false.
 #[inline(always)]
 fn cert_flag_byte(x: bool) -> u8
     ensures { result ≡ cert_flag_byte x }
@@ -20,8 +20,8 @@ fn cert_flag_byte(x: bool) -> u8
     if x { 1 } else { 0 }
 }
 
-/// Appends the certificate's bytes of all values of a compact list, known and unknown, by way of
-/// the buffer.
+/// Appends the certificate's bytes of all values of a compact list, known and unknown, to the
+/// buffer `gathered`. A buffer without room is flushed to `out`.
 #[inline(always)]
 fn write_values(out: &mut Vec<u8>, gathered: &mut Gathered, values: &Values) -> Result<(), NoMemory>
     requires { All IsWellFormed (all_values values.now) }
@@ -38,8 +38,8 @@ fn write_values(out: &mut Vec<u8>, gathered: &mut Gathered, values: &Values) -> 
     gathered.push_unknowns(out, values.rest)
 }
 
-/// Appends the certificate's bytes of `anys` unknown values and then of `v`, which is no single
-/// word that had room in the buffer.
+/// Appends the certificate's bytes of `anys` unknown values and the known value `v` to `out`, by
+/// way of the buffer `gathered`. The slow path for what `push_spaced_word` refuses.
 #[inline(never)]
 fn append_spaced_value(
     out: &mut Vec<u8>,
@@ -65,7 +65,7 @@ fn append_spaced_value(
 }
 
 impl SmallState {
-    /// Appends the bytes that spell the state.
+    /// Appends the certificate's bytes of this compact state to `out`.
     #[tactic(auto, unfolding(depth_cert::specs::Spelling::bytes_of_state))]
     pub(crate) fn append_bytes(&self, out: &mut Vec<u8>) -> Result<(), NoMemory>
         requires { All IsWellFormed (all_values self.now.regs.value) }
@@ -87,7 +87,7 @@ impl SmallState {
 }
 
 impl SmallExit {
-    /// Appends the bytes that spell the exit.
+    /// Appends to `out` the byte 1 (an exit is present) and the certificate's bytes of this exit.
     #[tactic(auto, unfolding(depth_cert::specs::Spelling::bytes_of_exit))]
     pub fn append_bytes(&self, out: &mut Vec<u8>) -> Result<(), NoMemory>
         requires { All IsWellFormed (all_values self.now.lower.value) }

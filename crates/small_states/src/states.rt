@@ -34,7 +34,7 @@ pub struct SmallExit {
 }
 
 impl SmallState {
-    /// Returns whether its context covers this one.
+    /// Returns true if this state is no stricter in IE, CCPN bound or `lower` than the given ones.
     pub fn covers_context(&self, ie: bool, ccpn: u8, lower: bool) -> bool
         ensures { IsTrue result
             ↔ ((IsTrue ie → IsTrue self.now.ie) × (self.now.ccpn ≤ ccpn)
@@ -57,7 +57,7 @@ impl SmallExit {
         })
     }
 
-    /// Returns whether its IE and CCPN cover these.
+    /// Returns true if this exit is no stricter in IE or CCPN bound than the given ones.
     pub fn covers_context(&self, ie: bool, ccpn: u8) -> bool
         ensures { IsTrue result ↔ ((IsTrue ie → IsTrue self.now.ie) × (self.now.ccpn ≤ ccpn)) }
     {

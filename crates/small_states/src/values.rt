@@ -76,7 +76,7 @@ impl Values {
         self.push_value(value)
     }
 
-    /// Returns the value at an index of a compact list. `any` is returned for an unknown value.
+    /// Returns the value at an index of a compact list; `any` for an unknown one and past the end.
     pub(crate) fn value_or_any<'a>(&'a self, any: &'a Small, i: usize) -> Given<'a>
         requires { any.now ≡ any_val }
         ensures { incoming_value_of result ≡ slice_index_or (all_values self.now) i any_val }
@@ -190,8 +190,8 @@ impl Values {
         Ok(())
     }
 
-    /// Returns how many known values of a compact list are before an index, and how many unknown
-    /// ones lie between them and the index.
+    /// Returns how many known values of a compact list are before the index `i`, and how many
+    /// unknown ones are between them and the index.
     #[inline(always)]
     fn locate_index(&self, i: usize) -> (usize, usize)
         ensures { IsIndexAfter self.now i result.0 result.1 }
@@ -208,8 +208,8 @@ impl Values {
         (known.len(), left)
     }
 
-    /// Sets a value of a compact list, `anys` unknown values after the first `n` known ones: the
-    /// next known value, or an unknown one before.
+    /// Sets the value at the offset `anys` in entry `n` of a compact list: one of its unknown
+    /// values or, after these, its known one.
     fn set_in_entry(&mut self, n: usize, anys: usize, value: Small) -> Result<(), AllocError>
         requires within { n < length self.old.known.items }
         requires before { HasUnknownsBefore self.old n anys }
@@ -236,8 +236,8 @@ impl Values {
         Ok(())
     }
 
-    /// Sets a value of a compact list, `anys` unknown values after the last known one. Past the
-    /// end, nothing changes.
+    /// Sets the value of a compact list that is `anys` unknown values after the last known one.
+    /// Past the end, nothing changes.
     fn set_after_known(&mut self, anys: usize, value: Small) -> Result<(), AllocError>
         ensures { OnOk result
             (all_values self.new
@@ -257,8 +257,8 @@ impl Values {
     }
 }
 
-/// Returns true only if two compact lists have the same gaps and each value of `low` is below that
-/// of `high` at its index.
+/// Returns true only if both compact lists know values at the same indices, and each value of `low`
+/// is below that of `high`.
 pub(crate) fn are_all_below(low: &Values, high: &Values) -> bool
     requires low { AreWellFormed (all_values low.now) }
     requires high { AreWellFormed (all_values high.now) }

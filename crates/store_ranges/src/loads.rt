@@ -38,8 +38,8 @@ pub fn load_of(b: &Bounds, image: &Image, plan: &Plan, at: &Val, size: u8, signe
     out
 }
 
-/// Overwrites an abstract value with what loads from all addresses in `at` give, as `load_of` does.
-/// A second value is built only for several addresses, some outside rom.
+/// Overwrites `out` with what `load_of` returns: the least abstract value that holds what loads
+/// from all addresses in `at` give.
 pub fn write_load(b: &Bounds, image: &Image, plan: &Plan, at: &Val, load: LoadKind, out: &mut Val)
     requires at { IsInLattice b.now at.now }
     requires size { IsAccessSize load.size }
@@ -55,7 +55,7 @@ pub fn write_load(b: &Bounds, image: &Image, plan: &Plan, at: &Val, load: LoadKi
     }
 }
 
-/// Overwrites an abstract value with what loads from all of these addresses, one at least, give.
+/// Overwrites `out` with what loads from all these addresses, one at least, give.
 fn write_loads(b: &Bounds, image: &Image, plan: &Plan, words: &[u32], load: LoadKind, out: &mut Val)
     requires some { 1 ≤ length words.now }
     requires size { IsAccessSize load.size }
@@ -70,8 +70,8 @@ fn write_loads(b: &Bounds, image: &Image, plan: &Plan, words: &[u32], load: Load
     }
 }
 
-/// Overwrites an abstract value with what loads from a Span of addresses give: a peripheral's
-/// answers if all are in its range, else any word.
+/// Overwrites `out` with what loads from the Span `at` of addresses give: the answers of the
+/// peripheral whose range holds them all, else any loaded word.
 fn write_loads_from_span(b: &Bounds, plan: &Plan, at: &Val, load: LoadKind, out: &mut Val)
     requires at { IsInLattice b.now at.now }
     requires size { IsAccessSize load.size }
@@ -84,8 +84,8 @@ fn write_loads_from_span(b: &Bounds, plan: &Plan, at: &Val, load: LoadKind, out:
     write_peripheral_answers(b, device, load, out);
 }
 
-/// Overwrites an abstract value with what a load from one address gives: the word in rom, a
-/// peripheral's answers, or any word.
+/// Overwrites `out` with what a load from the address `x` gives: the word in rom, else a
+/// peripheral's answers, else any loaded word.
 fn write_load_at(b: &Bounds, image: &Image, plan: &Plan, x: u32, load: LoadKind, out: &mut Val)
     requires { IsAccessSize load.size }
     ensures loaded { out.new
@@ -101,7 +101,7 @@ fn write_load_at(b: &Bounds, image: &Image, plan: &Plan, x: u32, load: LoadKind,
     }
 }
 
-/// Joins what a load from one more address gives into an abstract value.
+/// Joins what a load from one more address, `x`, gives into the abstract value `out`.
 fn join_load_at(b: &Bounds, image: &Image, plan: &Plan, x: u32, load: LoadKind, out: &mut Val)
     requires size { IsAccessSize load.size }
     requires value { IsInLattice b.now out.old }
@@ -116,8 +116,8 @@ fn join_load_at(b: &Bounds, image: &Image, plan: &Plan, x: u32, load: LoadKind, 
     }
 }
 
-/// Returns the first peripheral whose range holds words at `low` and at `high`, from which a load
-/// gets its word. `None` if there is none, or for fewer than 4 bytes.
+/// Returns the first peripheral whose range holds a word both at `low` and at `high`, and so
+/// answers a load. `None` if there is none, or for fewer than 4 bytes.
 fn device_of_load(plan: &Plan, low: u32, high: u32, size: u8) -> Option<Device>
     ensures device { result
         ≡ (if size == 4 then first_device_holding plan.now.devices low high 4 else None) }
@@ -143,8 +143,8 @@ fn extend_loaded_number(number: u32, load: LoadKind) -> u32
     }
 }
 
-/// Overwrites an abstract value with the cover of the words that a peripheral may answer to a load.
-/// Without a peripheral, any loaded word is covered.
+/// Overwrites `out` with the cover of the words that a peripheral may answer to a load. Without a
+/// peripheral, all loaded words of that size and sign are covered.
 fn write_peripheral_answers(b: &Bounds, device: Option<Device>, load: LoadKind, out: &mut Val)
     requires size { IsAccessSize load.size }
     requires bounds { IfSome device (λ d. d.lo ≤ d.hi) }
@@ -158,8 +158,8 @@ fn write_peripheral_answers(b: &Bounds, device: Option<Device>, load: LoadKind, 
     }
 }
 
-/// Overwrites an abstract value with the cover, within the limits `b`, of all words that a load of
-/// this size and sign can give.
+/// Overwrites `out` with the cover, within the limits `b`, of all words that a load of this size
+/// and sign can give.
 fn write_all_loaded_words(b: &Bounds, load: LoadKind, out: &mut Val)
     requires { IsAccessSize load.size }
     ensures cover { out.new ≡ cover b.now (all_loaded_words load.size load.signed) }
@@ -173,8 +173,8 @@ fn write_all_loaded_words(b: &Bounds, load: LoadKind, out: &mut Val)
     }
 }
 
-/// Overwrites an abstract value with the cover, within the limits `b`, of all numbers of `size`
-/// bytes, which an unsigned load can give.
+/// Overwrites `out` with the cover, within the limits `b`, of all numbers of `size` bytes, which an
+/// unsigned load can give.
 fn write_unsigned_loaded_words(b: &Bounds, size: u8, out: &mut Val)
     requires { IsAccessSize size }
     ensures cover { out.new ≡ cover b.now (all_loaded_words size false) }
@@ -201,8 +201,8 @@ fn greatest_loaded_number(size: u8) -> u32
     }
 }
 
-/// Joins the words that a peripheral may answer to a load, or all loaded words without one, into an
-/// abstract value. A function of its own, so that callers need no stack for a value.
+/// Joins the words that a peripheral may answer to a load, or all loaded words without one, into
+/// `out`. Never inlined, so that callers reserve no stack for a value.
 #[inline(never)]
 fn join_peripheral_answers(b: &Bounds, device: Option<Device>, load: LoadKind, out: &mut Val)
     requires size { IsAccessSize load.size }

@@ -30,8 +30,8 @@ pub(crate) fn device_of_accesses(devices: &[Device], low: u32, high: u32, n: u8)
         .copied()
 }
 
-/// Returns true if a store of `size` bytes at each of these addresses is in one ram range or one
-/// peripheral range, as K9 asks.
+/// Returns true if each store of `size` bytes at these addresses is wholly in one ram or peripheral
+/// range (rule K9 on stores).
 pub(crate) fn are_stores_in_range(plan: &Plan, words: &[u32], size: u8) -> bool
     ensures { IsTrue result ↔ All (λ x. IsStoreInRange plan.now (x, size)) words.now }
 {
@@ -43,16 +43,16 @@ pub(crate) fn are_stores_in_range(plan: &Plan, words: &[u32], size: u8) -> bool
     true
 }
 
-/// Returns true if a store of `size` bytes at `x` is wholly in one ram range or one peripheral
-/// range, as K9 asks.
+/// Returns true if a store of `size` bytes at `x` is wholly in one ram or peripheral range (rule K9
+/// on stores).
 pub fn is_store_in_range(plan: &Plan, x: u32, size: u8) -> bool
     ensures { IsTrue result ↔ IsStoreInRange plan.now (x, size) }
 {
     store_range_end(plan, x, size).is_some()
 }
 
-/// Returns true if a store at each multiple of `2 ^ step` from `least` to `last` is in range, as K9
-/// asks. Walks from range to range, not from member to member.
+/// Returns true if each store of `size` bytes at a multiple of `2 ^ step` in `least..=last` is
+/// wholly in one ram or peripheral range. Walks from range to range.
 pub(crate) fn is_span_store_in_range(plan: &Plan, least: u32, last: u32, step: u8, size: u8) -> bool
     requires step { step ≤ 2 }
     requires least { step ≤ alignment_log2 least }
@@ -79,8 +79,8 @@ pub(crate) fn next_store_address(x: u64, step: u8) -> u64
     (x / unit + 1) * unit
 }
 
-/// Returns an address up to which stores of `size` bytes from `x` on are in range: the end of the
-/// range that holds the first. `None` if the store at `x` isn't in range.
+/// Returns the end of the ram or peripheral range that holds a store of `size` bytes at `x`, or
+/// `None`. Later stores up to that end are in the range too.
 fn store_range_end(plan: &Plan, x: u32, size: u8) -> Option<u64>
     ensures { MatchOption result (¬ IsStoreInRange plan.now (x, size))
         (λ end. AreStoresInRangeUntil plan.now size x end) }

@@ -18,8 +18,7 @@ Rule17FaultsAreMonotone =
     → lower.version ≡ upper.version → Accepts view plan lower → Accepts view plan upper → IsAssignmentBelow (assignment_of_cert lower) (assignment_of_cert upper)
     → BreaksRule17 view plan tasks lower k p → BreaksRule17 view plan tasks upper k p
 
--- beside the law that faults of K17 grow with a certificate: a certificate for which K17 fails
--- somewhere doesn't keep the rule
+-- a certificate for which K17 fails at some key and address doesn't keep the rule
 abbrev pub BrokenRule17IsNotKept : Type 0
 BrokenRule17IsNotKept =
     (view : ImageData) (plan : PlanData) (tasks : TasksData) (cert : CertData) (k : Key) (p : ℕ) → BreaksRule17 view plan tasks cert k p → KeepsRule17 view plan tasks cert → ⊥

@@ -33,7 +33,8 @@ owner tasks m =
     if m.pc == tasks.switch + 48 || m.pc == tasks.switch + 52 || m.pc == tasks.switch + 56 then previous_task (count tasks) (current_task tasks m.mem)
     else current_task tasks m.mem
 
--- the word that begins the chain of task u: PCXI for the owner, else the task's word in the block
+-- the word that begins the chain of areas of task u: PCXI for the owner, else the task's word in
+-- the block
 abbrev pub chain_head : TasksData → Machine → ℕ → ℕ
 chain_head tasks m u = if u == owner tasks m then m.pcxi else block_word tasks m.mem u
 

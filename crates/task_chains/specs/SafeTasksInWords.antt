@@ -76,8 +76,8 @@ pub record HasSafeTaskParts (image : ImageData) (plan : PlanData) (switch block 
   pub there : (i : ℕ) → i < length code → bytes.get m.mem (m.pc + i) ≡ Some (slice_index code i)
   pub store : (x size : ℕ) → stored m e ≡ Some (x, size) → IsSafeTaskStore plan switch block n m.pc x size
 
--- If all runs of tasks are safe, each state of each run has these parts, for every fitting event
--- that is next.
+-- if all runs of tasks are safe, each of their states has the parts of a safe state, whatever
+-- fitting event is next
 abbrev pub SafeTasksHaveParts : Type 0
 SafeTasksHaveParts =
     (image : ImageData) (plan : PlanData) (switch block : ℕ) (list : List Task) (needs : ℕ → ℕ) (states : ℕ → Machine) (events : ℕ → Event) (n : ℕ) (e : Event)
@@ -86,8 +86,8 @@ SafeTasksHaveParts =
     → ((k : ℕ) → k < n → Fits plan (states k) (events k)) → Fits plan (states n) e
     → HasSafeTaskParts image plan switch block (length list) needs (states n) e
 
--- what safe runs of all tasks are, in plain equations: if each state of each run has these parts,
--- all runs are safe
+-- all runs of tasks are safe if each of their states has the parts of a safe state, whatever
+-- fitting event is next
 abbrev pub PartsMakeTasksSafe : Type 0
 PartsMakeTasksSafe =
     (image : ImageData) (plan : PlanData) (switch block : ℕ) (list : List Task) (needs : ℕ → ℕ) → IsPlan plan

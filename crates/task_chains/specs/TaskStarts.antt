@@ -38,8 +38,9 @@ task_lower_area plan u = first_link plan + (2 * (u - 1) + 1)
 abbrev pub areas_held_at_start : TasksData → ℕ
 areas_held_at_start tasks = 2 * (count tasks - 1)
 
--- Task u is ready for its first turn: its two areas hold an upper context with its stack pointer
--- and a lower one with its entry. All other words are any.
+-- Task u is ready for its first turn. The task's word of the block is a PCXI that names a lower
+-- context with the entry as A11. That context links to an upper context with the stack pointer, IO
+-- 2 and IS 0, where the chain ends. All else is any.
 pub record IsTaskReady (core : Core) (plan : PlanData) (tasks : TasksData) (mem : Memory) (u : ℕ) : Type 0 where
   pub ends : area_word mem (task_upper_area plan u) 0 ≡ 0
   pub io : area_word mem (task_upper_area plan u) 1 / 2 ^ 10 % 4 ≡ 2

@@ -5,8 +5,8 @@ ghost use Rattle.task_chains.specs.Devices.{view_devices_outside_block};
 use arrayvec::ArrayVec;
 use tcd_plan::{Device, Plan, ranges_outside};
 
-/// Returns the peripherals of a task's view: the plan's, then the parts of each ram range outside
-/// the `n` bytes from `x`, which answer with any word.
+/// Returns the peripherals for the analysis of one task alone: the plan's, then all ram but the
+/// switch routine's data, `n` bytes from `x`. Ram answers any word, since other tasks write there.
 pub(crate) fn view_devices_outside_block(plan: &Plan, x: u32, n: u32) -> ArrayVec<Device, 16>
     requires { length (view_devices_outside_block plan.now x n) ≤ 16 }
     ensures { result.items ≡ view_devices_outside_block plan.now x n }
@@ -27,8 +27,8 @@ pub(crate) fn view_devices_outside_block(plan: &Plan, x: u32, n: u32) -> ArrayVe
     devices
 }
 
-/// Returns how many peripherals a task's view has: the plan's, and the parts of ram ranges outside
-/// the `n` bytes from `x`.
+/// Returns how many peripherals the analysis of one task alone has: the plan's, and parts of ram
+/// beside the switch routine's data, `n` bytes from `x`.
 pub(crate) fn count_view_devices(plan: &Plan, x: u32, n: u32) -> usize
     ensures { result ≡ length (view_devices_outside_block plan.now x n) }
 {

@@ -23,8 +23,8 @@ pub struct TasksDraft {
     pub eighth: Option<u32>,
 }
 
-/// Reads all lines of a text of tasks into a draft, or returns the error of the first line that has
-/// another form.
+/// Reads all lines of a list of tasks into a draft, or returns the error of the first malformed
+/// line.
 pub(crate) fn read_tasks_draft(bytes: &[u8]) -> Result<TasksDraft, TasksErr>
     requires { length bytes.now ≤ 2 ^ 30 }
     ensures ok { IfOk result (IsTasksDraftOf (text_lines bytes.now)) }
@@ -47,9 +47,8 @@ pub(crate) fn read_tasks_draft(bytes: &[u8]) -> Result<TasksDraft, TasksErr>
     Ok(draft)
 }
 
-/// Adds what line `number` says, or returns the error of its form. The first line that isn't empty
-/// names the addresses, and each later one a task. After seven tasks, only the number of the next
-/// one's line is kept.
+/// Adds line `number` of a list of tasks to the draft, or returns `BadLine`. The first line that
+/// isn't empty has the switch routine's addresses, each later one a task.
 fn add_tasks_text_line(draft: &mut TasksDraft, number: u32, line: &[u8]) -> Result<(), TasksErr>
     ensures ok { OnOk result (IsTasksDraftAfterLine draft.old number line.now draft.new) }
     ensures err { IfErr result (IsErrOfTaskLine draft.old number line.now) }

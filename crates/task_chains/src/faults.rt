@@ -13,9 +13,9 @@ use packed_cert::{Cert, Node, PointWalk};
 use tcd_plan::Plan;
 use value_domain::Bounds;
 
-/// Returns the first key and address at which K17 fails: another frame's point in the switch
-/// routine, a load that can reach a save area or the routine, an instruction that reads a link, or
-/// a BISR outside of all interrupts. The rules accept the certificate for a task's view.
+/// Returns the frame and address of the first point of a task's certificate that breaks K17, or
+/// None. K17 forbids other frames in the switch routine, loads of its bytes or of save areas,
+/// reading PCXI, FCX or LCX, and BISR outside interrupts.
 #[inline(never)]
 pub fn task_fault(view: &Image, plan: &Plan, tasks: &Tasks, cert: &Cert) -> Option<(Key, u32)>
     requires { Accepts view.now plan.now cert.now }
@@ -42,8 +42,8 @@ pub fn task_fault(view: &Image, plan: &Plan, tasks: &Tasks, cert: &Cert) -> Opti
     None
 }
 
-/// Returns the first address of a node's points at which K17, the rule on tasks, fails, or None if
-/// the rule holds at all of them.
+/// Returns the address of the first point of a certificate's node that breaks K17 (what a task must
+/// leave alone), or None. `codes` caches decoded instructions; `walk` is a reused buffer.
 fn first_fault_in_node<'a>(
     rule: &TasksRule,
     codes: &mut KnownCodes,

@@ -6,24 +6,24 @@ ghost use Rattle.task_chains.specs.SafeTasks.{TasksAreSafe};
 ghost use Rattle.task_chains.specs.SafeTasksInWords.{SafeTasksHaveParts, PartsMakeTasksSafe};
 ghost use Rattle.task_chains.specs.ViewLaws.{ViewStoresAreInRangeAndMissBlock, ViewPlansAreValid, ViewImagesKeepBytes};
 
-/// The plan of a view is a plan. Its stores are in range of the tasks' plan, and miss the block.
-/// Outside of the switch routine its image is the tasks' image.
+/// Laws of a task's view, the plan and image for analysing this task alone. The plan is valid,
+/// stores in its ranges miss the switch routine's data, and only the routine's code differs from
+/// the real image.
 pub fn task_view_laws()
     ensures plans { ViewPlansAreValid }
     ensures stores { ViewStoresAreInRangeAndMissBlock }
     ensures bytes { ViewImagesKeepBytes }
 {}
 
-/// If each task's certificate is accepted for its view and keeps K17, and the needs together are at
-/// most the areas without the reserve, all runs are safe. Then no area is on two chains, and each
-/// task has at most its need. FCX is at the limit exactly if all areas except the reserve are in
-/// use. Stores are in range and miss the switch routine's block.
+/// All runs of tasks are safe if each certificate is accepted and keeps K17 (what tasks must leave
+/// alone), and the needs fit the areas. Then no save area is on two lists, each task stays within
+/// its need, and stores are in range.
 pub fn safe_tasks_law()
     ensures safe { TasksAreSafe }
 {}
 
-/// Guard laws: plain equations give machines that start tasks, tasks that are ready for their first
-/// turn, and tasks that fit a plan. A text has one list of tasks, or one error.
+/// Proves that plain equations suffice for the premises of `safe_tasks_law`, so that no definition
+/// asks for more than is meant. A text of tasks has no two results.
 pub fn task_premise_guard_laws()
     ensures ready { EquationsMakeTaskReady }
     ensures fits { EquationsMakeTasksFit }
@@ -31,15 +31,15 @@ pub fn task_premise_guard_laws()
     ensures one { TaskTextHasOneResult }
 {}
 
-/// Guard laws: each state of a safe run of tasks has these parts, in plain equations, and they are
-/// all that is promised.
+/// Proves that `SafeTasks` says neither less nor more than is meant: runs are safe exactly if each
+/// state has the parts listed in `HasSafeTaskParts`.
 pub fn safe_tasks_definition_guard_laws()
     ensures says { SafeTasksHaveParts }
     ensures parts { PartsMakeTasksSafe }
 {}
 
-/// Each fault of K17 in a lesser certificate is one in a greater one. One fault is enough to break
-/// the rule.
+/// Where an accepted certificate breaks K17 (what a task must leave alone), each accepted
+/// certificate that covers this one does too. A certificate with a breach doesn't keep K17.
 pub fn task_fault_laws()
     ensures grow { Rule17FaultsAreMonotone }
     ensures refute { BrokenRule17IsNotKept }

@@ -12,7 +12,8 @@ pub struct Places {
     pub block: u32,
 }
 
-/// Returns the addresses of a line `switch Y B`, or None unless Y is even and B a multiple of 4.
+/// Parses a line `switch Y B`: the addresses of the task switch routine and of its data block. None
+/// for another line, or if Y is odd or B no multiple of 4.
 pub(crate) fn switch_addresses_in(line: &[u8]) -> Option<Places>
     ensures { result ≡ switch_addresses_of line.now }
 {
@@ -25,8 +26,8 @@ pub(crate) fn switch_addresses_in(line: &[u8]) -> Option<Places>
     }
 }
 
-/// Returns the two numbers of a line `NAME X Y` of a text of tasks, or None if the line has another
-/// form or name.
+/// Returns the two hexadecimal numbers of a line `NAME X Y` in a list of tasks, or None if the form
+/// or the name differs.
 #[tactic(auto, using(crate::proofs::LineForms::more), unfolding(crate::specs::TaskListText::number_pair_of_words))]
 pub(crate) fn number_pair_in_line(name: &[u8], line: &[u8]) -> Option<(u32, u32)>
     ensures { result ≡ number_pair_of_words name.now (line_words line.now) }

@@ -39,15 +39,15 @@ pub(crate) fn routine_bytes_of_words(words: &[u32; 18]) -> [u8; 72]
     }
 }
 
-/// Returns the bytes of the routine of these tasks.
+/// Returns the 72 bytes of the routine that switches these tasks.
 pub(crate) fn switch_routine_bytes(tasks: &Tasks) -> [u8; 72]
     ensures { result ≡ switch_routine_bytes tasks.now }
 {
     routine_bytes_of_words(&switch_routine_words(tasks.list.len() as u32, tasks.block))
 }
 
-/// Returns the first address of the switch routine at which the image doesn't have it: its bytes
-/// are to be inside one rom range, and in segments.
+/// Returns the first address at which the image lacks the tasks' switch routine, or None. The
+/// routine's 72 bytes are to be inside one rom range, and in segments.
 pub fn routine_fault(image: &Image, plan: &Plan, tasks: &Tasks) -> Option<u32>
     ensures none { IfNone result (HasRoutine image.now plan.now tasks.now) }
     ensures some { IfSome result (IsRoutineFault image.now plan.now tasks.now) }
@@ -63,7 +63,7 @@ pub fn routine_fault(image: &Image, plan: &Plan, tasks: &Tasks) -> Option<u32>
     None
 }
 
-/// Returns whether an address is that of one of the switch routine's 18 instructions.
+/// Returns whether an address is that of one of the 18 instructions of the tasks' switch routine.
 pub(crate) fn is_routine_instruction(tasks: &Tasks, addr: u32) -> bool
     ensures { IsTrue result ↔ IsRoutineInstruction tasks.now addr }
 {
@@ -74,14 +74,15 @@ pub(crate) fn is_routine_instruction(tasks: &Tasks, addr: u32) -> bool
     offset < ROUTINE_BYTES && offset % 4 == 0
 }
 
-/// Returns the bytes that the image of a task's view has instead of those of the switch routine.
+/// Returns the 72 bytes that replace the switch routine where one task is analysed alone.
 pub(crate) fn view_routine_bytes(tasks: &Tasks) -> [u8; 72]
     ensures { result ≡ view_routine_bytes tasks.now }
 {
     routine_bytes_of_words(&view_routine_words(tasks.list.len() as u32, tasks.block))
 }
 
-/// Returns the 18 instruction words of the switch routine for `n` tasks whose block is at `b`.
+/// Returns the 18 instruction words of the switch routine for `n` tasks. The routine's data, a word
+/// for each task and the current task's number, is at address `b`.
 fn switch_routine_words(n: u32, b: u32) -> [u32; 18]
     requires { n ≤ 7 }
     ensures { flat_map four_bytes result ≡ bytes_of_instructions (switch_routine_of n b) }
@@ -124,8 +125,8 @@ fn has_routine_byte(image: &Image, plan: &Plan, tasks: &Tasks, i: u32, byte: u8)
     image.has_byte(tasks.switch + i, byte)
 }
 
-/// Returns the words of the switch routine's other form, as a task's view has it, for `n` tasks
-/// whose block is at `b`.
+/// Returns 18 instruction words that replace the switch routine of `n` tasks when one task is
+/// analysed alone. Reads of the routine's data at `b` give any word, and writes are no-ops.
 fn view_routine_words(n: u32, b: u32) -> [u32; 18]
     requires { n ≤ 7 }
     ensures { flat_map four_bytes result ≡ bytes_of_instructions (view_routine_of n b) }

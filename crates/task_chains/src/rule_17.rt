@@ -29,7 +29,8 @@ pub(crate) struct TasksRule<'a> {
     pub(crate) tasks: &'a Tasks,
 }
 
-/// Returns whether K17 holds at an address of a frame, with this state before the instruction.
+/// Returns whether K17, the rule on what a task must leave alone, holds at address `addr` of the
+/// frame `key` with state `s`. `codes` caches decoded instructions.
 pub(crate) fn keeps_rule_17(
     rule: &TasksRule,
     codes: &mut KnownCodes,
@@ -49,8 +50,8 @@ pub(crate) fn keeps_rule_17(
     }
 }
 
-/// Returns whether no access of `size` bytes (1, 2 or 4), at an address that is a word of the
-/// value, shares a byte with the `len` bytes from `from` on, as K17 asks of a load.
+/// Returns whether accesses of `size` bytes at all possible addresses `at` miss the `len` bytes
+/// from `from` on, the save areas or the switch routine.
 pub(crate) fn are_accesses_outside(at: &Val, size: u8, from: u32, len: u32) -> bool
     requires at { IsWellFormed at.now }
     requires size { IsAccessSize size }
@@ -68,8 +69,8 @@ pub(crate) fn are_accesses_outside(at: &Val, size: u8, from: u32, len: u32) -> b
     !has_access_between(at, from.wrapping_sub(below), 0xFFFF_FFFF)
 }
 
-/// Returns whether an instruction of this shape keeps K17 at an address of a frame, with this state
-/// before it.
+/// Returns whether an instruction of this shape keeps K17 (what a task must leave alone) at address
+/// `addr` of the frame `key` with state `s`.
 pub(crate) fn keeps_rule_17_by_shape(rule: &TasksRule, key: &Key, addr: u32, s: &State, shape: Shape) -> bool
     requires shape { IsShapeInBounds shape }
     requires values { AreInLattice rule.now.bounds.now s.now.regs }
@@ -83,8 +84,8 @@ pub(crate) fn keeps_rule_17_by_shape(rule: &TasksRule, key: &Key, addr: u32, s: 
         && (key.prio != 0 || key.is || is_no_bisr(shape))
 }
 
-/// Returns whether some word of the value, at which an access begins, is in `low..=high`, for the
-/// test of K17.
+/// Returns whether some word of the abstract value, the possible addresses of an access, is in
+/// `low..=high`.
 fn has_access_between(v: &Val, low: u32, high: u32) -> bool
     requires { IsWellFormed v.now }
     ensures { IsTrue result ↔ HasAccessBetween v.now low high }
@@ -97,7 +98,7 @@ fn has_access_between(v: &Val, low: u32, high: u32) -> bool
     }
 }
 
-/// Returns whether one of the words is in `low..=high`, for the test of K17 on accesses.
+/// Returns whether one of the words, the possible addresses of an access, is in `low..=high`.
 fn has_word_between(words: &[u32], low: u32, high: u32) -> bool
     ensures { IsTrue result ↔ ((x : ℕ) × Among x words.now × (low ≤ x) × (x ≤ high)) }
 {
@@ -109,7 +110,7 @@ fn has_word_between(words: &[u32], low: u32, high: u32) -> bool
     false
 }
 
-/// Returns the least multiple of `2 ^ step` from `x` on, for the test of K17 on accesses.
+/// Rounds an address up to a multiple of `2 ^ step`.
 fn align_up(x: u64, step: u8) -> u64
     requires step { step ≤ 2 }
     requires small { x ≤ 2 ^ 32 }
@@ -119,15 +120,15 @@ fn align_up(x: u64, step: u8) -> u64
     (x + (unit - 1)) / unit * unit
 }
 
-/// Returns whether a word is in `low..=high`, for the test of K17 on accesses.
+/// Returns whether an address is in `low..=high`.
 fn is_between(x: u32, low: u32, high: u32) -> bool
     ensures { IsTrue result ↔ (low ≤ x) × (x ≤ high) }
 {
     low <= x && x <= high
 }
 
-/// Returns whether K17 lets a frame have a point at an address: the switch routine's only at its
-/// instructions, other frames only outside of it.
+/// Returns whether the frame `key` may have code at an address. The switch routine's frame has code
+/// only at the routine's instructions, other frames only outside the routine.
 fn may_have_point_at(tasks: &Tasks, key: &Key, addr: u32) -> bool
     ensures { IsTrue result ↔ MayHavePointAt tasks.now key.now addr }
 {
@@ -144,8 +145,8 @@ fn may_have_point_at(tasks: &Tasks, key: &Key, addr: u32) -> bool
     }
 }
 
-/// Returns whether the instruction is no load, or each of its possible accesses misses the save
-/// areas and the routine.
+/// Returns whether the instruction is no load, or all its possible accesses in state `s` miss the
+/// save areas and the switch routine.
 fn load_misses_areas_and_routine(b: &Bounds, plan: &Plan, tasks: &Tasks, s: &State, shape: Shape) -> bool
     requires shape { IsShapeInBounds shape }
     requires values { AreInLattice b.now s.now.regs }
@@ -162,7 +163,7 @@ fn load_misses_areas_and_routine(b: &Bounds, plan: &Plan, tasks: &Tasks, s: &Sta
 }
 
 /// Returns whether the instruction reads none of the context management registers PCXI, FCX and
-/// LCX, as K17 asks.
+/// LCX, which tasks mustn't read.
 fn reads_no_context_register(shape: Shape) -> bool
     ensures { IsTrue result ↔ ReadsNoContextRegister shape }
 {
@@ -172,7 +173,7 @@ fn reads_no_context_register(shape: Shape) -> bool
     }
 }
 
-/// Returns whether the instruction is no BISR; K17 asks it outside of all interrupts.
+/// Returns whether the instruction is no BISR, which tasks mustn't use outside interrupts.
 fn is_no_bisr(shape: Shape) -> bool
     ensures { IsTrue result ↔ IsNoBisr shape }
 {

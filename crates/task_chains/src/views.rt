@@ -13,8 +13,8 @@ use std::alloc::Global;
 use tcd_base::NoMemory;
 use tcd_plan::Plan;
 
-/// Returns the image of the view of task `u`. It begins at the task's entry. In its switch routine,
-/// what the routine reads of the block and of PCXI is an input, and nothing is written there.
+/// Returns the image of task `u`'s view, for analysing this task alone, with the task's entry
+/// address. In the switch routine there, reads of its data and of PCXI give any word.
 pub fn task_view_image(alloc: Global, image: &Image, tasks: &Tasks, u: usize) -> Result<Image, NoMemory>
     requires { u < count tasks.now }
     ensures { IfOk result (λ i. i ≡ view_image_of image.now tasks.now u) }
@@ -30,9 +30,9 @@ pub fn task_view_image(alloc: Global, image: &Image, tasks: &Tasks, u: usize) ->
     })
 }
 
-/// Returns the plan of the view of task `u`. It has the task's stack pointer, and no ram: what is
-/// left of ram without the block are peripherals that answer with any word. Interrupts are off at
-/// the start of all tasks except the first.
+/// Returns the plan of task `u`'s view, for analysing this task alone, with the task's stack
+/// pointer. Ram outside the switch routine's data becomes peripherals that answer any word, and
+/// tasks after the first start with interrupts disabled.
 pub fn task_view_plan(plan: &Plan, tasks: &Tasks, u: usize) -> Plan
     requires task { u < count tasks.now }
     requires fit { TasksFitPlan plan.now tasks.now }
@@ -60,8 +60,8 @@ pub fn task_view_plan(plan: &Plan, tasks: &Tasks, u: usize) -> Plan
     }
 }
 
-/// Returns a copy of a segment for the image of a task's view, with the view's bytes in place of
-/// the switch routine's.
+/// Returns a copy of a segment for a task's view: other code replaces the switch routine, for
+/// analysing this task alone.
 fn view_segment(alloc: Global, segment: &Segment, tasks: &Tasks) -> Result<Segment, NoMemory>
     ensures { IfOk result (λ s. segment_data s
         ≡ view_segment tasks.now (segment_data segment.now)) }
@@ -74,7 +74,8 @@ fn view_segment(alloc: Global, segment: &Segment, tasks: &Tasks) -> Result<Segme
     })
 }
 
-/// Writes the view's routine over the bytes of a segment that are in the routine.
+/// Overwrites the switch routine in a segment's `bytes`, from address `at` on, with the code that
+/// replaces the routine when one task is analysed alone.
 fn write_view_routine(bytes: &mut [u8], at: u32, tasks: &Tasks)
     ensures { bytes.new ≡ with_view_routine_from tasks.now at bytes.old }
 {
@@ -84,8 +85,8 @@ fn write_view_routine(bytes: &mut [u8], at: u32, tasks: &Tasks)
     }
 }
 
-/// Writes `byte`, that of address `x` in the view's switch routine, into the bytes of a segment
-/// from address `at`, if they reach `x`.
+/// Writes `byte` at address `x` into the bytes of a segment that begins at address `at`. Nothing
+/// changes if the segment doesn't hold `x`.
 fn write_view_byte(bytes: &mut [u8], at: u32, x: u64, byte: u8)
     ensures { bytes.new ≡ (if nat_le at x && nat_lt (x - at) (length bytes.old)
         then set bytes.old (x - at) byte else bytes.old) }
@@ -96,8 +97,8 @@ fn write_view_byte(bytes: &mut [u8], at: u32, x: u64, byte: u8)
     }
 }
 
-/// Returns whether interrupts are enabled at the start of task `u`: as the plan says for task 0,
-/// disabled for each other.
+/// Returns whether the analysis of task `u` alone starts with interrupts enabled: for task 0 as the
+/// plan says, for the others never.
 fn are_interrupts_enabled_at_start(plan: &Plan, u: usize) -> bool
     ensures { result ≡ (if u == 0 then plan.now.start_ie else false) }
 {

@@ -89,7 +89,8 @@ with_global d name = if is_source_name name then record d { symbols = with_globa
 unfoldable pub with_section_bytes : List DraftSectionData → ℕ → List ℕ → List DraftSectionData
 with_section_bytes parts i bs = option_map_or (λ p. slice_set parts i (record p { bytes = p.bytes ++ bs })) (slice_get parts i) parts
 
--- the draft after bytes are added at the end of its current section, if they are within the limit
+-- the draft after bytes are added at the end of its current section; nothing changes if there is
+-- none, or if all sections would exceed 16,777,216 bytes
 unfoldable pub with_bytes_if_room : DraftData → List ℕ → DraftData
 with_bytes_if_room d bs =
     if has_current_section d && has_room d (length bs) then record d { parts = with_section_bytes d.parts d.section bs; total = d.total + length bs } else d
@@ -98,8 +99,8 @@ with_bytes_if_room d bs =
 unfoldable pub with_section_use : List DraftSectionData → ℕ → UseData → List DraftSectionData
 with_section_use parts i u = option_map_or (λ p. slice_set parts i (record p { uses = p.uses ++ u ∷ [] })) (slice_get parts i) parts
 
--- the draft of an object with a use of a symbol for a relocation, if its next bytes are four for
--- which its section has room, and it has fewer than 65,535 relocations
+-- the draft after its next `size` bytes use a symbol for a relocation; nothing changes if none is
+-- needed, they aren't four, or there is no room for them or for one more relocation
 unfoldable pub with_reloc_use : DraftData → ℕ → ReferenceData → DraftData
 with_reloc_use d size r =
     if has_current_section d && has_room d size && size == 4 && is_relocation_kind r.kind && nat_lt d.count 65535
@@ -135,7 +136,7 @@ label_distance labels d r =
     else None)
     (place_in labels r.name) None
 
--- these fields of an instruction, with no broken rule and no symbol noted
+-- these fields of an instruction as fields of a row that break no rule and refer to no symbol
 abbrev pub bare_row_fields : Fields → RowFieldsData
 bare_row_fields f = record { fields = f; rule = no_rule; reference = None }
 

@@ -10,7 +10,8 @@ use Rattle.tc_asm.specs.Rules.{has_symbol_room, rule_broken_by_item}
 abbrev pub without_symbols : DraftData → DraftData
 without_symbols d = record d { symbols = [] }
 
--- the draft as the second pass keeps it: whole, or without its symbols if they are known
+-- the draft without its symbols if the first pass found them all (`known`), else the whole draft:
+-- what the second pass keeps
 abbrev pub without_symbols_if : Bool → DraftData → DraftData
 without_symbols_if known d = if known then without_symbols d else d
 
@@ -25,8 +26,8 @@ abbrev pub are_new_with_room : List SymbolData → DraftData → List ItemData �
 are_new_with_room labels d [] = true
 are_new_with_room labels d (i ∷ is) = (has_symbol_room d.symbols && is_new_if_label d.symbols i) && are_new_with_room labels (draft_after_item labels d i) is
 
--- the least rule that items break in the second pass over a source: if its symbols are known, each
--- draft is kept without them
+-- the least rule that items break in the second pass over a source; if the first pass found all
+-- symbols (`known`), each draft is without them
 abbrev pub rule_broken_in_second_pass : Bool → List SymbolData → DraftData → List ItemData → ℕ
 rule_broken_in_second_pass known labels d [] = no_rule
 rule_broken_in_second_pass known labels d (i ∷ is) = min (rule_broken_by_item labels (without_symbols_if known d) i) (rule_broken_in_second_pass known labels (draft_after_item labels d i) is)

@@ -46,7 +46,6 @@ relocs_of_all_sections ss ps = relocs_of_sections ss 0 ps
 abbrev pub object_of_draft : DraftData → ObjectData
 object_of_draft d = record { sections = map section_of d.parts; symbols = map symbol_of d.symbols; relocs = relocs_of_all_sections d.symbols d.parts }
 
--- the law of the object that a draft becomes: its sections are those that the source's statements
--- make
+-- the object of any source has the sections that the source's statements make
 abbrev pub ObjectHasStatementSections : Type 0
 ObjectHasStatementSections = (source : List ℕ) → (object_of_draft (draft_in source)).sections ≡ sections_in source

@@ -37,7 +37,8 @@ relocs_of_statements symbols ts section (name ∷ names) = section_relocs_of sym
 
 -- ---- laws
 
--- the relocations of an object are those of the statements that wait for addresses
+-- the object of a source that breaks no rule has the relocations of the statements that wait for
+-- addresses, in order
 abbrev pub ObjectHasStatementRelocations : Type 0
 ObjectHasStatementRelocations = (source : List ℕ) → AllLinesKeepRules (lines_in source)
     → (object_of_draft (draft_in source)).relocs ≡ relocs_of_statements (symbols_in source) (statements_in source) 0 (section_names_in source)

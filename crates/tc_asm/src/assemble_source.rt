@@ -22,7 +22,7 @@ use tc_object::Object;
 use tc_stmt::{Item, NO_RULE, Source, read_source};
 
 /// Assembles a source in two passes: returns its object, or the first line that breaks a rule,
-/// counted from 1, with the least such rule.
+/// counted from 1, with the lowest-numbered rule there.
 pub fn assemble(alloc: Global, source: &[u8]) -> Result<Object, AsmErr>
     requires { length source.now ≤ 2 ^ 30 }
     ensures ok { IfOk result (λ o. o ≡ object_of_draft (draft_in source.now)) }
@@ -39,7 +39,7 @@ pub fn assemble(alloc: Global, source: &[u8]) -> Result<Object, AsmErr>
 }
 
 // Runs the assembler's second pass: returns the draft of all lines, or the first line that breaks a
-// rule. If the symbols are `known` from the first pass, none is added.
+// rule. If `known`, the first pass found all symbols, `labels`, and none is added.
 fn draft_of_lines<'a>(
     alloc: Global,
     labels: &Symbols<'a>,
@@ -78,8 +78,8 @@ fn draft_of_lines<'a>(
     Ok(draft)
 }
 
-// Returns the finished draft of an object, with the first pass's symbols put in if they are
-// `known`: the second pass then added none.
+// Returns the finished draft of an object. If `known`, the second pass added no symbols, and those
+// of the first pass are put in.
 fn draft_with_known_symbols<'a>(draft: Draft<'a>, known: bool, symbols: Symbols<'a>) -> Draft<'a>
     ensures { result
         ≡ (if known then record draft.entry { symbols = symbols.entry } else draft.entry) }
@@ -96,8 +96,8 @@ fn draft_with_known_symbols<'a>(draft: Draft<'a>, known: bool, symbols: Symbols<
     }
 }
 
-/// Adds items to the first pass's draft, as far as symbols depend on them. Returns true if each had
-/// room for one more symbol and defines no label again.
+/// Adds items to the first pass's draft, with zeros instead of their bytes. Returns false if one
+/// finds no room for another symbol or defines a label again.
 fn scan_items<'a>(
     alloc: Global,
     draft: &mut Draft<'a>,
@@ -119,8 +119,8 @@ fn scan_items<'a>(
     Ok(all_new)
 }
 
-/// Whether items of the first pass have room for their symbols and new labels: those `before` the
-/// last one, and the last one itself.
+/// Whether all items of the first pass so far find room for a symbol and define no label again.
+/// `before` tells this of the earlier items, `room` and `new` of the last one.
 #[inline(always)]
 fn are_items_new(before: bool, room: bool, new: bool) -> bool
     ensures { result ≡ (before && (room && new)) }

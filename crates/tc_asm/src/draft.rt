@@ -96,7 +96,7 @@ impl<'a> Draft<'a> {
         n <= MOST_BYTES && self.total <= MOST_BYTES - n
     }
 
-    /// Adds bytes at the end of the draft's current section, if they are within the limit.
+    /// Adds bytes at the end of the draft's current section, if there is one that has room.
     #[inline(always)]
     #[tactic(auto, unfolding(crate::specs::Drafts::with_bytes_if_room))]
     pub(crate) fn add_bytes_if_room(&mut self, bytes: &[u8]) -> Result<(), AllocError>
@@ -109,8 +109,8 @@ impl<'a> Draft<'a> {
         Ok(())
     }
 
-    /// Notes a symbol's use by the draft's next `size` bytes, if a relocation is needed, `size` is
-    /// 4, and there is room for both.
+    /// Records a relocation of the draft's next `size` bytes against the symbol in `r`. Nothing
+    /// changes if none is needed, `size` isn't 4, or the draft has no section or room.
     #[inline(always)]
     #[tactic(auto, unfolding(crate::specs::Drafts::with_reloc_use))]
     pub(crate) fn add_reloc_use(&mut self, size: usize, r: Reference<'a>) -> Result<(), AllocError>
@@ -129,7 +129,7 @@ impl<'a> Draft<'a> {
         Ok(())
     }
 
-    /// Adds bytes at the end of the draft's current section, with their symbol if they have one.
+    /// Adds bytes, with their symbol `r` if any, at the end of the draft's current section.
     pub(crate) fn add_content(
         &mut self,
         bytes: &[u8],
@@ -173,8 +173,8 @@ impl<'a> Draft<'a> {
         }
     }
 
-    /// Adds an item to the first pass's draft as far as symbols depend on it, and returns whether
-    /// it defines no label twice. `none` is an empty table of labels.
+    /// Adds an item to the first pass's draft, with zeros instead of its bytes. Returns false if
+    /// the item is a label that the draft has already. `none` is an empty table of symbols.
     pub fn scan_item(
         &mut self,
         alloc: Global,
@@ -205,7 +205,7 @@ impl<'a> Draft<'a> {
         Ok(true)
     }
 
-    /// Notes in the draft the symbol of its next `size` bytes, if they have one.
+    /// Notes in the draft the symbol `r` to which its next `size` bytes refer, if any.
     #[inline(always)]
     #[tactic(auto, unfolding(crate::specs::Drafts::with_reference))]
     fn add_reference(&mut self, size: usize, r: &Option<Reference<'a>>) -> Result<(), AllocError>
@@ -217,8 +217,8 @@ impl<'a> Draft<'a> {
         }
     }
 
-    /// Notes in the draft the symbol of its next `size` bytes, and a relocation if they need one. A
-    /// bad name changes nothing.
+    /// Notes in the draft the symbol `r` to which its next `size` bytes refer, and a relocation if
+    /// the bytes need one. A bad name changes nothing.
     #[inline(never)]
     #[tactic(auto, unfolding(crate::specs::Drafts::with_reference))]
     fn add_named_reference(&mut self, size: usize, r: &Reference<'a>) -> Result<(), AllocError>
@@ -232,8 +232,8 @@ impl<'a> Draft<'a> {
         Ok(())
     }
 
-    // Adds a label at the draft's next byte, if the label is a name. Returns whether no earlier
-    // label has this name.
+    // Adds a label at the draft's next byte, if sources may use the name. Returns false if an
+    // earlier label has this name.
     #[inline(never)]
     #[tactic(auto, unfolding(crate::specs::Drafts::with_label))]
     fn add_label(&mut self, name: &'a [u8]) -> Result<bool, AllocError>
@@ -251,8 +251,8 @@ impl<'a> Draft<'a> {
         Ok(before.is_none())
     }
 
-    /// Makes the section of this name the draft's current one, or begins it if there is none and
-    /// there are fewer than 64. A bad name changes nothing.
+    /// Makes the section of this name the draft's current one, and adds the section if new. A bad
+    /// name or a 65th section changes nothing.
     #[inline(never)]
     #[tactic(auto, unfolding(crate::specs::Drafts::with_current_section))]
     fn enter_section(&mut self, alloc: Global, name: &'a [u8]) -> Result<(), AllocError>
@@ -292,8 +292,8 @@ impl<'a> Draft<'a> {
         Ok(())
     }
 
-    /// Extends the draft by the bytes of an instruction, with its target resolved if it needs no
-    /// relocation.
+    /// Adds the bytes of an instruction of this row of the instruction table to the draft. `r` is
+    /// its symbol, if any, and `labels` are the source's symbols, which resolve 16-bit jumps.
     #[inline(never)]
     #[tactic(auto, unfolding(crate::specs::Drafts::draft_after_item))]
     fn add_code(
@@ -311,8 +311,8 @@ impl<'a> Draft<'a> {
         self.add_content(first_assembled_bytes(&code.bytes, code.len), r)
     }
 
-    /// Adds `n` zeros at the end of the draft's current section, if they are within the limit. They
-    /// are only counted.
+    /// Adds `n` zero bytes, of which only the number is kept, at the end of the draft's current
+    /// section. Nothing changes without a section or room.
     #[inline(always)]
     #[tactic(auto, unfolding(crate::specs::Drafts::with_bytes_if_room))]
     fn add_zeros_if_room(&mut self, n: usize) -> Result<(), AllocError>
@@ -325,7 +325,7 @@ impl<'a> Draft<'a> {
         Ok(())
     }
 
-    /// Adds a label to the first pass's draft, and returns whether its name has no label before it.
+    /// Adds a label to the first pass's draft. Returns false if an earlier label has this name.
     fn scan_label(&mut self, name: &'a [u8]) -> Result<bool, AllocError>
         ensures alike { OnOk result
             (TracksSizesAndSymbols (label name.entry.now) self.old self.new) }
@@ -335,7 +335,7 @@ impl<'a> Draft<'a> {
         Ok(new)
     }
 
-    /// Adds an instruction to the first pass's draft as far as symbols depend on it.
+    /// Adds zeros for an instruction of row `row`, and its symbol `r`, to the first pass's draft.
     fn scan_code(
         &mut self,
         row: u8,
@@ -351,7 +351,7 @@ impl<'a> Draft<'a> {
         Ok(())
     }
 
-    /// Adds data to the first pass's draft as far as symbols depend on them.
+    /// Adds zeros for these bytes of data, and their symbol `r`, to the first pass's draft.
     fn scan_data(&mut self, bytes: &[u8], r: &Option<Reference<'a>>) -> Result<(), AllocError>
         requires { IsDataOfSomeLine bytes.now (reference_if_any r.now) }
         ensures { OnOk result (TracksSizesAndSymbols
@@ -361,8 +361,8 @@ impl<'a> Draft<'a> {
         Ok(())
     }
 
-    /// Extends the draft of the first pass by a section, a global name or zeros, with an empty
-    /// table of labels.
+    /// Adds an item that is a section, a global name or zeros to the first pass's draft. `none` is
+    /// an empty table of symbols.
     fn scan_other_item(
         &mut self,
         alloc: Global,
@@ -377,8 +377,8 @@ impl<'a> Draft<'a> {
         Ok(())
     }
 
-    /// Adds `n` zeros to the first pass's draft instead of bytes, and notes their symbol. The first
-    /// pass needs no more.
+    /// Adds `n` zeros to the first pass's draft instead of bytes, and the name of the symbol `r` to
+    /// which the bytes refer, if any.
     #[inline(always)]
     fn add_zeros_for_bytes(&mut self, n: usize, r: &Option<Reference<'a>>) -> Result<(), AllocError>
         requires { SymbolIsNamedIfAny (reference_if_any r.now) }
@@ -390,8 +390,8 @@ impl<'a> Draft<'a> {
         self.add_zeros_if_room(n)
     }
 
-    // Adds the symbol of an item, if there is one, to the symbols of the first pass's draft, which
-    // notes no uses of symbols.
+    // Adds the symbol of the reference, if there is one, to the first pass's draft, which doesn't
+    // note uses of symbols.
     #[inline(always)]
     #[tactic(auto, unfolding(crate::specs::Drafts::with_reference))]
     fn add_symbol_of_reference(&mut self, r: &Option<Reference<'a>>) -> Result<(), AllocError>
@@ -408,7 +408,7 @@ impl<'a> Draft<'a> {
         }
     }
 
-    /// Notes a name among the symbols of the draft.
+    /// Adds a name without a label to the symbols of the draft, unless the draft has the name.
     #[inline(never)]
     fn add_symbol_name(&mut self, name: &'a [u8]) -> Result<(), AllocError>
         ensures { OnOk result

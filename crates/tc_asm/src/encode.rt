@@ -11,8 +11,8 @@ use tc_encode::{Code, encode};
 use tc_isa::{Fields, Row, inst, rows};
 use tc_stmt::{MISPLACED_SYMBOL, NO_RELOC, NO_RULE, Reference, RowFields, with_displacement};
 
-/// The bytes of the row with this number and these fields, and no bytes if they are no listed
-/// instruction.
+/// Encodes the instruction of this row of the instruction table with these fields. There are no
+/// bytes if the table has no such row or the fields don't fit the row.
 pub(crate) fn assembled_code(row: u8, f: &Fields) -> Code
     ensures { take result.len result.bytes ≡ assembled_code row f.now }
 {
@@ -25,8 +25,8 @@ pub(crate) fn assembled_code(row: u8, f: &Fields) -> Code
     }
 }
 
-/// The first `len` of the at most four bytes that an instruction or a value of data in a source
-/// has.
+/// The first `len` of the four bytes that hold an instruction or a value of data, and all four if
+/// `len` is larger.
 pub(crate) fn first_assembled_bytes(bytes: &[u8; 4], len: u8) -> &[u8]
     ensures { result.now ≡ take len bytes.now }
 {
@@ -34,7 +34,7 @@ pub(crate) fn first_assembled_bytes(bytes: &[u8; 4], len: u8) -> &[u8]
     &bytes[..len]
 }
 
-/// The size in bytes of instructions of the row with this number, and 0 if there is no such row.
+/// The size in bytes of instructions of table row `row`: 4 or 2, and 0 if there is no such row.
 pub(crate) fn assembled_code_size(row: u8) -> u8
     ensures { result ≡ assembled_code_size row }
 {
@@ -47,8 +47,7 @@ pub(crate) fn assembled_code_size(row: u8) -> u8
     }
 }
 
-/// Returns these fields, with which an instruction is encoded, with no broken rule and no symbol
-/// noted.
+/// Returns an instruction's fields as `RowFields` that break no rule and refer to no symbol.
 #[inline(always)]
 fn bare_row_fields<'a>(fields: Fields) -> RowFields<'a>
     ensures { row_fields_of result ≡ bare_row_fields fields }
@@ -60,7 +59,7 @@ fn bare_row_fields<'a>(fields: Fields) -> RowFields<'a>
     }
 }
 
-/// The size in bytes of instructions of this row.
+/// The size in bytes of instructions of this row of the instruction table: 4 or 2.
 fn assembled_row_size(row: &Row) -> u8
     ensures { result ≡ (if is_32_bit_row (row_of row.now) then 4 else 2) }
 {
@@ -72,8 +71,8 @@ impl<'a> Draft<'a> {
     ghost use Rattle.tc_stmt.specs.Items.{reference_of, reference_if_any};
     ghost use Rattle.tc_asm.specs.Drafts.{label_distance, fields_with_label_distance, fields_with_target, row_fields_with_target, code_bytes};
 
-    /// Returns the fields of the draft's next instruction, of row number `row`. Its target `r` is
-    /// resolved by `labels` unless a relocation will fill it in.
+    /// Returns the fields of the draft's next instruction, of instruction table row `row`. Its
+    /// target `r` is resolved with the symbols `labels`, unless a relocation will fill it in.
     #[inline(always)]
     pub(crate) fn resolve_instruction(
         &self,
@@ -94,8 +93,8 @@ impl<'a> Draft<'a> {
         }
     }
 
-    /// Returns the bytes of the draft's next instruction, of row number `row`. Its target `r` is
-    /// resolved by `labels` unless a relocation will fill it in.
+    /// Returns the bytes of the draft's next instruction, of instruction table row `row`. Its
+    /// target `r` is resolved with the symbols `labels`, unless a relocation will fill it in.
     #[tactic(auto, unfolding(crate::specs::Drafts::code_bytes))]
     pub(crate) fn code_bytes(
         &self,
@@ -111,8 +110,8 @@ impl<'a> Draft<'a> {
         assembled_code(row, &found.fields)
     }
 
-    /// The fields to encode once the target is resolved, if it needs no relocation. `rule_broken_by_item`
-    /// calls this for each symbol, so symbols that need a relocation are handled here too.
+    /// Returns an instruction's fields with the jump target `r` resolved by the source's symbols
+    /// `labels`. Without a target, or if a relocation is needed, the fields stay as they are.
     #[inline(always)]
     fn resolve_target(
         &self,
@@ -137,8 +136,8 @@ impl<'a> Draft<'a> {
         }
     }
 
-    /// Returns the fields with which a jump of 16 bits to a label is encoded, and the least rule
-    /// that its target breaks.
+    /// Returns the fields of a 16-bit jump with the displacement to its target `r`, one of the
+    /// symbols `labels`. If the target can't be reached, the broken rule is noted instead.
     #[inline(never)]
     #[tactic(auto, unfolding(crate::specs::Drafts::fields_with_label_distance))]
     fn resolve_jump(
@@ -162,8 +161,8 @@ impl<'a> Draft<'a> {
         }
     }
 
-    /// Returns the distance in bytes from the instruction to encode to the target of its jump, and
-    /// whether the target is before it. None if the symbol is no label of the current section.
+    /// Returns whether the jump target `r` is before the draft's next instruction, and their
+    /// distance in bytes. None if `r` is no label of the current section among `labels`.
     #[tactic(auto, unfolding(crate::specs::Drafts::label_distance))]
     fn label_distance(&self, labels: &Symbols<'a>, r: Reference<'a>) -> Option<(bool, u128)>
         ensures { result ≡ label_distance labels.now self.now (reference_of r.entry) }

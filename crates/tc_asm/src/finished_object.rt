@@ -14,7 +14,7 @@ use tc_object::{
     GLOBAL_SYMBOL, LOCAL_SYMBOL, Object, Reloc, Section, Symbol, UNDEFINED_SYMBOL, object_name_of,
 };
 
-/// The symbols of the object, in the order of the draft.
+/// Makes the object's symbols from `known`, the draft's table of symbols, in the same order.
 pub(crate) fn emit_symbols(alloc: Global, known: &Symbols) -> Result<Vec<Symbol>, AllocError>
     requires names { All (λ s. is_some (object_name_of s.name) ≡ true) known.now }
     requires small { All (λ s. LabelPlaceFitsObject s.entry.place) known.now }
@@ -29,7 +29,7 @@ pub(crate) fn emit_symbols(alloc: Global, known: &Symbols) -> Result<Vec<Symbol>
     Ok(out)
 }
 
-/// Turns the uses in a draft's section into relocations of the object, and adds them to the list.
+/// Adds to `out` the relocations for these uses of the symbols `known` in section `section`.
 pub(crate) fn emit_section_relocs(
     out: &mut Vec<Reloc>,
     known: &Symbols,
@@ -64,7 +64,7 @@ pub(crate) fn emit_object(alloc: Global, draft: Draft<'_>) -> Result<Object, All
     })
 }
 
-/// The relocations of the object: one for each use of a symbol, in the order of the sections.
+/// The object's relocations, one for each use of the symbols `known` in the sections `parts`.
 pub(crate) fn emit_relocs(
     alloc: Global,
     known: &Symbols,
@@ -83,7 +83,7 @@ pub(crate) fn emit_relocs(
     Ok(out)
 }
 
-/// A symbol of the draft as one of the object.
+/// The object's symbol for this name and entry of the draft: undefined, local or global.
 fn emit_symbol(alloc: Global, name: &[u8], entry: Entry) -> Result<Symbol, AllocError>
     requires name { is_some (object_name_of name.now) ≡ true }
     requires small { LabelPlaceFitsObject entry.place }
@@ -110,7 +110,7 @@ fn emit_symbol(alloc: Global, name: &[u8], entry: Entry) -> Result<Symbol, Alloc
     }
 }
 
-// Copies the name of a section or symbol of the draft into a text that the object owns.
+// Copies the name of a section or symbol of the draft into a string that the object owns.
 fn emit_name(alloc: Global, name: &[u8]) -> Result<String, AllocError>
     requires { is_some (object_name_of name.now) ≡ true }
     ensures { IfOk result (λ s. string_bytes s ≡ name.now) }
@@ -118,8 +118,8 @@ fn emit_name(alloc: Global, name: &[u8]) -> Result<String, AllocError>
     String::from_str(alloc, object_name_of(name).unwrap())
 }
 
-/// The relocation for a use of a symbol in the section of this number. Its addend is the number
-/// that the source adds to the symbol, modulo 2^32.
+/// Makes the relocation for a use `u` of a symbol in the section of this number. Its addend is what
+/// the source adds to the symbol, modulo 2^32. `known` is the draft's table of symbols.
 fn emit_reloc(known: &Symbols, section: usize, u: Use<'_>) -> Reloc
     requires symbols { length known.now < 2 ^ 16 }
     requires section { section < 2 ^ 16 }
@@ -140,7 +140,7 @@ fn emit_reloc(known: &Symbols, section: usize, u: Use<'_>) -> Reloc
     }
 }
 
-/// The sections of the object, in the order of the draft.
+/// Makes the object's sections from those of the draft, in the same order.
 fn emit_sections(alloc: Global, parts: &[Part]) -> Result<Vec<Section>, AllocError>
     requires { All (λ p. is_some (object_name_of p.name.now) ≡ true) parts.now }
     ensures { IfOk result (λ v. v.items ≡ map section_of (map draft_section_of parts.now)) }
@@ -155,8 +155,8 @@ fn emit_sections(alloc: Global, parts: &[Part]) -> Result<Vec<Section>, AllocErr
     Ok(out)
 }
 
-/// The bytes that the object gets from a section of the draft, with the zeros that are only
-/// counted.
+/// Copies the bytes of a draft's section for the object. The zeros at its end, of which the draft
+/// keeps only the number, are written out.
 fn emit_section_bytes(alloc: Global, part: &Part) -> Result<Vec<u8>, AllocError>
     ensures { IfOk result (λ v. v.items ≡ (draft_section_of part.now).bytes) }
 {

@@ -19,8 +19,8 @@ impl<'a> Draft<'a> {
     ghost use Rattle.tc_asm.specs.Rules.{rule_broken_by_content, rule_broken_by_item};
     ghost use Rattle.tc_asm.specs.KnownSymbols.{without_symbols, without_symbols_if};
 
-    /// Adds an item, and returns the least rule that it breaks, or no rule. `labels` are the
-    /// symbols of the whole source. If they are `known`, the draft is kept without symbols.
+    /// Adds an item to the draft of an object, and returns the lowest-numbered source rule broken,
+    /// or `NO_RULE`. If `known`, the first pass found all symbols, `labels`, and none is added.
     pub(crate) fn check_and_add_item(
         &mut self,
         alloc: Global,
@@ -40,8 +40,8 @@ impl<'a> Draft<'a> {
         }
     }
 
-    // Adds an item to the draft, but no symbol, since the first pass found all. Returns the least
-    // rule that the item breaks.
+    // Adds an item to the draft, but no symbol, since the first pass found all: `labels`. Returns
+    // the lowest-numbered source rule broken, or `NO_RULE`.
     fn check_and_add_item_without_symbol(
         &mut self,
         alloc: Global,
@@ -72,8 +72,8 @@ impl<'a> Draft<'a> {
         }
     }
 
-    /// Returns the least rule that a label breaks in a draft whose symbols are known, with room for
-    /// all and none defined twice. Nothing is added.
+    /// Checks a label in the second pass, when only its section and its name can be wrong: the
+    /// first pass checked the symbols. Returns the lowest-numbered rule broken, or `NO_RULE`.
     fn rule_broken_by_known_label(&self, labels: &Symbols<'a>, name: &[u8]) -> u8
         ensures { result ≡ rule_broken_by_item labels.now (without_symbols self.now) (label name.now) }
     {
@@ -81,8 +81,8 @@ impl<'a> Draft<'a> {
         section.min(Self::rule_broken_by_name(name).min(NO_RULE))
     }
 
-    /// Returns the least rule that a global name breaks in a draft whose symbols are known, with
-    /// room for all. Nothing is added.
+    /// Checks a name in `.global` in the second pass, when the symbols are known to fit: the name
+    /// may be bad or undefined. Returns the lowest-numbered rule broken, or `NO_RULE`.
     fn rule_broken_by_known_global(&self, labels: &Symbols<'a>, name: &[u8]) -> u8
         ensures { result ≡ rule_broken_by_item labels.now (without_symbols self.now) (global name.now) }
     {
@@ -90,7 +90,8 @@ impl<'a> Draft<'a> {
         Self::rule_broken_by_name(name).min(room)
     }
 
-    // Adds an instruction without a symbol, and returns the least rule that it breaks.
+    // Adds an instruction without a symbol, of row `row` of the instruction table, to the draft.
+    // Returns the lowest-numbered source rule broken, or `NO_RULE`.
     #[inline(always)]
     fn check_and_add_code(
         &mut self,
@@ -109,8 +110,8 @@ impl<'a> Draft<'a> {
         Ok(NO_RULE.min(rule))
     }
 
-    // Adds an instruction with a known symbol, and returns the least rule that the instruction
-    // breaks.
+    // Adds an instruction with the symbol `r`, of row `row` of the instruction table, to the draft.
+    // Returns the lowest-numbered source rule broken, or `NO_RULE`.
     #[tactic(auto, unfolding(crate::specs::Rules::rule_broken_by_item, crate::specs::Drafts::draft_after_item, crate::specs::Drafts::code_bytes))]
     fn check_and_add_code_with_symbol(
         &mut self,
@@ -131,8 +132,8 @@ impl<'a> Draft<'a> {
         Ok(found.rule.min(rule))
     }
 
-    // Adds bytes and the use of their known symbol, and returns the least rule that the bytes
-    // break.
+    // Adds bytes, and their relocation against the symbol `r`, which the first pass found, to the
+    // draft. Returns the lowest-numbered source rule broken, or `NO_RULE`.
     #[inline(never)]
     fn check_and_add_reference(&mut self, bytes: &[u8], r: Reference<'a>) -> Result<u8, AllocError>
         ensures draft { OnOk result (without_symbols self.new
@@ -149,8 +150,8 @@ impl<'a> Draft<'a> {
         Ok(rule)
     }
 
-    // Adds an item to the draft, with its symbol if it has one, and returns the least rule that the
-    // item breaks.
+    // Adds an item, with its symbol if there is one, to the draft of an object. Returns the
+    // lowest-numbered source rule broken, or `NO_RULE`.
     fn check_and_add_item_with_symbol(
         &mut self,
         alloc: Global,
@@ -167,7 +168,7 @@ impl<'a> Draft<'a> {
         Ok(rule)
     }
 
-    // Adds bytes without a symbol, and returns the least rule that they break.
+    // Adds bytes without a symbol, if there is room. Returns the source rule broken, or `NO_RULE`.
     #[inline(never)]
     #[tactic(auto, unfolding(crate::specs::Drafts::with_bytes_if_room))]
     fn check_and_add_bytes(&mut self, bytes: &[u8]) -> Result<u8, AllocError>
@@ -183,8 +184,8 @@ impl<'a> Draft<'a> {
         Ok(self.rule_broken_by_content(bytes.len(), &None))
     }
 
-    /// Notes in the draft that its next `size` bytes use a symbol that is known. A bad name changes
-    /// nothing.
+    /// Records a relocation, if one is needed, of the draft's next `size` bytes against the symbol
+    /// in `r`, which the first pass found. A bad name changes nothing.
     #[inline(always)]
     fn add_use_of_known_symbol(&mut self, size: usize, r: Reference<'a>) -> Result<(), AllocError>
         ensures { OnOk result (without_symbols self.new
@@ -197,8 +198,8 @@ impl<'a> Draft<'a> {
     }
 }
 
-/// Adds items to a draft one after another, and returns the least rule that they break, or no rule.
-/// If symbols are `known`, none is added.
+/// Adds items to the draft of an object, and returns the lowest-numbered source rule broken, or
+/// `NO_RULE`. If `known`, the first pass found all symbols, `labels`, and none is added.
 pub(crate) fn check_and_add_items<'a>(
     alloc: Global,
     draft: &mut Draft<'a>,

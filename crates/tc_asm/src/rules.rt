@@ -15,7 +15,7 @@ use tc_stmt::{
 // The most symbols of a source.
 const MOST_SYMBOLS: usize = 65535;
 
-/// Whether a reference of this kind needs a relocation. Rule 13 limits the number of relocations.
+/// Whether a reference of this kind needs a relocation; other kinds are resolved at once.
 pub(crate) fn is_relocation_kind(kind: u8) -> bool
     ensures { result ≡ is_relocation_kind kind }
 {
@@ -28,7 +28,7 @@ impl<'a> Draft<'a> {
     ghost use Rattle.tc_asm.specs.Rules.{rule_broken_by_label, rule_broken_before_section, rule_broken_by_name, rule_broken_by_section_count, rule_broken_by_symbol_count, rule_broken_by_reloc_count, rule_broken_by_byte_count, rule_broken_by_undefined_global, rule_broken_by_reference, rule_broken_by_content, rule_broken_by_item};
 
     /// Returns rule 8 if the draft has no current section, which labels, instructions and data
-    /// need, else no rule.
+    /// need, else `NO_RULE`.
     pub(crate) fn rule_broken_before_section(&self) -> u8
         ensures { result ≡ rule_broken_before_section self.now }
     {
@@ -39,14 +39,14 @@ impl<'a> Draft<'a> {
         }
     }
 
-    /// Whether there is room for one more symbol, as rule 13 demands.
+    /// Whether the draft has room for one more symbol: an object has at most 65,535.
     pub(crate) fn has_symbol_room(&self) -> bool
         ensures { result ≡ has_symbol_room self.now.symbols }
     {
         self.symbols.len() < MOST_SYMBOLS
     }
 
-    /// Returns rule 13 if a symbol of this name would be the draft's 65,536th, else no rule.
+    /// Returns rule 13 if a symbol of this name would be the draft's 65,536th, else `NO_RULE`.
     pub(crate) fn rule_broken_by_symbol_count(&self, name: &[u8]) -> u8
         ensures { result ≡ rule_broken_by_symbol_count self.now name.now }
     {
@@ -57,8 +57,8 @@ impl<'a> Draft<'a> {
         }
     }
 
-    /// Returns rule 13 if the relocation that this reference needs would be the draft's 65,536th,
-    /// else no rule.
+    /// Returns rule 13 if the relocation that the reference `r` needs would be the draft's
+    /// 65,536th, else `NO_RULE`.
     pub(crate) fn rule_broken_by_reloc_count(&self, r: Reference<'a>) -> u8
         ensures { result ≡ rule_broken_by_reloc_count self.now (reference_of r.entry) }
     {
@@ -70,7 +70,7 @@ impl<'a> Draft<'a> {
     }
 
     /// Returns rule 13 if `n` more bytes would exceed the 16,777,216 bytes of all sections of a
-    /// draft, else no rule.
+    /// draft, else `NO_RULE`.
     pub(crate) fn rule_broken_by_byte_count(&self, n: usize) -> u8
         ensures { result ≡ rule_broken_by_byte_count self.now n }
     {
@@ -81,7 +81,8 @@ impl<'a> Draft<'a> {
         }
     }
 
-    /// The least rule that `size` bytes and their symbol break.
+    /// Checks that the draft may take `size` more bytes, which refer to the symbol `r`, if any.
+    /// Returns the lowest-numbered source rule broken, or `NO_RULE`.
     pub(crate) fn rule_broken_by_content(&self, size: usize, r: &Option<Reference<'a>>) -> u8
         ensures { result ≡ rule_broken_by_content self.now size (reference_if_any r.now) }
     {
@@ -89,7 +90,7 @@ impl<'a> Draft<'a> {
         self.rule_broken_before_section().min(room)
     }
 
-    /// Returns rule 9 if these bytes are no name that a source may use, else no rule.
+    /// Returns rule 9 if these bytes are no name that a source may use, else `NO_RULE`.
     pub(crate) fn rule_broken_by_name(name: &[u8]) -> u8
         ensures { result ≡ rule_broken_by_name name.now }
     {
@@ -100,7 +101,7 @@ impl<'a> Draft<'a> {
         }
     }
 
-    /// Returns rule 14 if no label of the source defines this global name, else no rule.
+    /// Returns rule 14 if the source's symbols `labels` have no label of this name, else `NO_RULE`.
     pub(crate) fn rule_broken_by_undefined_global(labels: &Symbols<'a>, name: &[u8]) -> u8
         ensures { result ≡ rule_broken_by_undefined_global labels.now name.now }
     {
@@ -111,8 +112,8 @@ impl<'a> Draft<'a> {
         }
     }
 
-    /// The least rule that an item breaks after this draft, or no rule. `labels` are the symbols of
-    /// the whole source.
+    /// Returns the lowest-numbered source rule that an item breaks if added to this draft next, or
+    /// `NO_RULE`. `labels` are the symbols of the whole source.
     #[tactic(auto, unfolding(crate::specs::Rules::rule_broken_by_item))]
     pub(crate) fn rule_broken_by_item(&self, labels: &Symbols<'a>, item: &Item<'a>) -> u8
         ensures { result ≡ rule_broken_by_item labels.now self.now (item_of item.now) }
@@ -147,7 +148,7 @@ impl<'a> Draft<'a> {
     }
 
     // Returns rule 13 if the draft has no room for the symbol of a reference or for its relocation,
-    // else no rule.
+    // else `NO_RULE`.
     fn rule_broken_by_reference(&self, r: &Option<Reference<'a>>) -> u8
         ensures { result ≡ rule_broken_by_reference self.now (reference_if_any r.now) }
     {
@@ -159,7 +160,7 @@ impl<'a> Draft<'a> {
         }
     }
 
-    // Returns rule 7 if the draft has a label of this name already, else no rule.
+    // Returns rule 7 if the draft has a label of this name already, else `NO_RULE`.
     fn rule_broken_by_label(&self, name: &[u8]) -> u8
         ensures { result ≡ rule_broken_by_label self.now name.now }
     {
@@ -170,7 +171,7 @@ impl<'a> Draft<'a> {
         }
     }
 
-    // Returns rule 13 if a section of this name would be the draft's 65th, else no rule.
+    // Returns rule 13 if a section of this name would be the draft's 65th, else `NO_RULE`.
     fn rule_broken_by_section_count(&self, name: &[u8]) -> u8
         ensures { result ≡ rule_broken_by_section_count self.now name.now }
     {
@@ -182,8 +183,8 @@ impl<'a> Draft<'a> {
         }
     }
 
-    // The least rule that an instruction breaks after this draft, or no rule. `labels` are the
-    // symbols of the whole source.
+    // Returns the lowest-numbered source rule that the draft's next instruction breaks, or
+    // `NO_RULE`. `row` is its row in the instruction table, `r` its symbol, if any.
     #[inline(never)]
     #[tactic(auto, unfolding(crate::specs::Rules::rule_broken_by_item))]
     fn rule_broken_by_code(

@@ -43,7 +43,7 @@ pub(crate) fn section_number(parts: &[Part], name: &[u8]) -> usize
     }
 }
 
-/// The number of bytes of a section so far.
+/// The number of bytes of a draft's section so far, with the zeros that are only counted.
 pub(crate) fn section_len(part: &Part) -> usize
     ensures { result ≡ length (draft_section_of part.now).bytes }
 {
@@ -63,7 +63,7 @@ pub(crate) fn grow_section(parts: &mut Vec<Part>, i: usize, bytes: &[u8]) -> Res
     Ok(())
 }
 
-/// Adds `n` zeros at the end of section `i` of a draft. They are only counted.
+/// Adds `n` zero bytes, for now only counted, at the end of section `i` of a draft.
 pub(crate) fn add_section_zeros(parts: &mut Vec<Part>, i: usize, n: usize) -> Result<(), AllocError>
     requires place { i < length parts.old.items }
     requires few { n ≤ 2 ^ 24 }
@@ -94,7 +94,7 @@ pub(crate) fn add_section_use<'a>(
     Ok(())
 }
 
-// Writes the zeros at the end of a section that are only counted.
+// Writes out the zero bytes at the end of a draft's section that were only counted so far.
 #[inline(never)]
 pub(crate) fn write_counted_zeros(part: &mut Part) -> Result<(), AllocError>
     ensures same { OnOk result (draft_section_of part.new ≡ draft_section_of part.old) }
@@ -113,8 +113,8 @@ fn find_section(parts: &[Part], name: &[u8]) -> Option<usize>
     parts.iter().position(|p| are_same_bytes(name, p.name))
 }
 
-// Writes the zeros that are only counted, if there are any, so that bytes can be added after them
-// in a draft's section.
+// Writes out the zero bytes at the end of a draft's section that were only counted, so that other
+// bytes can follow.
 #[inline(always)]
 fn write_zeros_if_any(part: &mut Part) -> Result<(), AllocError>
     ensures same { OnOk result (draft_section_of part.new ≡ draft_section_of part.old) }
@@ -126,8 +126,8 @@ fn write_zeros_if_any(part: &mut Part) -> Result<(), AllocError>
     write_counted_zeros(part)
 }
 
-// Writes the counted zeros at the end of a draft's section if they are more than `MOST_BYTES`, so
-// that their number stays small.
+// Writes out the counted zero bytes at the end of a draft's section if there are more than
+// 16,777,216, so that their count can't overflow.
 fn limit_counted_zeros(part: &mut Part) -> Result<(), AllocError>
     ensures same { OnOk result (draft_section_of part.new ≡ draft_section_of part.old) }
     ensures few { OnOk result (part.new.zeros ≤ 2 ^ 24) }

@@ -30,8 +30,8 @@ const UNSEEN: Entry = Entry {
     is_global: false,
 };
 
-/// The entry of a known name in the assembler's table of symbols after a label at this place. An
-/// earlier label keeps its place.
+/// Returns a symbol's entry in the assembler's table after a label at `place` defines the symbol.
+/// An earlier label keeps its place.
 fn entry_with_label(entry: Entry, place: Place) -> Entry
     ensures { result ≡ entry_with_label entry place }
 {
@@ -105,14 +105,14 @@ impl<'a> Symbols<'a> {
         self.known.get(&name).copied()
     }
 
-    /// The place of the label that a name has in the assembler's table of symbols, if it has one.
+    /// The section and offset of a name's label in the assembler's symbols; `None` without a label.
     pub fn place(&self, name: &[u8]) -> Option<Place>
         ensures { result ≡ place_in self.now name.now }
     {
         self.entry_or_undefined(name).place
     }
 
-    /// Adds a name that is used to the assembler's table of symbols, if it isn't there.
+    /// Adds a name, without a label, to the assembler's table of symbols, unless known already.
     #[tactic(auto, using(crate::proofs::SymbolLaws::seen_known, crate::proofs::SymbolLaws::seen_new))]
     pub fn add_name(&mut self, name: &'a [u8]) -> Result<(), AllocError>
         ensures { OnOk result (self.new ≡ with_name self.old name.entry.now) }
@@ -124,8 +124,8 @@ impl<'a> Symbols<'a> {
         Ok(())
     }
 
-    /// Defines a name at this place, unless the name has a label already. Returns the place of that
-    /// label, or `None`.
+    /// Gives a name its label at this place in the assembler's table of symbols, unless the name
+    /// has a label already. Returns the place of that earlier label, or `None`.
     #[tactic(auto, using(crate::proofs::SymbolLaws::labelled_new, crate::proofs::SymbolLaws::labelled_known))]
     pub(crate) fn define(
         &mut self,
@@ -160,16 +160,16 @@ impl<'a> Symbols<'a> {
         Ok(())
     }
 
-    /// The entry of a name in the assembler's table of symbols, or `UNSEEN` if it isn't in the
-    /// table.
+    /// The entry of a name in the assembler's table of symbols, or an entry without a label if the
+    /// table doesn't have the name.
     fn entry_or_undefined(&self, name: &[u8]) -> Entry
         ensures { result ≡ entry_or_undefined self.now name.now }
     {
         self.get(name).unwrap_or(UNSEEN)
     }
 
-    // Sets the entry of a name in the assembler's table of symbols, and returns the entry before,
-    // if there was one.
+    // Sets the entry of a name in the assembler's table of symbols. Returns the entry that the name
+    // had before, or `None` if the name is new.
     fn insert(&mut self, name: &'a [u8], entry: Entry) -> Result<Option<Entry>, AllocError>
         ensures put { OnOk result (self.new ≡ with_symbol_entry self.old name.entry.now entry) }
         ensures old { IfOk result (λ old. old ≡ entry_in self.old name.entry.now) }

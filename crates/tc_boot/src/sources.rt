@@ -10,8 +10,8 @@ use tc_disasm::listing;
 use tcd_base::NoMemory;
 use tcd_plan::Plan;
 
-/// The boot sequence of a plan and an entry at an address, as a source: the listing of the image
-/// whose one segment it is.
+/// Returns the boot sequence of a plan and an entry address as an assembler source: the listing of
+/// an image with only the sequence, at `at`.
 pub fn boot_source(alloc: Global, plan: &Plan, entry: u32, at: u32) -> Result<String, NoMemory>
     requires { at + 224 ≤ 2 ^ 32 }
     ensures { IfOk result (λ text. string_bytes text

@@ -31,7 +31,7 @@ pub fn listing(alloc: Global, image: &Image) -> Result<String, NoMemory>
     Ok(text)
 }
 
-// Appends the sections of a listing, one for each segment, numbered from 0.
+// Appends the sections of a listing, one for each segment in the given order, numbered from 0.
 fn append_sections(text: &mut String, segments: &[&Segment]) -> Result<(), NoMemory>
     requires few { length segments.now ≤ 64 }
     requires segments { IsTrue (list_all is_segment (map borrowed_segment_data segments.now)) }

@@ -28,7 +28,8 @@ pub(crate) fn append_instruction(text: &mut String, inst: &Inst) -> Result<(), N
     append_row_text(text, &rows()[place], wants()[place], &fields)
 }
 
-/// Appends an instruction of this row, with the fields `f`: its name, and its operands `wants`.
+/// Appends an instruction's name and operands to a listing. `row` is the instruction's row of the
+/// instruction table, `wants` are its kinds of operands, `f` has their values.
 #[tactic(auto, unfolding(crate::specs::Texts::row_text))]
 fn append_row_text(text: &mut String, row: &Row, wants: &[Want], f: &Fields) -> Result<(), NoMemory>
     requires wants { wants.now ≡ wants_of (row_of row.now) }

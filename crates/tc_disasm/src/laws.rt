@@ -42,8 +42,8 @@ pub fn tokens_read_back()
         ≡ option_map (λ ps. printed_token k (c ∷ cs) ∷ ps) (listing_tokens rest room 0) }
 {}
 
-/// An instruction's name and its printed operands are a statement of that instruction: its row and
-/// its fields, with no symbol, and no rule broken.
+/// The name and operands that a listing prints for an instruction are parsed as that instruction's
+/// row and fields, with no symbol or error.
 pub fn statements_read_back()
     ensures { (i : InstData) (is : IsInst i)
         → row_of_statement is.row.name (printed_operands is.row (inst_fields i))

@@ -11,7 +11,8 @@ use tc_encode::decode;
 use tcd_base::NoMemory;
 use tcd_text::{append_ascii, append_hex_byte, append_str, hex_byte, hex_word};
 
-/// Appends the lines of bytes that begin at an address. The time is linear in their number.
+/// Appends the lines of a listing for these bytes, which begin at an address: one for each
+/// instruction or piece of data. The time is linear in the number of bytes.
 pub(crate) fn append_listing(text: &mut String, address: u32, bytes: &[u8]) -> Result<(), NoMemory>
     requires { address + length bytes.now ≤ 2 ^ 32 }
     ensures { OnOk result
@@ -25,7 +26,8 @@ pub(crate) fn append_listing(text: &mut String, address: u32, bytes: &[u8]) -> R
     Ok(())
 }
 
-// Appends the line of the instruction or data at the offset `at`, and returns its size in bytes.
+// Appends the line of the instruction or data at the offset `at` of these bytes, which begin at an
+// address. Returns the size of the instruction or data in bytes.
 fn append_line_at(
     text: &mut String,
     address: u32,
@@ -44,7 +46,8 @@ fn append_line_at(
     append_first_line(text, address + at as u32, &bytes[at..])
 }
 
-// Appends the line of the first instruction or data, and returns its size in bytes.
+// Appends the line of the instruction or data that these bytes begin with, at an address. Returns
+// the size of the instruction or data in bytes.
 #[tactic(auto, unfolding(crate::specs::Listing::listing_line_at))]
 fn append_first_line(text: &mut String, address: u32, bytes: &[u8]) -> Result<usize, NoMemory>
     requires { 0 < length bytes.now }

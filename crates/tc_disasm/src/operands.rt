@@ -14,8 +14,8 @@ use tc_stmt::{Field, Want, field_of, wants};
 use tcd_base::NoMemory;
 use tcd_text::{append_hex_word, append_str};
 
-/// Appends the text of an operand to a listing, by what the instruction's row wants there, with the
-/// value of its field.
+/// Appends an operand's text to a listing. `want` is the operand's kind, `form` the instruction's
+/// format, and the fields `f` have the value.
 #[tactic(auto, unfolding(crate::specs::Texts::operand_text))]
 pub(crate) fn append_operand(
     text: &mut String,
@@ -37,7 +37,8 @@ pub(crate) fn append_operand(
     }
 }
 
-/// Appends the operands of a row after a blank, separated by a comma and a blank.
+/// Appends an instruction's operands after a blank, separated by a comma and a blank. `wants` are
+/// the kinds of operands of its row; their values are in the fields `f`.
 #[tactic(auto, unfolding(crate::specs::Texts::operands_text))]
 pub(crate) fn append_operands(
     text: &mut String,
@@ -67,7 +68,8 @@ fn append_register(text: &mut String, is_address: bool, n: u32) -> Result<(), No
     append_listing_decimal(text, n)
 }
 
-/// Appends a constant operand in decimal: the value of this field of an instruction of this form.
+/// Appends a constant operand in decimal: the value of `field` in `f`, as two's complement if
+/// `signed`. `form` gives the field's width.
 fn append_constant_operand(
     text: &mut String,
     signed: bool,
@@ -89,7 +91,8 @@ fn append_constant_operand(
     )
 }
 
-/// Appends a jump's target: `.+` or `.-`, and 2k or 2(bound - k) bytes. `both`: k is signed.
+/// Appends a jump's target: `.+` or `.-`, and the distance in bytes, twice the displacement `k`.
+/// The field of `k` has `bound` values, and is two's complement if `both`.
 #[tactic(auto, unfolding(crate::specs::Texts::target_text))]
 fn append_target_operand(text: &mut String, both: bool, bound: u32, k: u32) -> Result<(), NoMemory>
     requires within { k ≤ bound }
@@ -106,8 +109,8 @@ fn append_target_operand(text: &mut String, both: bool, bound: u32, k: u32) -> R
     }
 }
 
-/// Returns true if the text of a target operand may have a `-`: a displacement of this form can be
-/// negative.
+/// Returns true if a jump of this instruction format can go backwards, so that its target may have
+/// a `-`. Only SBR, whose displacement is unsigned, gives false.
 #[tactic(auto, unfolding(tc_stmt::specs::Displacements::can_jump_back, tc_isa::specs::Forms::form_index))]
 fn can_jump_back(form: Form) -> bool
     ensures { result ≡ can_jump_back form }
@@ -155,7 +158,8 @@ fn append_memory_operand(
     Ok(())
 }
 
-/// Appends a field's value in decimal: value - bound if `signed` and at least half of bound.
+/// Appends a field's value in decimal, as two's complement if `signed`. `bound` is the number of
+/// values that the field can have.
 #[tactic(auto, unfolding(crate::specs::Texts::number_text))]
 fn append_number(text: &mut String, signed: bool, bound: u32, value: u32) -> Result<(), NoMemory>
     requires { value ≤ bound }
@@ -170,8 +174,8 @@ fn append_number(text: &mut String, signed: bool, bound: u32, value: u32) -> Res
     }
 }
 
-/// The address that the field of an absolute operand encodes: that of data in an ABS row, else that
-/// of code.
+/// Returns the address that an absolute operand's field encodes: a data address in 18 bits for
+/// format ABS, else a code address in 24 bits.
 #[tactic(auto, unfolding(crate::specs::Texts::absolute_operand_address, tc_isa::specs::Forms::form_index))]
 fn absolute_operand_address(form: Form, f: &Fields) -> u32
     ensures { result ≡ absolute_operand_address form f.now }
@@ -186,14 +190,15 @@ fn absolute_operand_address(form: Form, f: &Fields) -> u32
     }
 }
 
-/// The address of code that the 24 bits of an absolute operand encode, for a row of form B.
+/// Returns the address of code that the 24 bits of an absolute operand encode, for a row of form B.
 fn code_operand_address(f: &Fields) -> u32
     ensures { result ≡ code_address_in_constant f.now }
 {
     f.k / 1_048_576 % 16 * 268_435_456 + f.k % 1_048_576 * 2
 }
 
-/// Appends the texts of all operands after the first one, each after a comma and a blank.
+/// Appends the texts of all operands after the first one, each after a comma and a blank. `wants`
+/// are their kinds.
 fn append_further_operands(
     text: &mut String,
     form: Form,
@@ -211,7 +216,8 @@ fn append_further_operands(
     Ok(())
 }
 
-// Appends a comma, a blank and the text of a further operand to a listing.
+// Appends a comma, a blank and the text of an operand after the first one to a listing. `want` is
+// the kind of operand.
 fn append_further_operand(text: &mut String, form: Form, f: &Fields, want: Want) -> Result<(), NoMemory>
     requires { AreFieldsBelow f.now (field_bounds form) }
     ensures { OnOk result

@@ -9,8 +9,8 @@ use std::alloc::Global;
 use tc_asm::{AsmErr, assemble};
 use tc_object::Object;
 
-/// The object of the listing of an image. Its sections are the bytes of the segments in ascending
-/// order of addresses. No listing breaks a rule of sources, so the only error is out of memory.
+/// Assembles the listing of an image. The object's sections have the bytes of the image's segments,
+/// in ascending order of addresses; the only possible error is out of memory.
 pub fn reassemble(alloc: Global, image: &Image) -> Result<Object, AsmErr>
     ensures holds { IfOk result (λ o. HoldsSegments image.now.segments o) }
     ensures never { IfErr result (λ e. e ≡ NoMemory) }

@@ -15,7 +15,8 @@ pub(crate) fn append_listing_digit(text: &mut String, n: u32) -> Result<(), NoMe
     Ok(())
 }
 
-/// Appends a short text to a listing: the mark of a comment, an address in hex, and a blank.
+/// Appends the start of a line's comment to a listing: ` # `, the address in eight hex digits, and
+/// a blank.
 pub(crate) fn append_comment_start(text: &mut String, address: u32) -> Result<(), NoMemory>
     ensures { OnOk result
         (string_bytes text.new ≡ string_bytes text.old ++ comment_start address) }

@@ -92,8 +92,8 @@ abbrev pub is_at_index_place : List ℕ → ℕ → RowData → Option ℕ → B
 is_at_index_place places place r None = false
 is_at_index_place places place r (Some base) = is_index_entry place (slice_get places (base + r.op2))
 
--- for the search by a word: the index has the place of each row, numbered from `place` on, by its
--- first byte and second code
+-- for the search by a word: the index has the number of each row, numbered from `place` on, by its
+-- first byte and second opcode
 abbrev pub are_rows_indexed_by_opcodes : List ℕ → List ℕ → ℕ → List RowData → Bool
 are_rows_indexed_by_opcodes bases places place [] = true
 are_rows_indexed_by_opcodes bases places place (r ∷ rs) = is_at_index_place places place r (slice_get bases r.op1) && are_rows_indexed_by_opcodes bases places (suc place) rs
@@ -108,7 +108,8 @@ IndexesRowsByOpcodes bases numbers = are_rows_indexed_by_opcodes bases numbers 0
 abbrev pub has_all_form_fields : Uses → Fields → Bool
 has_all_form_fields u b = (u.c || b.c == 1) && (u.s1 || b.s1 == 1) && (u.s2 || b.s2 == 1) && (u.n || b.n == 1) && (u.k || b.k == 1)
 
--- the row has all fields of its form, so that the search by a word needn't test that others are 0
+-- the row's instructions use all fields of their form, so that the search by a word needn't test
+-- that others are 0
 abbrev pub has_all_fields : RowData → Bool
 has_all_fields r = has_all_form_fields (used_fields r) (field_bounds r.form)
 

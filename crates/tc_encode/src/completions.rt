@@ -11,8 +11,8 @@ use crate::forms::word_of_fields;
 use crate::index::index_by_first_byte;
 use tc_isa::{Fields, Inst, ROW_COUNT, Row, rows};
 
-/// Returns an instruction longer than `n` bytes that begins with the `n` bytes of `part`, lowest
-/// first, or `None` if there is none. The lowest is `first`.
+/// Returns an instruction of more than `n` bytes whose encoding begins with the `n` low bytes of
+/// `part`, or `None`. `first` is the lowest of these bytes.
 pub fn completion(first: u8, n: u8, part: u32) -> Option<Inst>
     requires low { 1 ≤ n }
     requires high { n < instruction_length first }
@@ -26,8 +26,8 @@ pub fn completion(first: u8, n: u8, part: u32) -> Option<Inst>
     completion_in_rows(starts[place], ends[place], first, n, part)
 }
 
-/// Returns an instruction as `completion` does, from the table's rows with numbers `from` up to
-/// before `to`, or `None`.
+/// Returns an instruction of rows `from..to` of the instruction table whose encoding begins with
+/// the `n` low bytes of `part` and is longer, or `None`.
 fn completion_in_rows(from: u8, to: u8, first: u8, n: u8, part: u32) -> Option<Inst>
     requires places { to ≤ ROW_COUNT }
     requires low { 1 ≤ n }
@@ -46,8 +46,8 @@ fn completion_in_rows(from: u8, to: u8, first: u8, n: u8, part: u32) -> Option<I
     None
 }
 
-/// Returns an instruction as `completion` does, from the table's row with number `place`, or
-/// `None`, as for a row with another first byte.
+/// Returns an instruction of row `place` of the instruction table whose encoding begins with the
+/// `n` low bytes of `part` and is longer, or `None`.
 fn completion_at_row(place: u8, first: u8, n: u8, part: u32) -> Option<Inst>
     requires place { place < ROW_COUNT }
     requires low { 1 ≤ n }
@@ -64,8 +64,8 @@ fn completion_at_row(place: u8, first: u8, n: u8, part: u32) -> Option<Inst>
     completion_in_row(place, row, n, part)
 }
 
-/// Returns an instruction of this row whose word has the low `n` bytes `part`, or `None` if there
-/// is none. The row's number is `place`.
+/// Returns an instruction of this row of the instruction table, with number `place`, whose encoding
+/// begins with the `n` low bytes of `part`, or `None`.
 fn completion_in_row(place: u8, row: &Row, n: u8, part: u32) -> Option<Inst>
     requires place { slice_get table_rows place ≡ Some (row_of row.now) }
     requires low { 1 ≤ n }
@@ -80,8 +80,8 @@ fn completion_in_row(place: u8, row: &Row, n: u8, part: u32) -> Option<Inst>
     decode_row_word(place, row, part + rest / span * span)
 }
 
-/// Returns the least fields that fit the row: 0, except `s1` if the row's two address registers
-/// must differ. They complete the low bytes of a word.
+/// Returns the smallest operand fields that are valid in the row: zeros, but `s1` is 1 where the
+/// two address registers must differ.
 fn least_completion_fields(row: &Row) -> Fields
     ensures { result ≡ least_fields (row_of row.now) }
 {

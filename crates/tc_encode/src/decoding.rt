@@ -46,14 +46,15 @@ pub(crate) fn decode_row_word(place: u8, row: &Row, w: u32) -> Option<Inst>
     Some(found)
 }
 
-/// Returns the length of an instruction whose first byte is this one: 4 bytes if it is odd, else 2.
+/// Returns the length in bytes of an instruction by its first byte: 4 if that byte is odd, else 2.
 pub(crate) fn instruction_length(first: u8) -> u8
     ensures { result ≡ instruction_length first }
 {
     if first % 2 == 1 { 4 } else { 2 }
 }
 
-/// Decodes by the first byte, whose bit 0 gives the length, as `decode` does. No bytes are `Short`.
+/// Decodes the instruction that the bytes begin with: of 32 bits if the first byte is odd, else of
+/// 16. An empty list gives the error `Short`.
 fn decode_by_first_byte(bytes: &[u8]) -> Result<(Inst, usize), DecodeErr>
     ensures { result ≡ decoded_of bytes.now }
 {
@@ -97,8 +98,8 @@ fn decode_16_bit(bytes: &[u8]) -> Result<(Inst, usize), DecodeErr>
     }
 }
 
-/// Returns why `n` bytes, fewer than an instruction with this first byte has, decode to none:
-/// `Short` if they begin one, else `NotListed`. `part` has them, lowest first.
+/// Returns why the `n` low bytes of `part`, too few for an instruction, don't decode: `Short` if an
+/// instruction begins with them, else `NotListed`.
 fn decode_error(first: u8, n: u8, part: u32) -> DecodeErr
     requires low { 1 ≤ n }
     requires high { n < instruction_length first }

@@ -35,8 +35,9 @@ static ENDS: [u8; 256] = [
     0, 101, 0, 107,
 ];
 
-/// Returns two lists by first byte of an instruction: the number of the first table row with that
-/// byte, and the number after the last.
+/// Returns two lists with an entry for each first byte of an instruction. The entries are the
+/// number of the first table row with that byte, and the number after the last, or 0 if there is
+/// none.
 pub fn index_by_first_byte() -> (&'static [u8; 256], &'static [u8; 256])
     ensures starts { length result.0.now ≡ 256 }
     ensures start_within { list_all (λ n. nat_lt n ROW_COUNT) result.0.now ≡ true }
@@ -83,8 +84,8 @@ static PLACES: [u8; PLACE_COUNT] = [
     8, 139, 84, 116, 114, 101, 102, 115, 108, 121, 141, 123, 100, 104, 106,
 ];
 
-/// Returns the index of rows by codes: a base for each first byte, and a list with the row's number
-/// at base plus second code.
+/// Returns the index of the instruction table by opcodes, as two lists. The first has a base for
+/// each first opcode. The second has a row's number at the base plus its second opcode.
 pub fn index_by_opcodes() -> (&'static [u16; 256], &'static [u8; PLACE_COUNT])
     ensures bases { length result.0.now ≡ 256 }
     ensures places { length result.1.now ≡ PLACE_COUNT }
@@ -240,7 +241,8 @@ static PLAIN: [bool; ROW_COUNT] = [
     true, // st16.a [As2], As1
 ];
 
-/// Returns for each row of the table, by number, whether it has all fields of its form.
+/// Returns for each row of the instruction table, in order, whether its instructions use all fields
+/// of their form.
 #[tactic(auto, unfolding(tc_isa::specs::Forms::field_bounds))]
 pub fn has_all_fields_by_row() -> &'static [bool; ROW_COUNT]
     ensures { result.now ≡ map has_all_fields table_rows }
@@ -264,7 +266,7 @@ pub(crate) fn row_number_by_opcodes(first: u8, second: u8) -> Option<u8>
     }
 }
 
-/// Returns the form of the rows that begin with this byte, or any form if there are none.
+/// Returns the format of instructions with this first byte, or any format if there are none.
 pub(crate) fn form_of_first_byte(first: u8) -> Form
     ensures { (place : ℕ) (r : RowData) → slice_get table_rows place ≡ Some r → r.op1 ≡ first
         → form_index r.form ≡ form_index result }

@@ -1,13 +1,14 @@
 // Laws of spelling and of decoding.
 ghost use Rattle.tc_encode.specs.DecodeLaws.{DecodeLaws, SpellingLaws};
 
-/// The laws of spelling: no bytes spell two instructions, and no spelling is a proper prefix of
-/// another.
+/// Laws of encoding: no bytes encode two instructions, and no instruction's encoding is a proper
+/// prefix of another's.
 pub fn spelling_laws()
     ensures { SpellingLaws }
 {}
 
-/// The laws of decoding, for all bytes: it is the inverse of spelling.
+/// Laws of `decode`: an instruction results exactly if the bytes begin with its encoding, whatever
+/// follows. The errors `Short` and `NotListed` are exact too.
 pub fn decoding_laws()
     ensures { DecodeLaws }
 {}

@@ -13,7 +13,8 @@ use tc_isa::{
     used_fields_by_row,
 };
 
-/// Returns the instruction of a word, which has 16 bits if its lowest byte is even, or `None`.
+/// Returns the listed instruction whose word is `w`, or `None` if there is none. The word has 16
+/// bits if its lowest byte is even, else 32.
 pub fn instruction_of_word(w: u32) -> Option<Inst>
     requires { EvenWordHas16Bits w }
     ensures some { IfSome result (IsWordOf w) }
@@ -27,8 +28,8 @@ pub fn instruction_of_word(w: u32) -> Option<Inst>
     instruction_by_opcodes(place, first, second, w)
 }
 
-/// Returns the instruction of the word `w`, which has this row's codes, or `None` if the other bits
-/// of `w` don't fit the row.
+/// Returns the instruction of the word `w`, which has this row's opcodes, or `None` if the other
+/// bits of `w` don't fit the row. `place` is the row's number.
 pub(crate) fn instruction_in_row(place: u8, row: &Row, w: u32) -> Option<Inst>
     requires place { slice_get table_rows place ≡ Some (row_of row.now) }
     requires within { place < ROW_COUNT }
@@ -58,8 +59,8 @@ pub(crate) fn instruction_in_row(place: u8, row: &Row, w: u32) -> Option<Inst>
     })
 }
 
-/// Returns the instruction of the word `w` if the row with number `place` has these codes, those of
-/// `w`, and fits; else `None`.
+/// Decodes the word `w`, with opcodes `first` and `second`, as an instruction of row `place` of the
+/// instruction table. `None` if the opcodes or the other bits don't fit the row.
 pub(crate) fn instruction_by_opcodes(place: u8, first: u8, second: u8, w: u32) -> Option<Inst>
     requires place { place < ROW_COUNT }
     requires first { first ≡ w % 256 }
@@ -89,8 +90,8 @@ fn second_opcode_by_first_byte(first: u8, w: u32) -> u8
     second_opcode(form_of_first_byte(first), w)
 }
 
-/// Returns true if the word of the search is 0 in all bits that its form has for no field and no
-/// code.
+/// Returns true if all bits of `w` are 0 that hold no field and no opcode in instructions of this
+/// format.
 #[tactic(auto, unfolding(crate::specs::WordSearch::are_unused_bits_zero))]
 fn are_unused_bits_zero(form: Form, w: u32) -> bool
     ensures { result ≡ are_unused_bits_zero form w }
@@ -102,7 +103,8 @@ fn are_unused_bits_zero(form: Form, w: u32) -> bool
     }
 }
 
-/// Returns true if the fields of a word that the row with number `place` doesn't have are 0.
+/// Returns true if those of the fields `f` are 0 that instructions of this table row, with number
+/// `place`, don't use.
 fn are_missing_fields_zero(place: u8, row: &Row, f: &Fields) -> bool
     requires place { slice_get table_rows place ≡ Some (row_of row.now) }
     requires within { place < ROW_COUNT }

@@ -73,8 +73,8 @@ fields_of_word Srr w = fields (0) (w / 2 ^ 8 % 16) (w / 2 ^ 12 % 16) (0) (0)
 fields_of_word Slr w = fields (0) (w / 2 ^ 8 % 16) (w / 2 ^ 12 % 16) (0) (0)
 fields_of_word Ssr w = fields (0) (w / 2 ^ 8 % 16) (w / 2 ^ 12 % 16) (0) (0)
 
--- the second code in the word of an instruction, from the bits where its form has it; 0 for a form
--- without one
+-- the second operation code in the word of an instruction, from the bits where its form has it; 0
+-- for a form without one
 unfoldable pub second_opcode : Form → ℕ → ℕ
 second_opcode Rlc w = 0
 second_opcode Rr w = w / 2 ^ 20 % 256

@@ -59,7 +59,7 @@ doubled_displacement n f = 2 * sk n f % 2 ^ 32
 abbrev pub forward_distance : Fields → ℕ
 forward_distance f = 2 * f.k % 2 ^ 32
 
--- the register that a field names, or a fixed one
+-- the number of the register that a field of an instruction names, or of a fixed one
 abbrev pub register_from_fields : RegField → Fields → ℕ
 register_from_fields Dc f = d f.c
 register_from_fields Ds1 f = d f.s1

@@ -72,7 +72,8 @@ fn signed_rank(x: u32) -> u32
     x.wrapping_add(0x8000_0000)
 }
 
-/// Returns `x` shifted left by `n` if below 32, else right by 64 - `n`, filled with zeros.
+/// Returns `x` shifted left by `n` bits if `n` is below 32, else right by 64 - `n` bits, filled
+/// with zeros.
 fn logical_shift(x: u32, n: u8) -> u32
     requires { n < 64 }
     ensures { result ≡ logical_shift x n }
@@ -86,8 +87,8 @@ fn logical_shift(x: u32, n: u8) -> u32
     }
 }
 
-/// Returns `x` shifted left by `n`, if that is below 32, else right by 64 - `n`, filled with the
-/// sign bit.
+/// Returns `x` shifted left by `n` bits if `n` is below 32, else right by 64 - `n` bits, filled
+/// with the sign bit.
 fn arithmetic_shift(x: u32, n: u8) -> u32
     requires { n < 64 }
     ensures { result ≡ arithmetic_shift x n }

@@ -5,8 +5,8 @@ ghost use Rattle.tc_isa.specs.InBounds.{AreFieldsBelow};
 
 use crate::{Fields, Form};
 
-/// Returns exclusive bounds of the fields of instructions of a form. A field that the form doesn't
-/// have is 0 and has the bound 1.
+/// Returns the exclusive upper bounds of an instruction format's operand fields. A field that the
+/// format doesn't have is 0, so its bound is 1.
 #[tactic(auto, unfolding(crate::specs::Forms::field_bounds))]
 pub fn field_bounds(form: Form) -> Fields
     ensures { result ≡ field_bounds form }

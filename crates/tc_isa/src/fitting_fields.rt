@@ -18,8 +18,8 @@ const STORE_AFTER: u8 = 0x89;
 /// The second code of both with post-increment for an address register (`ld.a`, `st.a`).
 const OF_ADDRESS: u8 = 0x06;
 
-/// Returns the instruction of row number `row` with these raw fields, or `None` if there is no such
-/// row or they don't fit. Missing fields have to be 0.
+/// Returns the instruction of this row of the instruction table with these raw operand fields.
+/// `None` if there is no such row, or its instructions can't have these fields.
 pub fn inst(row: u8, c: u8, s1: u8, s2: u8, n: u8, k: u32) -> Option<Inst>
     ensures listed { IsSome result ↔ IsInst (instruction row c s1 s2 n k) }
     ensures fields { IfSome result (λ i. i ≡ instruction row c s1 s2 n k) }
@@ -52,7 +52,8 @@ pub fn are_registers_allowed(row: &Row, f: &Fields) -> bool
     !((row.op1 == LOAD_AFTER || row.op1 == STORE_AFTER) && row.op2 == OF_ADDRESS) || f.s1 != f.s2
 }
 
-/// Returns true if the fields fit the row, so that an instruction can be built from them.
+/// Returns true if instructions of this row of the instruction table can have these operand fields.
+/// `uses` says which fields the row has.
 fn fields_fit_row(row: &Row, uses: &Uses, fields: &Fields) -> bool
     requires { uses.now ≡ used_fields (row_of row.now) }
     ensures { IsTrue result ↔ FieldsFitRow (row_of row.now) fields.now }

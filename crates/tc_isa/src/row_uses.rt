@@ -246,7 +246,7 @@ static USES: [Uses; ROW_COUNT] = [
     S1_S2, // st16.a [As2], As1
 ];
 
-/// Returns for each row of the table, in order, which fields its instructions have.
+/// Returns for each row of the instruction table, in order, which operand fields it has.
 pub fn used_fields_by_row() -> &'static [Uses]
     ensures { result.now ≡ map used_fields table_rows }
 {

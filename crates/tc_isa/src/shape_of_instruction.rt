@@ -11,7 +11,8 @@ use crate::row_meanings::row_meanings;
 use crate::{Arg, Fields, Inst, Shape, Target};
 use tcd_base::sext;
 
-/// Returns what the instruction does: the meaning of its row, with its fields.
+/// Returns what the instruction does: the meaning of its row of the table, with its fields filled
+/// in.
 pub fn shape(inst: &Inst) -> Shape
     ensures shape { result ≡ shape_of inst.now }
     ensures bounded { IsShapeInBounds result }
@@ -26,15 +27,15 @@ pub fn shape(inst: &Inst) -> Shape
     shape_from_fields(&row_meanings()[usize::from(inst.row)], &fields)
 }
 
-/// Laws of instructions' shapes: registers are below 32, words below 2^32, sizes 1, 2 or 4. The
-/// table of meanings has the rows' names.
+/// Laws of what instructions do: registers are below 32, words below 2^32, sizes 1, 2 or 4. The
+/// table of meanings has the names of the instruction table's rows, in their order.
 pub fn shape_laws()
     ensures bounded { (i : InstData) → IsInst i → IsShapeInBounds (shape_of i) }
     ensures names { map (λ l. l.name) meanings ≡ map (λ r. r.name) table_rows }
 {}
 
-/// Returns the word of a constant in what an instruction does (its shape), from its fields by the
-/// meaning of its row.
+/// Returns the word of an instruction's constant. `constant` says which of the fields `f` has the
+/// constant, and how it is extended or shifted.
 pub(crate) fn constant_from_fields(constant: Immediate, f: &Fields) -> u32
     ensures { result ≡ constant_from_fields constant f.now }
 {
@@ -52,7 +53,7 @@ pub(crate) fn constant_from_fields(constant: Immediate, f: &Fields) -> u32
     }
 }
 
-/// Returns what an instruction of this meaning does with these fields.
+/// Returns what an instruction does, from its row's `meaning` and its operand fields `f`.
 fn shape_from_fields(meaning: &Meaning, f: &Fields) -> Shape
     requires { FieldsFitTheirBits f.now }
     ensures { result ≡ shape_from_fields meaning.now f.now }
@@ -116,8 +117,8 @@ fn shape_from_fields(meaning: &Meaning, f: &Fields) -> Shape
     }
 }
 
-/// Returns the number of a register in what an instruction does (its shape), by the meaning of its
-/// row: that of a field, or a fixed one.
+/// Returns the number of an instruction's register: 0 to 15 for D0 to D15, 16 to 31 for A0 to A15.
+/// `place` says which field of `f` names the register, or that the register is fixed.
 fn register_from_fields(place: RegField, f: &Fields) -> u8
     requires { FieldsFitTheirBits f.now }
     ensures { result ≡ register_from_fields place f.now }
@@ -134,7 +135,8 @@ fn register_from_fields(place: RegField, f: &Fields) -> u8
     }
 }
 
-/// Returns an operand of an instruction's shape: a register, or the word of a constant.
+/// Returns an operand of an instruction, from its fields `f`: the number of a register, or the word
+/// of a constant.
 fn operand_from_fields(operand: Operand, f: &Fields) -> Arg
     requires { FieldsFitTheirBits f.now }
     ensures { result ≡ operand_from_fields operand f.now }
@@ -145,7 +147,8 @@ fn operand_from_fields(operand: Operand, f: &Fields) -> Arg
     }
 }
 
-/// Returns the distance in bytes of a jump or a branch, from its displacement.
+/// Returns the distance in bytes of a jump or a branch, modulo 2^32: twice its field `k`,
+/// sign-extended or not, as `distance` says.
 fn distance_from_fields(distance: Displacement, f: &Fields) -> u32
     ensures { result ≡ distance_from_fields distance f.now }
 {
@@ -157,7 +160,8 @@ fn distance_from_fields(distance: Displacement, f: &Fields) -> u32
     }
 }
 
-/// Returns the target of a jump or a call, from the fields.
+/// Returns the target of a jump or a call, from its fields `f`: a distance, an absolute address or
+/// a register, as `goal` says.
 fn target_from_fields(goal: Destination, f: &Fields) -> Target
     requires { FieldsFitTheirBits f.now }
     ensures { result ≡ target_from_fields goal f.now }

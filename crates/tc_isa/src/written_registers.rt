@@ -6,8 +6,8 @@ ghost use Rattle.tc_isa.specs.Writes.{written_registers, increased_base_bit, reg
 use crate::shape_of_instruction::shape;
 use crate::{Arg, Inst, Shape};
 
-/// Returns a mask of the registers that the instruction writes by itself: bit r for register r,
-/// numbered as in `Arg`. What saving and restoring contexts writes, and A11 of calls, aren't in it.
+/// Returns the mask of the registers that an instruction writes: bit n for Dn, bit 16 + n for An.
+/// What saves and restores of contexts write, and A11 of calls, aren't in the mask.
 pub fn writes(inst: &Inst) -> u32
     ensures { result ≡ written_registers inst.now }
 {

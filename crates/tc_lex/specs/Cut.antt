@@ -21,7 +21,7 @@ unfoldable pub number_len : List ℕ → ℕ
 number_len bs = if has_hex_prefix bs then 2 + prefix_len is_hex_digit (drop 2 bs) else prefix_len is_digit bs
 
 -- what the rest of a line with this first byte begins with: a token with its length, a blank, the
--- end, or a bad byte
+-- end, or a bad byte (35 is `#`, 9 a tab; 44, 58, 91, 93, 43, 45 are `,` `:` `[` `]` `+` `-`)
 unfoldable pub first_token_by_byte : ℕ → List ℕ → Front
 first_token_by_byte c text =
     if c == 35 then front.End
@@ -66,7 +66,8 @@ tokens_after_front front.Blank room at next = next room (at + 1) 0
 tokens_after_front front.Bad room at next = Err at
 tokens_after_front (front.Token kind len) room at next = if room == 0 then Err at else with_first_tokens (token kind at len ∷ []) (next (room - 1) (at + 1) (len - 1))
 
--- The tokens of a text after its first `skip` bytes, at most `room`, or the first bad place.
+-- The tokens of the rest of a line, which begins at offset `at`, after its first `skip` bytes: at
+-- most `room`, or the first bad place.
 unfoldable pub tokens_after_skip : List ℕ → ℕ → ℕ → ℕ → Result (List Token) ℕ
 tokens_after_skip [] room at skip = Ok []
 tokens_after_skip (c ∷ cs) room at zero = tokens_after_front (first_token_of (c ∷ cs)) room at (tokens_after_skip cs)
@@ -141,8 +142,8 @@ pub record IsTokenPastLimit (line : List ℕ) (at count most : ℕ) : Type 0 whe
   pub some : 0 < len
   pub longest : IsLongestToken kind len (drop at line)
 
--- a line from low on is tokens up to this place, where a byte begins no token, or one past the
--- limit
+-- a line from low on is tokens up to this place, where a byte begins no token, or a token begins
+-- after `most` others, all that a line may have
 pub record IsTokenFault (line : List ℕ) (low most at : ℕ) : Type 0 where
   pub before : List Token
   pub tokens : AreTokens line low at before

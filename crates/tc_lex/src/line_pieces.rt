@@ -9,7 +9,7 @@ use crate::pieces::Piece;
 use crate::scratch::Scratch;
 
 /// Cuts a line into tokens with their texts, which replace the contents of `out`. The error is the
-/// offset of the first byte that begins no token, or a 65th one.
+/// byte offset of the first byte that begins no token, or that begins a 65th one.
 pub fn tokenize_line<'a>(line: &'a [u8], out: &mut Scratch<Piece<'a>, 64>) -> Result<(), usize>
     ensures pieces { GivesTokenTexts result
         (map piece_of out.new.items) (pieces_of_tokens line.now (tokens_of line.now)) }

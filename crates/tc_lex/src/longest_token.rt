@@ -19,8 +19,8 @@ pub(crate) fn longest_token_at(line: &[u8], at: usize) -> Front
     first_token_by_byte(line[at], &line[at..])
 }
 
-// What the rest of a source's line begins with: a token with its length, a blank, the end, or a bad
-// byte. `c` is the first byte of that rest.
+// Classifies `text`, the rest of a line with first byte `c`: a token and its length, a blank, a
+// comment, or a bad byte.
 #[tactic(auto, unfolding(crate::specs::Cut::first_token_by_byte))]
 fn first_token_by_byte(c: u8, text: &[u8]) -> Front
     requires some { 0 < length text.now }
@@ -55,7 +55,7 @@ fn first_token_by_byte(c: u8, text: &[u8]) -> Front
     }
 }
 
-/// The length of the word token that the text begins with.
+/// Returns how many bytes of names the text begins with: the length of the word token there.
 fn word_len(rest: &[u8]) -> usize
     ensures value { result ≡ prefix_len is_name_byte rest.now }
     ensures within { result ≤ length rest.now }
@@ -63,7 +63,7 @@ fn word_len(rest: &[u8]) -> usize
     rest.iter().take_while(|c| is_name_byte(**c)).count()
 }
 
-/// The length of the number token that the text begins with.
+/// The length of the number token that the rest of a line begins with, decimal or after `0x`.
 #[tactic(auto, unfolding(crate::specs::Cut::number_len))]
 fn number_len(rest: &[u8]) -> usize
     ensures value { result ≡ number_len rest.now }

@@ -27,7 +27,7 @@ pub(crate) fn has_hex_prefix(rest: &[u8]) -> bool
     rest.len() > 2 && rest[0] == b'0' && rest[1] == b'x' && is_hex_digit(rest[2])
 }
 
-/// The number that these digits of a token spell in base 10 or 16; `None` if 2^128 or more.
+/// The number that the digits `text` of a token spell in base 10 or 16; `None` if 2^128 or more.
 fn number_by_digits(base: u8, text: &[u8]) -> Option<u128>
     ensures { result ≡ number_by_digits base text.now }
 {
@@ -38,7 +38,7 @@ fn number_by_digits(base: u8, text: &[u8]) -> Option<u128>
     so_far
 }
 
-/// The number of a token with one more digit c, in base 10 or 16; `None` if 2^128 or more.
+/// The token's number `so_far` with one more digit `c` in this base; `None` if 2^128 or more.
 #[tactic(auto, unfolding(crate::specs::Numbers::append_digit), using(crate::proofs::SmallTimes::small_times))]
 fn append_digit(base: u8, so_far: Option<u128>, c: u8) -> Option<u128>
     ensures { result ≡ append_digit base so_far c }
@@ -55,7 +55,7 @@ fn append_digit(base: u8, so_far: Option<u128>, c: u8) -> Option<u128>
     }
 }
 
-// The value of a digit of base 10 or 16, in ASCII.
+// The value of a digit `c`, in ASCII, of a number in base 10 or 16.
 #[tactic(auto, unfolding(crate::specs::Numbers::token_digit_value, crate::specs::Bytes::is_digit))]
 fn token_digit_value(c: u8) -> u8
     ensures { result ≡ token_digit_value c }
@@ -69,7 +69,7 @@ fn token_digit_value(c: u8) -> u8
     }
 }
 
-// The number n, of 2^64 or more, with one more digit c; `None` if 2^128 or more.
+// The number `n`, of 2^64 or more, with one more digit `c`; `None` if 2^128 or more.
 #[inline(never)]
 #[tactic(auto, unfolding(crate::specs::Numbers::append_digit))]
 fn append_digit_to_large_number(base: u8, n: u128, c: u8) -> Option<u128>

@@ -14,7 +14,7 @@ pub struct Piece<'a> {
     pub text: &'a [u8],
 }
 
-/// Whether token `i` of the tokens `ps` of a line exists and has this kind.
+/// Whether token `i` of the tokens `ps` of a line exists and is of this kind.
 #[tactic(auto, unfolding(crate::specs::Pieces::is_token_kind))]
 pub fn is_token_kind(ps: &[Piece], i: usize, kind: TokenKind) -> bool
     ensures value { result ≡ is_token_kind (map piece_of ps.now) i kind }
@@ -27,7 +27,7 @@ pub fn is_token_kind(ps: &[Piece], i: usize, kind: TokenKind) -> bool
     }
 }
 
-/// The text of token `i` of a line, and an empty text if there is no such token.
+/// The text of token `i` of the tokens `ps` of a line, and an empty text if there is no such token.
 #[tactic(auto, unfolding(crate::specs::Pieces::token_text))]
 pub fn token_text<'a>(ps: &[Piece<'a>], i: usize) -> &'a [u8]
     ensures { result.now ≡ token_text (map piece_of ps.now) i }

@@ -12,8 +12,8 @@ use crate::same_bytes::is_same_text;
 use crate::scratch::Scratch;
 use crate::split_operands::operands_into;
 
-/// Reads the operand that these tokens spell, and adds the operand to the list. Each arm of one
-/// token builds the operand in the list, so that its 80 bytes aren't copied.
+/// Reads the operand that the tokens `ps` spell, and adds the operand to `out`. Malformed tokens
+/// add one of the form `Bad`.
 pub(crate) fn read_operand_into<'a>(ps: &[Piece<'a>], out: &mut Scratch<Operand<'a>, 65>)
     requires { length out.old.items < 65 }
     ensures operands { map operand_of out.new.items
@@ -31,7 +31,7 @@ pub(crate) fn read_operand_into<'a>(ps: &[Piece<'a>], out: &mut Scratch<Operand<
     }
 }
 
-/// Adds one operand that was just read from its tokens to the list of operands.
+/// Adds one operand that was just read from its tokens to the list `out`.
 pub(crate) fn push_operand<'a>(operand: Operand<'a>, out: &mut Scratch<Operand<'a>, 65>)
     requires { length out.old.items < 65 }
     ensures operands { map operand_of out.new.items
@@ -41,8 +41,8 @@ pub(crate) fn push_operand<'a>(operand: Operand<'a>, out: &mut Scratch<Operand<'
     out.push(operand);
 }
 
-/// Reads one operand from tokens that aren't a single word or number, and adds it to the list. Its
-/// locals are large, so they have a function of their own.
+/// Reads one operand from tokens that aren't a single word or number, and adds the operand to
+/// `out`.
 #[inline(never)]
 #[tactic(auto, unfolding(crate::specs::Operands::operand_of_tokens))]
 fn read_longer_operand_into<'a>(ps: &[Piece<'a>], out: &mut Scratch<Operand<'a>, 65>)
@@ -58,7 +58,7 @@ fn read_longer_operand_into<'a>(ps: &[Piece<'a>], out: &mut Scratch<Operand<'a>,
     }
 }
 
-// The operand that is one word, the only token.
+// Returns the operand that the tokens `ps` spell if they are one word.
 fn lone_word_operand<'a>(ps: &[Piece<'a>]) -> Operand<'a>
     requires one { length ps.now ≡ 1 }
     requires word { is_token_kind (map piece_of ps.now) 0 Word ≡ true }
@@ -67,7 +67,7 @@ fn lone_word_operand<'a>(ps: &[Piece<'a>]) -> Operand<'a>
     plain_operand(value_with_shape(Shape::Word, token_text(ps, 0), false, 0))
 }
 
-// The operand that is one number, the only token.
+// Returns the operand that the tokens `ps` spell if they are one number.
 fn lone_number_operand<'a>(ps: &[Piece<'a>]) -> Operand<'a>
     requires one { length ps.now ≡ 1 }
     requires number { is_token_kind (map piece_of ps.now) 0 Number ≡ true }
@@ -76,7 +76,7 @@ fn lone_number_operand<'a>(ps: &[Piece<'a>]) -> Operand<'a>
     plain_operand(number_operand_value(false, token_number(token_text(ps, 0))))
 }
 
-// Reads an operand that begins with `[`. If malformed, the operand is a bad value.
+// Reads an operand that begins with `[`. If malformed, the operand's value has the form `Bad`.
 #[inline(never)]
 #[tactic(auto, unfolding(crate::specs::Operands::operand_of_tokens))]
 fn memory_operand<'a>(ps: &[Piece<'a>]) -> Operand<'a>
@@ -108,7 +108,7 @@ fn plain_operand(value: Value<'_>) -> Operand<'_>
     }
 }
 
-/// Reads the value of an operand that begins at token `at` and takes all tokens from there on.
+/// Reads an operand's value from all tokens from `at` on; without tokens its form is `Absent`.
 #[tactic(auto, unfolding(crate::specs::Operands::operand_value_at), using(crate::proofs::NumberTokens::word_no_number))]
 fn operand_value_at<'a>(ps: &[Piece<'a>], at: usize) -> Value<'a>
     requires { at ≤ length ps.now }
@@ -138,7 +138,7 @@ fn bracketed_operand<'a>(plus: bool, base: &'a [u8], value: Value<'a>) -> Operan
     }
 }
 
-/// The value of an operand with this form, name and number, negative if `minus`.
+/// The value of an operand with this form, name and number `size`, negative if `minus`.
 fn value_with_shape(shape: Shape, name: &[u8], minus: bool, size: u128) -> Value<'_>
     ensures { value_of result ≡ value_with_shape shape name.now minus size }
 {
@@ -164,7 +164,8 @@ fn symbol_value_at<'a>(ps: &[Piece<'a>], at: usize) -> Value<'a>
     }
 }
 
-/// Reads a number, perhaps after `-`, that ends the operand: whether negative, and the number.
+/// Reads a number, perhaps after `-`, that takes all tokens from `at` on: whether negative, and the
+/// number, `None` if 2^128 or more. Other tokens give `None`.
 #[tactic(auto, unfolding(crate::specs::Operands::operand_number_at))]
 fn operand_number_at(ps: &[Piece], at: usize) -> Option<(bool, Option<u128>)>
     requires { at ≤ length ps.now }
@@ -182,7 +183,7 @@ fn operand_number_at(ps: &[Piece], at: usize) -> Option<(bool, Option<u128>)>
     }
 }
 
-/// The value that is a number alone, negative if `minus`; `None` is one of 2^128 or more.
+/// Returns the value of the number `n` alone, negative if `minus`; `n` is `None` if 2^128 or more.
 fn number_operand_value<'a>(minus: bool, n: Option<u128>) -> Value<'a>
     ensures { value_of result ≡ number_operand_value minus n }
 {
@@ -210,7 +211,8 @@ fn symbol_half_at<'a>(ps: &[Piece<'a>], at: usize) -> Value<'a>
     }
 }
 
-/// Reads a name at token `at`, as a value of form `plain`, or with a number, of form `summed`.
+/// Reads a name from token `at` on, as a value of form `plain`, or a name plus or minus a number,
+/// of form `summed`. Other tokens give the form `Bad`.
 #[tactic(auto, unfolding(crate::specs::Operands::name_or_sum_at))]
 fn name_or_sum_at<'a>(ps: &[Piece<'a>], at: usize, plain: Shape, summed: Shape) -> Value<'a>
     requires { at ≤ length ps.now }
@@ -227,7 +229,7 @@ fn name_or_sum_at<'a>(ps: &[Piece<'a>], at: usize, plain: Shape, summed: Shape) 
     }
 }
 
-// Reads a name at token `at`, with the number added or subtracted, as a value of form `summed`.
+// Reads a name plus or minus a number from token `at` on, as a value of form `summed` or `Bad`.
 #[inline(never)]
 #[tactic(auto, unfolding(crate::specs::Operands::name_or_sum_at))]
 fn name_plus_number_at<'a>(ps: &[Piece<'a>], at: usize, plain: Shape, summed: Shape) -> Value<'a>
@@ -251,7 +253,7 @@ fn name_plus_number_at<'a>(ps: &[Piece<'a>], at: usize, plain: Shape, summed: Sh
     }
 }
 
-// The value that is a name plus a number, or minus; `None` is a number of 2^128 or more.
+// Returns the value NAME plus `n`, or minus `n` if `minus`; `n` is `None` if 2^128 or more.
 fn sum_operand_value(shape: Shape, name: &[u8], minus: bool, n: Option<u128>) -> Value<'_>
     ensures { value_of result ≡ sum_operand_value shape name.now minus n }
 {

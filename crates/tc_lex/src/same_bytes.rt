@@ -19,7 +19,7 @@ pub fn are_same_bytes(a: &[u8], b: &[u8]) -> bool
     true
 }
 
-/// Whether the bytes are this text.
+/// Whether these bytes are those of this text.
 pub fn is_same_text(bytes: &[u8], text: &str) -> bool
     ensures { result ≡ bytes_eq bytes.now text.now }
 {

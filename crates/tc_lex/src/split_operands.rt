@@ -9,7 +9,7 @@ use crate::pieces::Piece;
 use crate::read_operand::read_operand_into;
 use crate::scratch::Scratch;
 
-/// Replaces the contents of `out` by the operands that these tokens spell.
+/// Replaces the contents of `out` by the operands that these tokens of a statement spell.
 pub fn operands_into<'a>(ps: &[Piece<'a>], out: &mut Scratch<Operand<'a>, 65>)
     requires { length ps.now ≤ 64 }
     ensures { map operand_of out.new.items ≡ operands_of_tokens (map piece_of ps.now) }
@@ -34,7 +34,7 @@ fn find_comma(ps: &[Piece]) -> Option<usize>
     ps.iter().position(|p| kind_index(p.kind) == 2)
 }
 
-// Adds the operand that ends before token `i` to the list.
+// Reads the operand that the tokens before token `i` spell, and adds the operand to `out`.
 fn read_operand_before<'a>(ps: &[Piece<'a>], i: usize, out: &mut Scratch<Operand<'a>, 65>)
     requires place { i ≤ length ps.now }
     requires room { length out.old.items < 65 }

@@ -67,7 +67,8 @@ symbols_to_link objects = flat_map (λ o. o.symbols) objects
 unfoldable pub count_globals_named : List ObjectData → List ℕ → ℕ
 count_globals_named objects name = count_by (has_global_name name) (symbols_to_link objects)
 
--- for each name, the map knows whether several objects define it as a global symbol
+-- for each name, the map has counted the global symbols of these objects with that name: none, one
+-- or several
 abbrev pub HasCountedAllDefinitions : {S : Type 0} → HashMap (Bor (List ℕ)) Definition S → List ObjectData → Type 0
 HasCountedAllDefinitions names objects = (q : List ℕ) → HasCountedDefinitions names q (count_globals_named objects q)
 
@@ -77,10 +78,12 @@ HasCountedAllDefinitions names objects = (q : List ℕ) → HasCountedDefinition
 abbrev pub global_symbol_address : {S : Type 0} → HashMap (Bor (List ℕ)) Definition S → List PlacedData → List ℕ → Option ℕ
 global_symbol_address names placed q = option_map (definition_address placed) (global_at_name names q)
 
--- for each name, the map gives the address of the first of these global symbols with that name
+-- for each name, the map and the placed objects give the address of the first of these global
+-- symbols with that name, or none
 abbrev pub ResolvesGlobals : {S : Type 0} → HashMap (Bor (List ℕ)) Definition S → List PlacedData → List GlobalData → Type 0
 ResolvesGlobals names placed all = (q : List ℕ) → global_symbol_address names placed q ≡ first_global_address all q
 
--- wherever the objects are placed, the map gives the addresses of all their global symbols
+-- wherever the objects are placed, the map resolves the names of all their global symbols to
+-- addresses
 abbrev pub ResolvesAllGlobals : {S : Type 0} → HashMap (Bor (List ℕ)) Definition S → List ObjectData → Type 0
 ResolvesAllGlobals names objects = (placed : List PlacedData) → map (λ p. p.object) placed ≡ objects → ResolvesGlobals names placed (globals_of placed)

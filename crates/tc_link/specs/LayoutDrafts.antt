@@ -26,8 +26,8 @@ draft_with_line d line = record {
   places = d.places ++ option_to_list (option_and_then place_in_line line);
 }
 
--- the layout with the first of these entries, after n lines; without an entry, a fault at line n +
--- 1
+-- the layout that a draft of n lines gives, with the first of these entries; without an entry, a
+-- fault at line n + 1
 abbrev pub finished_layout : ℕ → List (List ℕ) → List PlaceData → Result LayoutData LayoutErr
 finished_layout n [] places = Err (BadLine (n + 1))
 finished_layout n (name ∷ names) places = Ok (record { entry = name; places = places })

@@ -55,7 +55,8 @@ entries_in_lines lines = filter_map (λ l. option_and_then entry_in_line (layout
 unfoldable pub places_in_lines : List (List ℕ) → List PlaceData
 places_in_lines lines = filter_map (λ l. option_and_then place_in_line (layout_line_contents l)) lines
 
--- an entry's name is that of a symbol, and a place is valid; an empty line is always good
+-- of a layout's line: the name of an entry is that of a symbol, and a place is valid; an empty line
+-- always is
 abbrev pub IsValidLayoutLine : LayoutLineData → Type 0
 IsValidLayoutLine blank = Unit {0}
 IsValidLayoutLine (entry name) = object_name_of name ≡ Some name

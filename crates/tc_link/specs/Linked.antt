@@ -15,7 +15,7 @@ abbrev pub image_with_entry : Option ℕ → List PlaceData → List PlacedData 
 image_with_entry None places placed = Err no_entry
 image_with_entry (Some address) places placed = Ok (record { entry = address; segments = segments_of places (all_relocated_sections placed) })
 
--- the image of placed objects with their relocations written; refused if the entry is no global
+-- the image of placed objects with their relocations applied; refused if the entry is no global
 -- symbol
 abbrev pub image_of_placed : LayoutData → List PlacedData → Result ImageData Refusal
 image_of_placed layout placed = image_with_entry (first_global_address (globals_of placed) layout.entry) layout.places placed

@@ -18,7 +18,7 @@ used_size_with_section name n s = if bytes_eq name s.name then next_multiple_of_
 unfoldable pub used_place_size : List ℕ → List SectionData → ℕ
 used_place_size name sections = fold (used_size_with_section name) 0 sections
 
--- the sizes are, for each place, the number of bytes that these sections use there
+-- the sizes are, for each place of a layout, the number of bytes that these sections use there
 abbrev pub AreUsedSizes : List PlaceData → List SectionData → List ℕ → Type 0
 AreUsedSizes places sections sizes = (k : ℕ) (d : PlaceData) → k < length places → slice_index sizes k ≡ used_place_size (slice_index_or places k d).section sections
 
@@ -34,6 +34,7 @@ AreSizesWithin4GiB sizes = (k : ℕ) → slice_index sizes k ≤ 2 ^ 32
 unfoldable pub total_used_size : List PlaceData → List SectionData → ℕ
 total_used_size places sections = sum_by (λ p. used_place_size p.section sections) places
 
--- these sections are too large for a place, or for the 16,777,216 bytes of an image
+-- these sections overflow a place of the layout, a memory region, or the 16,777,216 bytes of an
+-- image
 unfoldable pub has_region_overflow : List PlaceData → List SectionData → Bool
 has_region_overflow places sections = list_any (λ p. nat_lt p.most (used_place_size p.section sections)) places || nat_lt (2 ^ 24) (total_used_size places sections)

@@ -87,7 +87,7 @@ HaveRoomAfterUsedBytes places sizes sections = (before : List SectionData) → A
 abbrev pub reloc_error : List GlobalData → PlacedData → Reloc → Option RelocErr
 reloc_error globals p r = reloc_value_refusal r.kind (reloc_field_address p r) (reloc_value globals p r)
 
--- the refusal of a relocation of the object with this number that can't be written, or None
+-- the refusal of a relocation of the object with this number that can't be applied, or None
 abbrev pub reloc_refusal : List GlobalData → ℕ → PlacedData → ℕ → Reloc → Option Refusal
 reloc_refusal globals object p number r = option_map (λ err. reloc object r.section r.offset err) (reloc_error globals p r)
 
@@ -100,11 +100,11 @@ first_reloc_refusal_in globals object p = first_refusal_over (reloc_refusal glob
 abbrev pub AreRelocsApplicable : List ℕ → ℕ → PlacedData → Type 0
 AreRelocsApplicable addresses number p = (all : List GlobalData) → addresses ≡ symbol_addresses all p → first_reloc_refusal_in all number p ≡ None
 
--- the refusal of the first relocation that can't be written, in the order of the objects, or None
+-- the refusal of the first relocation that can't be applied, in the order of the objects, or None
 unfoldable pub first_reloc_refusal : List GlobalData → List PlacedData → Option Refusal
 first_reloc_refusal globals placed = first_refusal_over (λ object p. first_reloc_refusal_in globals object p) placed
 
--- the first refusal before relocations are written, in this order
+-- the linker's first refusal before relocations are applied, in this order, or None
 abbrev pub refusal_before_relocs : LayoutData → List ObjectData → Option Refusal
 refusal_before_relocs layout objects =
     option_or (first_duplicate_symbol_refusal objects)

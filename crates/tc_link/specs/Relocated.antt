@@ -33,26 +33,26 @@ section_bytes_with_field bytes at field = take at bytes ++ (field ++ drop (at + 
 abbrev pub reloc_field_at : List ℕ → ℕ → List ℕ
 reloc_field_at bytes at = take 4 (drop at bytes)
 
--- a section after the relocation r, at address place, filled its field with the value
+-- a section after a relocation at address `place` wrote this value into its field
 abbrev pub section_with_filled_field : Reloc → ℕ → ℕ → SectionData → SectionData
 section_with_filled_field r place value s = record {
   name = s.name;
   bytes = section_bytes_with_field s.bytes r.offset (with_reloc_field r.kind (reloc_field_at s.bytes r.offset) (reloc_field_number r.kind place value));
 }
 
--- a section with the field of a relocation written
+-- a section of a placed object after one of its relocations is applied
 abbrev pub section_after_reloc : List GlobalData → PlacedData → Reloc → SectionData → SectionData
 section_after_reloc globals p r s = section_with_filled_field r (reloc_field_address p r) (reloc_value globals p r) s
 
--- a list with f of the item of this number there; unchanged if there is no such item
+-- the list after f is applied to the item of this number; unchanged if there is no such item
 abbrev pub with_changed_item : {A : Type 0} → (A → A) → ℕ → List A → List A
 with_changed_item f n xs = option_map_or (λ x. slice_set xs n (f x)) (slice_get xs n) xs
 
--- the sections of a placed object after one of its relocations is written
+-- the sections of a placed object after one of its relocations is applied
 abbrev pub sections_after_reloc : List GlobalData → PlacedData → List SectionData → Reloc → List SectionData
 sections_after_reloc globals p sections r = with_changed_item (section_after_reloc globals p r) r.section sections
 
--- the sections of a placed object after all its relocations are written, in order
+-- the sections of a placed object after all its relocations are applied, in order
 unfoldable pub relocated_sections : List GlobalData → PlacedData → List SectionData
 relocated_sections globals p = fold (sections_after_reloc globals p) p.object.sections p.object.relocs
 
@@ -61,6 +61,6 @@ relocated_sections globals p = fold (sections_after_reloc globals p) p.object.se
 abbrev pub AreRelocatedSections : List ℕ → PlacedData → List SectionData → Type 0
 AreRelocatedSections addresses p sections = (all : List GlobalData) → addresses ≡ symbol_addresses all p → sections ≡ relocated_sections all p
 
--- the sections of all placed objects, with their relocations written
+-- the sections of all placed objects, with their relocations applied
 unfoldable pub all_relocated_sections : List PlacedData → List SectionData
 all_relocated_sections placed = flat_map (relocated_sections (globals_of placed)) placed

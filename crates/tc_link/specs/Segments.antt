@@ -11,7 +11,7 @@ use Rattle.tc_link.specs.PlaceSizes.{next_multiple_of_4}
 abbrev pub with_segment_padding : List ℕ → List ℕ
 with_segment_padding bytes = bytes ++ replicate (next_multiple_of_4 (length bytes) - length bytes) 0
 
--- the bytes of a place after a further section, if it has the place's name
+-- the bytes of a segment after a further section, which is appended if its name is this one
 abbrev pub with_section_of_name : List ℕ → List ℕ → SectionData → List ℕ
 with_section_of_name name bytes s = if bytes_eq name s.name then with_segment_padding bytes ++ s.bytes else bytes
 

@@ -12,8 +12,8 @@ use std::alloc::Global;
 use std::collections::HashMap;
 use tc_object::{SymbolRef, UNDEFINED_SYMBOL};
 
-/// The address of an offset in the section of this number, modulo 2^32, if the sections of its
-/// object begin at `bases`. A section that isn't in `bases` counts as at 0.
+/// Returns the address of `offset` in section number `section` of an object, modulo 2^32. `bases`
+/// are the addresses of the object's sections; a missing one counts as 0.
 pub(crate) fn address_in_section(bases: &[u64], section: u16, offset: u32) -> u32
     ensures { result ≡ address_in_section bases.now section offset }
 {
@@ -24,8 +24,8 @@ pub(crate) fn address_in_section(bases: &[u64], section: u16, offset: u32) -> u3
     (base.wrapping_add(u64::from(offset)) % 4_294_967_296) as u32
 }
 
-/// The address of the global symbol with this name, from its definition in `names` and the
-/// addresses of the objects in `placed`. Without a definition `None`, without the object 0.
+/// Returns the address of the global symbol `name`, or None if no object defines the name. `placed`
+/// are the objects with their sections' addresses; a missing object gives 0.
 pub(crate) fn global_symbol_address(
     names: &HashMap<&str, Definition>,
     placed: &[Placed<'_, '_>],
@@ -42,8 +42,8 @@ pub(crate) fn global_symbol_address(
     }
 }
 
-/// The addresses of the symbols of the object `each`, by their numbers. An undefined symbol has
-/// that of the global symbol with its name, and 0 if there is none.
+/// Returns the addresses of the symbols of the object `each`, by number. An undefined symbol has
+/// the address of the global symbol of that name, or 0 if no object defines one.
 #[tactic(auto, unfolding(crate::specs::Relocated::symbol_addresses))]
 pub(crate) fn symbol_addresses(
     alloc: Global,

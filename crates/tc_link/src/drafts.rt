@@ -88,8 +88,8 @@ impl Draft {
         }
     }
 
-    /// Returns the layout of a draft after `count` lines, or a fault at the next line if no line
-    /// was an entry.
+    /// Returns the layout of a draft after `count` lines. If no line named the entry symbol, the
+    /// fault is a `BadLine` at the next line.
     pub(crate) fn finish(self, count: u32) -> Result<Layout, LayoutErr>
         requires { count < 2 ^ 31 }
         ensures ok { IfOk result (λ l. finished_layout count self.entries self.places ≡ Ok l) }
@@ -102,8 +102,8 @@ impl Draft {
         }
     }
 
-    // The fault of a place in line `number` of a layout, if any. The section has a place already,
-    // there are 64 places, or the `most` bytes from `at` on overlap one.
+    // Returns the error of a layout's line that adds a memory region of `most` bytes at `at`, or
+    // None. Errors are a second region for the section, a 65th region, and an overlap.
     fn place_fault(&self, number: u32, section: &str, at: u32, most: u32) -> Option<LayoutErr>
         requires { IsPlace (place_data section.now at most) }
         ensures fault { result ≡ layout_line_fault number self.now.entries self.now.places
@@ -124,8 +124,8 @@ impl Draft {
         None
     }
 
-    // Whether a place of the draft of a layout shares a byte with the `most` bytes from address
-    // `at` on.
+    // Returns true if a memory region (place) of the draft overlaps the range of `most` bytes from
+    // address `at` on.
     fn has_overlapping_place(&self, at: u32, most: u32) -> bool
         ensures { result ≡ list_any (is_overlapping_place at most) self.now.places }
     {
@@ -135,7 +135,8 @@ impl Draft {
     }
 }
 
-// Whether `most` bytes from `at` on share a byte with another place.
+// Returns true if a layout's memory region `other` overlaps the range of `most` bytes from address
+// `at` on.
 fn is_overlapping_place(at: u32, most: u32, other: &Place) -> bool
     ensures { result ≡ is_overlapping_place at most other.now }
 {

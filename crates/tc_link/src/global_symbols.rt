@@ -10,7 +10,8 @@ use std::alloc::Global;
 use std::collections::HashMap;
 use tc_object::{GLOBAL_SYMBOL, ObjectRef, SymbolRef};
 
-/// A map of the global symbols of objects: for each name, the first definition.
+/// Returns a map of the global symbols of objects: for each name the first definition, marked if
+/// other objects define the name too.
 pub(crate) fn globals_by_name<'a>(
     alloc: Global,
     objects: &[ObjectRef<'a>],
@@ -26,14 +27,16 @@ pub(crate) fn globals_by_name<'a>(
     Ok(names)
 }
 
-/// Returns true if no global symbol has the name. `names` is the map of global symbols.
+/// Returns true if no object defines a global symbol of this name. `names` is the map of all global
+/// symbols.
 pub(crate) fn has_no_definition(names: &HashMap<&str, Definition>, name: &str) -> bool
     ensures { (n : ℕ) → HasCountedDefinitions names.now name.now n → result ≡ (n == 0) }
 {
     !names.contains_key(name)
 }
 
-/// Returns true if several global symbols have the name. `names` is the map of global symbols.
+/// Returns true if several objects define a global symbol of this name. `names` is the map of all
+/// global symbols.
 pub(crate) fn has_multiple_definitions(names: &HashMap<&str, Definition>, name: &str) -> bool
     ensures { (n : ℕ) → HasCountedDefinitions names.now name.now n → result ≡ nat_lt 1 n }
 {
@@ -76,8 +79,8 @@ fn add_global_symbols<'a>(
     Ok(())
 }
 
-// Adds a symbol of object number `object` to the map, if the symbol is global. Of several with one
-// name the map keeps the first, and marks the name.
+// Adds a symbol of object number `object` to the map of global symbols, if the symbol is global. A
+// name that is there already keeps the first definition, marked as defined twice.
 fn add_symbol_if_global<'a>(
     names: &mut HashMap<&'a str, Definition>,
     object: usize,

@@ -57,9 +57,9 @@ impl Layout {
     ghost use Rattle.std.specs.Prelude.{◌≡◌, ◌≤◌, ◌^◌, length, Ok, IfOk, IfErr};
     ghost use Rattle.tc_link.specs.LayoutFaults.{layout_of, IsLayoutFaultOf};
 
-    /// The layout in a text, or its first fault. The lines are `entry NAME` and `place SECTION AT
-    /// MOST`, with numbers of eight upper-case hex digits. One space separates two words. Empty
-    /// lines are skipped.
+    /// Reads a layout (linker script) from a text, or returns the first fault. Lines are `entry
+    /// NAME`, the entry symbol, and `place SECTION AT MOST`, the address and greatest size of a
+    /// section's memory region. Numbers have eight upper-case hex digits.
     pub fn read(alloc: Global, bytes: &[u8]) -> Result<Layout, LayoutErr>
         requires { length bytes.now ≤ 2 ^ 30 }
         ensures ok { IfOk result (λ l. layout_of bytes.now ≡ Ok l) }

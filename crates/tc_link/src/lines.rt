@@ -24,8 +24,8 @@ pub(crate) enum Line<'a> {
     },
 }
 
-/// The contents of a layout's line: blank, an entry or a place; None if the line has none of these
-/// forms.
+/// Returns the contents of a layout's line: blank, the entry symbol, or a memory region (place) for
+/// a section. None if the line has another form.
 #[tactic(auto, using(crate::proofs::LineLaws::more), unfolding(crate::specs::LayoutLines::layout_line_contents))]
 pub(crate) fn layout_line_contents(line: &[u8]) -> Option<Line<'_>>
     ensures line { option_map layout_line_data result ≡ layout_line_contents line.now }
@@ -54,7 +54,8 @@ pub(crate) fn layout_line_contents(line: &[u8]) -> Option<Line<'_>>
     }
 }
 
-/// The line `place SECTION AT MOST` of a layout, if these four words are one. Otherwise `None`.
+/// Parses the four words `place SECTION AT MOST` of a layout's line: a memory region of MOST bytes
+/// at address AT. None for other words, an unaligned AT, or an end past 2^32.
 fn place_line<'a>(word: &[u8], section: &'a [u8], at: &[u8], most: &[u8]) -> Option<Line<'a>>
     ensures line { option_map layout_line_data result
         ≡ (if bytes_eq word.now (codes "place")

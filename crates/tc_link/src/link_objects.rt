@@ -18,7 +18,8 @@ use elf_image::{Image, establish_segment_bytes};
 use std::alloc::Global;
 use tc_object::{Object, ObjectRef};
 
-/// Links objects that borrow their names and bytes, as `link` does.
+/// Links objects that borrow their names and bytes: returns their image in this layout, or the
+/// first refusal, as `link` does.
 pub fn link_borrowed(
     alloc: Global,
     objects: &[ObjectRef<'_>],

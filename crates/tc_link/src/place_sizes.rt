@@ -11,7 +11,7 @@ use tc_object::SectionRef;
 // The most bytes of an image.
 const MOST_BYTES: u64 = 0x100_0000;
 
-/// The least multiple of 4 that isn't below `size`.
+/// Returns the least multiple of 4 that isn't below `size`.
 pub(crate) fn next_multiple_of_4(size: u64) -> u64
     requires { size ≤ 2 ^ 33 }
     ensures { result ≡ next_multiple_of_4 size }
@@ -19,8 +19,8 @@ pub(crate) fn next_multiple_of_4(size: u64) -> u64
     (size + 3) / 4 * 4
 }
 
-// Adds a section, from the next multiple of 4 on, to the used bytes of the place for its name.
-// `sizes` has the number of used bytes of each place.
+// Adds a section's size, after alignment to 4 bytes, to the used bytes of the memory region (place)
+// for its name. `sizes` has the used bytes of each region.
 pub(crate) fn add_section_size(places: &[Place], sizes: &mut [u64], section: &SectionRef<'_>)
     requires count { length sizes.old ≡ length places.now }
     requires small { AreSizesWithin4GiB sizes.old }
@@ -33,7 +33,8 @@ pub(crate) fn add_section_size(places: &[Place], sizes: &mut [u64], section: &Se
     }
 }
 
-// Whether a place has fewer bytes than its used ones, `sizes`, or all use more than 2^24 bytes.
+// Returns true if sections use more bytes than their memory region (place) has, or more than 2^24
+// in all. `sizes` has the used bytes of each region.
 #[tactic(auto, unfolding(crate::specs::PlaceSizes::has_region_overflow, crate::specs::PlaceSizes::total_used_size))]
 pub(crate) fn has_region_overflow(places: &[Place], sizes: &[u64]) -> bool
     requires count { length sizes.now ≡ length places.now }

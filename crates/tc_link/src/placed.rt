@@ -28,8 +28,8 @@ impl<'a, 'b> Model for Placed<'a, 'b> {
     ghost view = { λ p. record { object = p.object.now; bases = p.bases.items } };
 }
 
-/// Places the sections of all objects: returns the objects with the addresses of their sections, or
-/// the first section without room.
+/// Places the sections of all objects in the layout's places (memory regions). Returns the objects
+/// with their sections' addresses, or `NoRoom` for the first section that doesn't fit.
 pub(crate) fn place_objects<'a, 'b>(
     alloc: Global,
     places: &[Place],
@@ -70,8 +70,8 @@ pub(crate) fn section_base(places: &[Place], sizes: &[u64], section: &SectionRef
     }
 }
 
-/// Places the sections of an object and returns their addresses, or the first section without room.
-/// `sizes`, the numbers of used bytes of the places, grow.
+/// Places an object's sections after the `sizes` used bytes of each memory region (place), and adds
+/// their sizes. Returns their addresses, or `NoRoom` for the first section that doesn't fit.
 pub(crate) fn place_sections(
     alloc: Global,
     places: &[Place],

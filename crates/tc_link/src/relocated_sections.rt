@@ -19,8 +19,8 @@ use std::collections::HashMap;
 use tc_object::Reloc;
 use tc_reloc::{RelocErr, apply};
 
-/// Returns the sections of all objects, with their relocations written, or the first relocation
-/// that is refused. `names` is the map of global symbols.
+/// Returns the sections of all objects, `placed`, with their relocations applied, or the first
+/// relocation that is refused. `names` is the map of global symbols.
 #[tactic(auto, unfolding(crate::specs::Relocated::all_relocated_sections, crate::specs::Refusals::first_reloc_refusal))]
 pub(crate) fn all_relocated_sections<'a>(
     alloc: Global,
@@ -51,7 +51,8 @@ pub(crate) fn reloc_value(addresses: &[u32], reloc: &Reloc) -> u32
     symbol_address_at(addresses, reloc.symbol).wrapping_add(reloc.addend)
 }
 
-// The relocated sections of the object `each`, number `number`, or its first refused relocation.
+// Returns the sections of the object `each` with its relocations applied, or its first refused
+// relocation. `number` is the object's, `placed` all objects, `names` their global symbols.
 fn relocate_object<'a>(
     alloc: Global,
     names: &HashMap<&str, Definition>,
@@ -73,7 +74,8 @@ fn relocate_object<'a>(
     Ok(sections)
 }
 
-// Writes all relocations of object `number` into its sections, or returns the first refused.
+// Applies all relocations of the object `placed`, of number `number`, to its sections, or returns
+// the first refused. `addresses` are those of the object's symbols.
 #[inline(never)]
 fn apply_relocs(
     addresses: &[u32],
@@ -100,7 +102,8 @@ fn apply_relocs(
     Ok(())
 }
 
-// Writes a relocation into its section, one of these. `addresses` are those of the symbols.
+// Applies a relocation of the object `placed` to its section, one of `sections`, or returns why the
+// value doesn't fit the field. `addresses` are those of the object's symbols.
 fn apply_reloc(
     addresses: &[u32],
     placed: &Placed<'_, '_>,
@@ -124,7 +127,8 @@ fn apply_reloc(
     apply_reloc_to_section(&mut sections[reloc.section as usize], reloc, place, value)
 }
 
-// Fills the field of a relocation, at address `place`, in its section, with the value.
+// Applies a relocation to its section: writes `value`, the symbol's address plus the addend, into
+// the field at address `place`. The error says why the value doesn't fit.
 fn apply_reloc_to_section(
     section: &mut WrittenSection<'_>,
     reloc: &Reloc,
@@ -146,7 +150,7 @@ fn apply_reloc_to_section(
     Ok(())
 }
 
-/// Returns the four bytes at an offset of a section into which the linker writes a relocation.
+/// Returns the four bytes of a relocation's field, at offset `at` of the section's bytes.
 fn reloc_field_at(bytes: &[u8], at: usize) -> [u8; 4]
     requires { at + 4 ≤ length bytes.now }
     ensures { result ≡ reloc_field_at bytes.now at }
@@ -154,7 +158,7 @@ fn reloc_field_at(bytes: &[u8], at: usize) -> [u8; 4]
     [bytes[at], bytes[at + 1], bytes[at + 2], bytes[at + 3]]
 }
 
-/// Writes the four bytes of a relocation's field at an offset of the section that is relocated.
+/// Writes the four bytes of a relocation's field at offset `at` of the section's bytes.
 fn write_reloc_field(bytes: &mut [u8], at: usize, field: [u8; 4])
     requires { at + 4 ≤ length bytes.old }
     ensures { bytes.new ≡ section_bytes_with_field bytes.old at field }

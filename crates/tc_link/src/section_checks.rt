@@ -13,7 +13,8 @@ use crate::{LinkErr, Place};
 use std::alloc::Global;
 use tc_object::{ObjectRef, SectionRef, UNDEFINED_SYMBOL};
 
-/// Checks that each section with bytes, or with a symbol, has a place.
+/// Checks that each section with bytes, or with a symbol, has a place in the layout. The error is
+/// `NoPlace` for the first section that has none.
 pub(crate) fn check_section_places(
     alloc: Global,
     places: &[Place],
@@ -31,7 +32,7 @@ pub(crate) fn check_section_places(
     Ok(())
 }
 
-// For each section of an object, true if a symbol is defined there.
+// Returns a flag for each section of an object: true if a symbol is defined there.
 fn section_has_symbol_flags(alloc: Global, object: &ObjectRef<'_>) -> Result<Vec<bool>, LinkErr>
     ensures held { IfOk result (λ held. AreFlagsOf held.items (length object.now.sections)
         (has_symbol_in_section object.now.symbols)) }
@@ -47,7 +48,8 @@ fn section_has_symbol_flags(alloc: Global, object: &ObjectRef<'_>) -> Result<Vec
     Ok(held)
 }
 
-// The name of the first section that needs a place and has none. `held` marks those with symbols.
+// Returns the name of the first section with bytes or a symbol, but without a memory region
+// (place); or None. `held` says for each section whether a symbol is defined there.
 fn first_unplaced_section<'a>(
     places: &[Place],
     held: &[bool],
@@ -67,7 +69,8 @@ fn first_unplaced_section<'a>(
     None
 }
 
-// Whether a section needs a place and has none. `held` says whether a symbol is defined in it.
+// Returns true if a section needs a place, having bytes or a symbol, and has none. `held` says
+// whether a symbol is defined there.
 fn is_unplaced(places: &[Place], held: bool, section: &SectionRef<'_>) -> bool
     ensures { result
         ≡ ((nat_lt 0 (length section.now.bytes) || held)

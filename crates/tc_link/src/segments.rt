@@ -11,7 +11,8 @@ use std::alloc::Global;
 
 static ZEROS: [u8; 4] = [0, 0, 0, 0];
 
-/// The segments of an image: one for each place with bytes.
+/// Returns the segments of the linked image: one for each of the layout's places that has bytes of
+/// these relocated sections.
 #[tactic(auto, unfolding(crate::specs::Segments::segments_of))]
 pub(crate) fn segments_of(
     alloc: Global,
@@ -34,7 +35,8 @@ pub(crate) fn segments_of(
     Ok(segments)
 }
 
-// The bytes of the sections of one name, each at a multiple of 4, with zeros in the gaps.
+// Joins the sections of this name to the bytes of one segment, each section at a multiple of 4,
+// with zeros in the gaps.
 #[tactic(auto, unfolding(crate::specs::Segments::joined_sections))]
 fn join_sections(
     alloc: Global,
@@ -51,7 +53,7 @@ fn join_sections(
     Ok(bytes)
 }
 
-/// Appends a section to the bytes of a segment, at the next multiple of 4, if the section has
+/// Appends a section to the bytes of a segment, at the next multiple of 4, if the section's name is
 /// `name`. Otherwise nothing changes.
 fn append_section_of_name(bytes: &mut Vec<u8>, name: &str, section: &WrittenSection<'_>) -> Result<(), LinkErr>
     ensures ok { OnOk result (bytes.new.items ≡ with_section_of_name name.now bytes.old.items section.now) }

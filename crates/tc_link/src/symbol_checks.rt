@@ -15,7 +15,8 @@ use std::alloc::Global;
 use std::collections::HashMap;
 use tc_object::{GLOBAL_SYMBOL, ObjectRef, SymbolRef, UNDEFINED_SYMBOL};
 
-/// Checks that no two objects define the same global symbol.
+/// Checks that no two objects define the same global symbol. `names` is the map of all global
+/// symbols. The error is `Twice` for the first that two define.
 pub(crate) fn check_duplicate_symbols(
     alloc: Global,
     names: &HashMap<&str, Definition>,
@@ -36,8 +37,8 @@ pub(crate) fn check_duplicate_symbols(
     Ok(())
 }
 
-/// Sets the mark of this number, if there is one: that of a used symbol in the checks for symbols,
-/// or of a section that has a symbol in those for sections.
+/// Sets flag `number` of `marks`, that a symbol is used or that a section has a symbol. Nothing
+/// changes if there is no such flag.
 pub(crate) fn set_flag(marks: &mut Vec<bool>, number: usize)
     ensures { marks.new.items ≡ slice_set marks.old.items number true }
 {
@@ -46,7 +47,8 @@ pub(crate) fn set_flag(marks: &mut Vec<bool>, number: usize)
     }
 }
 
-/// Checks that each symbol that a relocation uses is defined.
+/// Checks that each symbol that a relocation uses is defined. `names` is the map of all global
+/// symbols. The error is `Missing` for the first symbol that isn't.
 pub(crate) fn check_missing_symbols(
     alloc: Global,
     names: &HashMap<&str, Definition>,
@@ -65,7 +67,8 @@ pub(crate) fn check_missing_symbols(
     Ok(())
 }
 
-// The name of the first of these symbols that several objects define.
+// Returns the name of the first of these symbols that several objects define, or None. `names` is
+// the map of all global symbols.
 fn first_duplicate_symbol<'a>(
     names: &HashMap<&str, Definition>,
     symbols: &[SymbolRef<'a>],
@@ -82,7 +85,8 @@ fn first_duplicate_symbol<'a>(
     None
 }
 
-// Whether a symbol is global and several objects define its name.
+// Returns true if a symbol is global and several objects define its name. `names` is the map of all
+// global symbols.
 fn is_duplicate_symbol(names: &HashMap<&str, Definition>, symbol: &SymbolRef<'_>) -> bool
     ensures { (objects : List ObjectData) → HasCountedAllDefinitions names.now objects → result
         ≡ (is_global symbol.now && nat_lt 1 (count_globals_named objects symbol.now.name)) }
@@ -90,7 +94,7 @@ fn is_duplicate_symbol(names: &HashMap<&str, Definition>, symbol: &SymbolRef<'_>
     symbol.kind == GLOBAL_SYMBOL && has_multiple_definitions(names, symbol.name)
 }
 
-// For each symbol of an object, true if a relocation uses the symbol.
+// Returns a flag for each symbol of an object: true if a relocation uses the symbol.
 fn symbol_is_used_flags(alloc: Global, object: &ObjectRef<'_>) -> Result<Vec<bool>, LinkErr>
     ensures used { IfOk result (λ used. AreFlagsOf used.items (length object.now.symbols)
         (is_used_by_relocs object.now.relocs)) }
@@ -104,7 +108,8 @@ fn symbol_is_used_flags(alloc: Global, object: &ObjectRef<'_>) -> Result<Vec<boo
     Ok(used)
 }
 
-// The first symbol that is undefined, used (as `used` says of each), and global nowhere.
+// Returns the name of the first undefined symbol that a relocation uses and no object defines as a
+// global symbol, or None. `used` has a flag for each symbol.
 fn first_missing_symbol<'a>(
     names: &HashMap<&str, Definition>,
     used: &[bool],
@@ -125,8 +130,8 @@ fn first_missing_symbol<'a>(
     None
 }
 
-// Whether a symbol is undefined in its object, global in none, and used. `used` says whether a
-// relocation uses the symbol.
+// Returns true if a symbol is undefined and used, and no object defines a global symbol of its
+// name. `used` says whether a relocation uses the symbol.
 fn is_missing_symbol(names: &HashMap<&str, Definition>, used: bool, symbol: &SymbolRef<'_>) -> bool
     ensures { (objects : List ObjectData) → HasCountedAllDefinitions names.now objects → result
         ≡ (symbol.now.kind == undefined_symbol && used

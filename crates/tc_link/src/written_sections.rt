@@ -22,7 +22,8 @@ impl<'a> Model for WrittenSection<'a> {
     ghost view = { λ s. record { name = s.name.now; bytes = s.bytes.items } };
 }
 
-// Appends the relocated sections of a further object to those of the earlier ones.
+// Appends the relocated sections of a further object, `more`, to those of the earlier objects,
+// `contents`.
 pub(crate) fn append_relocated_sections<'a>(
     contents: &mut Vec<WrittenSection<'a>>,
     more: Vec<WrittenSection<'a>>,
@@ -36,7 +37,7 @@ pub(crate) fn append_relocated_sections<'a>(
     Ok(())
 }
 
-// Copies the sections of an object, so that the linker can write relocations into their bytes.
+// Returns copies of an object's sections, to whose bytes the linker then applies relocations.
 pub(crate) fn copies_of_sections<'a>(
     alloc: Global,
     sections: &[SectionRef<'a>],

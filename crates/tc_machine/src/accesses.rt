@@ -11,8 +11,8 @@ use crate::operand_addresses::wrapping_sum;
 use tc_mem::Mem;
 use tcd_base::sext;
 
-/// Returns what a load of `size` bytes gives: mapped bytes from memory, others from the event's
-/// `input`, extended by the sign or by zeros.
+/// Returns the word that a load of `size` bytes gives, sign-extended if `signed`, else
+/// zero-extended. Each byte that isn't mapped is the byte of `input` at the same offset.
 pub(crate) fn extended_loaded_word(mem: &Mem, input: u32, addr: u32, size: u8, signed: bool) -> u32
     requires { IsOneTwoOrFour size }
     ensures { result ≡ load_result signed size (loaded_number mem.now input addr size) }
@@ -117,8 +117,8 @@ fn load_half_by_bytes(mem: &Mem, input: u32, addr: u32) -> u16
     u16::from(low) + 256 * u16::from(high)
 }
 
-/// Stores a word, or its low half, in one step if its bytes are in one block of the memory. Returns
-/// false if nothing was stored.
+/// Stores the low `n` bytes of a word at once, if `n` is 4 or 2 and all are mapped and in one block
+/// of 64 bytes. Returns false if nothing was stored.
 fn store_in_block(mem: &mut Mem, addr: u32, word: u32, n: u8) -> bool
     ensures { MatchBool result (mem.new ≡ with_bytes mem.old addr word n) (mem.new ≡ mem.old) }
 {

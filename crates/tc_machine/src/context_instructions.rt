@@ -53,7 +53,8 @@ impl Machine {
         }
     }
 
-    /// Executes `ret`: restores the upper context, and jumps to the return address in A11.
+    /// Executes `ret`: restores the upper context, and jumps to the return address in A11. Its
+    /// length `n` isn't used.
     #[tactic(auto, unfolding(crate::specs::Instructions::after_instruction))]
     fn return_from_call(&mut self, n: u32)
         ensures { (event : Event) → self.new ≡ after_instruction self.old event Shape.Ret n }

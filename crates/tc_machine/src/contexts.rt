@@ -11,8 +11,8 @@ use csa_chain::{
 };
 use tc_mem::Mem;
 
-/// Returns the link in bits 19:0 of FCX, PCXI or another word, for the machine's saves and restores
-/// of contexts.
+/// Returns the link of a context save area in bits 19:0 of a word, such as FCX, PCXI or word 0 of
+/// an area.
 pub(crate) fn link_in(word: u32) -> u32
     ensures { result ≡ link_in word }
 {
@@ -133,8 +133,8 @@ impl Machine {
         }
     }
 
-    /// Saves a context to the first free area, named by the link `free`. The link in `next`, the
-    /// area's old word 0, becomes the first free one.
+    /// Saves the upper context if `upper`, else the lower, to the first free area, which the link
+    /// `free` names. The area's old word 0, `next`, has the link of the next free one.
     fn save_to_area(&mut self, free: u32, next: u32, upper: bool)
         requires free { free ≡ link_in self.old.fcx }
         requires mapped { is_area_mapped self.old.mem free ≡ true }
@@ -147,7 +147,8 @@ impl Machine {
         self.fcx = self.fcx / 0x10_0000 * 0x10_0000 + link_in(next);
     }
 
-    /// Restores the upper registers from the words of the area that PCXI names, and frees the area.
+    /// Restores the registers of the upper context from `words`, the content of the area that PCXI
+    /// names, whose link is `used`. Then frees that area.
     fn restore_upper_registers(&mut self, used: u32, words: &[u32; 16])
         requires used { used ≡ link_in self.old.pcxi }
         requires words { words.now ≡ last_context self.old }
@@ -158,7 +159,8 @@ impl Machine {
         self.release_area(used, before);
     }
 
-    /// Restores the lower registers from the words of the area that PCXI names, and frees the area.
+    /// Restores the registers of the lower context from `words`, the content of the area that PCXI
+    /// names, whose link is `used`. Then frees that area.
     fn restore_lower_registers(&mut self, used: u32, words: &[u32; 16])
         requires used { used ≡ link_in self.old.pcxi }
         requires words { words.now ≡ last_context self.old }

@@ -14,7 +14,8 @@ fn icr(ccpn: u8, ie: bool, input: u32) -> u32
 }
 
 impl Machine {
-    /// Returns the word of the core register with this number. Others read the event's input.
+    /// Returns the word that `mfcr` reads from the core register with this number. For an unlisted
+    /// number the word is the event's input.
     pub(crate) fn core_register(&self, event: &Event, number: u16) -> u32
         ensures { result ≡ core_register self.now event.now number }
     {

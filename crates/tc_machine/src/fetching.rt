@@ -11,8 +11,8 @@ use tc_encode::{DecodeErr, decode};
 use tc_isa::{Inst, Shape, shape};
 use tc_mem::Mem;
 
-/// Decodes the instruction that at most four mapped bytes from an address on begin with. Returns
-/// its length in bytes too.
+/// Decodes the instruction at an address from at most four mapped bytes. Returns the instruction
+/// and its length in bytes, or why the bytes begin with none.
 fn decode_at_address(mem: &Mem, addr: u32) -> Result<(Inst, usize), DecodeErr>
     ensures decoded { result ≡ decoded_of (mapped_bytes 4 mem.now addr) }
     ensures small { IfOk result (λ found. found.1 ≤ 4) }
@@ -34,7 +34,8 @@ fn fetch_failure_cause(e: DecodeErr) -> Cause
     }
 }
 
-/// Returns the instruction that the fetched bytes begin with, and its length in bytes.
+/// Returns the instruction that the fetched bytes begin with, and its length in bytes; or why they
+/// begin with none.
 fn decode_fetched_bytes(bytes: &[u8]) -> Result<(Inst, usize), DecodeErr>
     ensures decoded { result ≡ decoded_of bytes.now }
     ensures small { IfOk result (λ found. found.1 ≤ 4) }
@@ -49,8 +50,8 @@ fn fetched_word_bytes(word: u32) -> [u8; 4]
     word.to_le_bytes()
 }
 
-/// Decodes the instruction that at most four mapped bytes from an address on begin with, read byte
-/// by byte. Returns its length in bytes too.
+/// Decodes the instruction at an address as `decode_at_address` does, from at most four mapped
+/// bytes that are read one by one.
 #[tactic(auto, unfolding(crate::specs::Fetching::mapped_bytes))]
 fn decode_at_address_by_bytes(mem: &Mem, addr: u32) -> Result<(Inst, usize), DecodeErr>
     ensures decoded { result ≡ decoded_of (mapped_bytes 4 mem.now addr) }
@@ -74,8 +75,8 @@ fn decode_at_address_by_bytes(mem: &Mem, addr: u32) -> Result<(Inst, usize), Dec
 }
 
 impl Machine {
-    /// Returns what the bytes at pc do and the length of the instruction in bytes, or why the
-    /// machine dies if none is decoded. An odd pc counts too.
+    /// Decodes the bytes at pc, odd or even. Returns what the instruction does and its length in
+    /// bytes, or why the machine dies if none is decoded.
     pub fn shape_at_pc(&self) -> Result<(Shape, u32), Cause>
         ensures shape { result ≡ shape_at_pc self.now }
         ensures bounded { IfOk result (λ found. IsShapeInBounds found.0) }
@@ -86,7 +87,8 @@ impl Machine {
         }
     }
 
-    /// Returns `found`, which is what the bytes at pc do, or the cause `NoCode` if pc is odd.
+    /// Returns the result `found` of decoding the instruction at pc, or the cause of death `NoCode`
+    /// if pc is odd, which decoding ignores.
     #[tactic(auto, unfolding(crate::specs::Fetching::fetched_instruction))]
     pub(crate) fn fetch(&self, found: Result<(Shape, u32), Cause>) -> Result<(Shape, u32), Cause>
         requires found { found ≡ shape_at_pc self.now }

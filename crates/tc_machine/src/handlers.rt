@@ -4,8 +4,8 @@ ghost use Rattle.tc_machine.specs.Handlers.{handler_psw, handler_stack_pointer, 
 
 use crate::{End, Machine};
 
-/// Returns PSW in a handler by PSW before: IO is 2, IS is 1, PRS and GW are 0, and the other bits
-/// stay.
+/// Returns PSW in a handler, from PSW before: IO is 2, IS is 1, PRS and GW are 0, and the other
+/// bits stay.
 fn handler_psw(psw: u32) -> u32
     ensures { result ≡ handler_psw psw }
 {
@@ -32,8 +32,8 @@ impl Machine {
         }
     }
 
-    /// Takes a trap of a class, with its identification number `tin` in D15 and the return address
-    /// `back` in A11 (manual, volume 1, traps).
+    /// Takes the trap of a class (manual, volume 1, traps): saves the upper context and enters the
+    /// class's handler. D15 becomes its identification number `tin`, A11 the return address `back`.
     pub(crate) fn take_trap(&mut self, class: u8, tin: u8, back: u32)
         ensures { self.new ≡ after_trap self.old class tin back }
     {
@@ -50,8 +50,8 @@ impl Machine {
         }
     }
 
-    /// Returns the stack pointer that a handler begins with: the interrupt stack's, or A10 if that
-    /// stack is in use already.
+    /// Returns the stack pointer that a handler begins with: the interrupt stack's pointer ISP, or
+    /// A10 if the interrupt stack is in use already.
     fn handler_stack_pointer(&self) -> u32
         ensures { result ≡ handler_stack_pointer self.now }
     {

@@ -69,7 +69,8 @@ impl Machine {
         }
     }
 
-    /// Executes a load or a store of `n` bytes of code.
+    /// Executes a load or a store, an instruction of `n` bytes. Other shapes are executed elsewhere
+    /// and change nothing here.
     #[tactic(auto, unfolding(crate::specs::Instructions::after_instruction))]
     fn execute_load_or_store(&mut self, event: &Event, shape: Shape, n: u32)
         requires { IsShapeInBounds shape }
@@ -112,7 +113,7 @@ impl Machine {
     }
 
     /// Executes an instruction of `n` bytes that enables or disables interrupts, or reads or writes
-    /// a core register.
+    /// a core register. Other shapes change nothing here.
     #[tactic(auto, unfolding(crate::specs::Instructions::after_instruction))]
     fn execute_system_op(&mut self, event: &Event, shape: Shape, n: u32)
         requires { IsShapeInBounds shape }
@@ -167,8 +168,9 @@ impl Machine {
         self.advance_pc(n);
     }
 
-    /// Executes a load instruction of `n` bytes: writes the register, and the base with
-    /// post-increment, or takes the trap of a misaligned access.
+    /// Executes a load whose instruction has `n` bytes: writes the register `dst`, sign-extended if
+    /// `signed`, and updates the base register with post-increment. If the access traps, the trap
+    /// is taken instead.
     #[tactic(auto, unfolding(crate::specs::Instructions::after_instruction))]
     fn execute_load(&mut self, event: &Event, dst: u8, at: Access, signed: bool, n: u32)
         requires { IsShapeInBounds (Shape.Load dst at.base at.offset at.size signed at.after) }
@@ -186,8 +188,8 @@ impl Machine {
         self.advance_pc(n);
     }
 
-    /// Executes a store instruction of `n` bytes: writes memory, and the base with post-increment,
-    /// or takes the trap of a misaligned access.
+    /// Executes a store whose instruction has `n` bytes: writes the register `src` to memory, and
+    /// updates the base with post-increment. If the access traps, the trap is taken instead.
     #[tactic(auto, unfolding(crate::specs::Instructions::after_instruction))]
     fn execute_store(&mut self, event: &Event, src: u8, at: Access, n: u32)
         requires { IsShapeInBounds (Shape.Store src at.base at.offset at.size at.after) }
@@ -205,8 +207,8 @@ impl Machine {
         self.advance_pc(n);
     }
 
-    /// Executes a branch of `n` bytes: if the comparison holds, pc advances by `by`, else by `n`. A
-    /// `loop` (`lowers`) decrements its register.
+    /// Executes a branch of `n` bytes: if the comparison `test` holds, pc advances by `by`, else by
+    /// `n`. With `lowers`, as in `loop`, the compared register is decremented.
     #[tactic(auto, unfolding(crate::specs::Instructions::after_instruction))]
     fn execute_branch(&mut self, test: Comparison, by: u32, lowers: bool, n: u32)
         requires { IsShapeInBounds (Shape.Branch test.cond test.x test.y by lowers) }

@@ -2,8 +2,9 @@
 
 ghost use Rattle.tc_machine.specs.MachineLaws.{EquationsImplyEventFits, EquationsImplyRunFits, EquationsImplyStartState, SafeImpliesEquations, StoreInstructionStores, AllAreasFreeAtStart, SpelledCodeIsFetched, MachineSaveSucceeds, MachineRestoreSucceeds, MachineStepExecutes, DeathChangesEndOnly, StepKeepsMachine, RunKeepsMachine};
 
-/// The laws of the machine: its areas at the start, what it fetches, saves, restores, steps and
-/// deaths.
+/// Laws of the machine for all programs: when a fetch, a save, a restore or a step succeeds, and
+/// what a death changes. All save areas are free at the start, and runs keep registers within 32
+/// bits.
 pub fn machine_laws()
     ensures start { AllAreasFreeAtStart }
     ensures fetch { SpelledCodeIsFetched }
@@ -15,8 +16,9 @@ pub fn machine_laws()
     ensures runs { RunKeepsMachine }
 {}
 
-/// The guard laws pin the definitions of fitting events and runs, start states, safety and stores:
-/// each concludes from, or gives, plain equations.
+/// Laws that keep the claim of safety from being vacuous: each event, run or start state that meets
+/// plain equations is covered by the claim. Safety in turn implies plain equations, and store
+/// instructions count as stores at their addresses.
 pub fn safety_definition_laws()
     ensures events { EquationsImplyEventFits }
     ensures runs { EquationsImplyRunFits }

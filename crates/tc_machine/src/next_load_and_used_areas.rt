@@ -12,8 +12,8 @@ use crate::{Cause, End, Event, Machine};
 use csa_chain::address_of;
 use tc_isa::Shape;
 
-/// Returns true if an instruction of this shape never changes the memory or PCXI under this event,
-/// so that the number of the machine's used areas stays as it is.
+/// Returns true if an instruction of this shape changes neither the memory nor PCXI under this
+/// event. Then the save areas in use stay the same.
 fn is_area_preserving_shape(event: &Event, shape: Shape) -> bool
     ensures { result ≡ is_area_preserving_shape event.now shape }
 {
@@ -27,8 +27,8 @@ fn is_area_preserving_shape(event: &Event, shape: Shape) -> bool
 }
 
 impl Machine {
-    /// Returns the machine's next load as `next_load` does, for a caller that has decoded the bytes
-    /// at pc already: `found` is what they do.
+    /// Returns the address and the size in bytes that the load at pc, decoded as `found`, would
+    /// read. `None`: the machine is dead, or no load is at pc.
     pub fn next_load_predecoded(&self, found: &Result<(Shape, u32), Cause>) -> Option<(u32, u8)>
         requires found { found.now ≡ shape_at_pc self.now }
         requires bounded { IfOk found.now (λ it. IsShapeInBounds it.0) }
@@ -43,16 +43,16 @@ impl Machine {
         }
     }
 
-    /// Returns the address and the size of the machine's next load, by the bytes at pc, or `None`
-    /// if the machine is dead, the bytes don't decode, or they are no load.
+    /// Returns the address and the size in bytes that the load at pc would read. `None`: the
+    /// machine is dead, or no load is at pc.
     pub fn next_load(&self) -> Option<(u32, u8)>
         ensures { result ≡ next_load_of self.now }
     {
         self.next_load_predecoded(&self.shape_at_pc())
     }
 
-    /// Returns true if the event takes no interrupt and `found`, what the bytes at pc do, never
-    /// changes the memory or PCXI. Then the areas in use stay.
+    /// Returns true if the event takes no interrupt, and the instruction at pc, decoded as `found`,
+    /// changes neither memory nor PCXI. Then the save areas in use stay the same.
     pub fn preserves_areas(&self, event: &Event, found: &Result<(Shape, u32), Cause>) -> bool
         requires { found.now ≡ shape_at_pc self.now }
         ensures is { result ≡ is_area_preserving_event self.now event.now found.now }
@@ -86,8 +86,9 @@ impl Machine {
         Some(count)
     }
 
-    /// Returns the address and the size in bytes of the next load if an instruction of this shape
-    /// is at pc, or `None` if it is no load.
+    /// Returns the address and the size in bytes that an instruction of this shape would load, or
+    /// `None` if the instruction is no load. In the contract, 0 stands in for the instruction's
+    /// length.
     fn load_by_shape(&self, shape: Shape) -> Option<(u32, u8)>
         requires { IsShapeInBounds shape }
         ensures { result ≡ load_of_fetched self.now (Ok (shape, 0)) }
@@ -104,8 +105,8 @@ impl Machine {
         }
     }
 
-    /// Returns word 0 of the area whose link is in `word`, or `None` if the area isn't wholly
-    /// mapped. `near` is a hint that speeds up the memory.
+    /// Returns word 0 of the area whose link is in `word`, which has the chain's next link, or
+    /// `None` if the area isn't wholly mapped. `near` is a hint that speeds up the look-up.
     #[tactic(auto, using(crate::proofs::WholeAccesses::first_of_area))]
     fn next_link_word(&self, word: u32, near: &mut usize) -> Option<u32>
         ensures { result ≡

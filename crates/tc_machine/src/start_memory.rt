@@ -13,15 +13,16 @@ use std::alloc::Global;
 use tc_mem::Mem;
 use tcd_base::{NoMemory, Range};
 
-/// Returns the link of the context save area at an address, for the free list of a start state.
+/// Returns the link of the context save area at the address `at`: its segment in bits 19:16, its
+/// number in the segment in bits 15:0.
 pub(crate) fn link_of_area_at(at: u32) -> u32
     ensures { result ≡ link_at at }
 {
     at / 0x1000_0000 * 0x1_0000 + at % 0x1000_0000 / 64
 }
 
-/// Returns a start state's memory: zeros, the image's bytes in rom, and in each of `n` save areas
-/// from `at` on the next one's link.
+/// Returns the memory of a machine's start state: the image's bytes in rom, and `n` save areas from
+/// `at` on, linked as the free list. All other mapped bytes are 0.
 pub(crate) fn start_memory(
     alloc: Global,
     image: &Image,
@@ -71,8 +72,8 @@ fn copy_image(mem: &mut Mem, image: &Image, ranges: &[Range])
     }
 }
 
-/// Links `n` save areas from the address `at` on, for the free list of a start state. `first` is
-/// the link of the first.
+/// Links `n` save areas from the address `at` on to the free list of a start state. Word 0 of each
+/// gets the next one's link, that of the last one 0. `first` is the link of the first.
 #[tactic(auto, unfolding(crate::specs::Starting::with_area_links, csa_chain::specs::MemoryBytes::with_words))]
 fn link_start_areas(mem: &mut Mem, at: u32, first: u32, n: u32)
     requires areas { at + 64 * n ≤ 2 ^ 32 }
@@ -93,8 +94,8 @@ fn copy_image_to_range(mem: &mut Mem, image: &Image, range: &Range)
     copy_segments(mem, &image.segments, range);
 }
 
-/// Copies into the memory of a start state the bytes of the image's segments that are in a range,
-/// those of the first segment last.
+/// Copies into the memory of a start state the bytes of the image's segments that are in a range.
+/// If segments overlap, the first one's bytes count.
 fn copy_segments(mem: &mut Mem, segments: &[Segment], range: &Range)
     requires segments { IsTrue (list_all is_segment (map segment_data segments.now)) }
     requires range { range.now.at + range.now.len ≤ 2 ^ 32 }

@@ -9,7 +9,7 @@ use std::alloc::Global;
 use tcd_base::NoMemory;
 use tcd_plan::Plan;
 
-/// Returns PSW at the start: IO is 2, IS is `is`, the plan's, and the other bits are 0.
+/// Returns PSW of a start state: IO is 2, IS is `is`, as the plan says, and the other bits are 0.
 fn psw_at_start(is: bool) -> u32
     ensures { result ≡ psw_at_start is }
 {

@@ -45,8 +45,9 @@ impl Machine {
         }
     }
 
-    /// Performs an event of a machine that runs. Its interrupt is taken if interrupts are enabled
-    /// and its priority is above the current one; otherwise the instruction at pc is executed.
+    /// Performs an event of a machine that runs: takes its interrupt if enabled and above the
+    /// current priority, else executes the instruction at pc. `found` is what the bytes at pc do,
+    /// decoded already.
     fn perform_event(&mut self, event: &Event, found: Result<(Shape, u32), Cause>)
         requires found { found ≡ shape_at_pc self.old }
         requires bounded { IfOk found (λ it. IsShapeInBounds it.0) }

@@ -84,7 +84,8 @@ page_bytes_with bytes offset new = take offset bytes ++ (new ++ drop (offset + l
 abbrev pub page_bytes_with_half : List ℕ → ℕ → ℕ → List ℕ
 page_bytes_with_half bytes offset half = slice_set (slice_set bytes offset (half % 2 ^ 8)) (offset + 1) (half / 2 ^ 8 % 2 ^ 8)
 
--- the 32-bit words from an offset on, written into the bytes of a page, the last word first
+-- the bytes of a page, with these 32-bit words written from an offset on, the lowest byte of each
+-- first
 unfoldable pub page_bytes_with_words : List ℕ → ℕ → List ℕ → List ℕ
 page_bytes_with_words bytes offset [] = bytes
 page_bytes_with_words bytes offset (w ∷ ws) =

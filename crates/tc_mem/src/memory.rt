@@ -44,7 +44,7 @@ impl Model for Mem {
 }
 
 impl Mem {
-    /// Returns the memory in which the bytes of the ranges are mapped, all zero.
+    /// Returns a memory in which the bytes of the ranges, and no others, are mapped, all zero.
     pub fn of(alloc: Global, ranges: &[Range]) -> Result<Mem, NoMemory>
         requires { All (λ r. r.at + r.len ≤ 2 ^ 32) ranges.now }
         ensures zeros { IfOk result (λ m. IsMemoryOfZeros ranges.now m) }
@@ -83,8 +83,8 @@ impl Mem {
         write_memory_bytes(&mut self.pages, addr, bytes);
     }
 
-    /// Returns the 16 words of the 64 bytes from an address on, each with its lowest byte first. If
-    /// one of the bytes isn't mapped, the answer is `None`.
+    /// Returns the 16 words of the context save area at an address, each with its lowest byte
+    /// first. If one of the 64 bytes isn't mapped, the answer is `None`.
     pub fn area(&self, addr: u32) -> Option<[u32; 16]>
         requires { addr % 64 ≡ 0 }
         ensures words { result ≡ mapped_area_words self.now addr }
@@ -93,8 +93,8 @@ impl Mem {
         read_area(&self.pages, addr, self.near)
     }
 
-    /// Writes 16 words to the 64 bytes from an address on, each with its lowest byte first. If one
-    /// of the bytes isn't mapped, the answer is false, and nothing changes.
+    /// Writes 16 words to the context save area at an address, each with its lowest byte first. If
+    /// one of the 64 bytes isn't mapped, the answer is false, and nothing changes.
     pub fn set_area(&mut self, addr: u32, words: &[u32; 16]) -> bool
         requires { addr % 64 ≡ 0 }
         ensures mapped { result ≡ are_mapped self.old addr 64 }
@@ -143,8 +143,8 @@ impl Mem {
         write_memory_half(&mut self.pages, addr, half, self.near)
     }
 
-    /// Returns the first word of the 64 bytes from an address on, or `None` if one of the 64 isn't
-    /// mapped. `near` is a hint, kept between calls: the page's index; any number is allowed.
+    /// Returns the first word of the save area at an address, or `None` if one of the 64 bytes
+    /// isn't mapped. `near` is a hint, kept between calls: the page's index; any number is allowed.
     pub fn area_first_word(&self, addr: u32, near: &mut usize) -> Option<u32>
         requires { addr % 64 ≡ 0 }
         ensures word { result ≡ area_first_word self.now addr }

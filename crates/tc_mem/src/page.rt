@@ -29,7 +29,7 @@ pub(crate) fn page_byte_at(page: &Page, addr: u32) -> Option<u8>
     }
 }
 
-// Writes the byte at an offset of a page. An unmapped byte gives false, and nothing changes.
+// Writes the byte at an offset of a page. If unmapped, the answer is false, and nothing changes.
 pub(crate) fn write_page_byte(page: &mut Page, offset: usize, byte: u8) -> bool
     requires { offset < 4096 }
     ensures mapped { result ≡ is_page_bit_set page.old.mapped offset }
@@ -82,8 +82,8 @@ pub(crate) fn write_page_word(bytes: &mut [u8; 4096], offset: usize, word: u32)
     bytes[offset + 3] = parts[3];
 }
 
-// Returns the 16 words of the 64 bytes from an offset of a page on, or `None` unless all 64 are
-// mapped.
+// Returns the 16 words of the context save area (64 bytes) at an offset of a page, or `None` unless
+// all its bytes are mapped.
 pub(crate) fn area_in_page(page: &Page, offset: usize) -> Option<[u32; 16]>
     requires aligned { offset % 64 ≡ 0 }
     requires within { offset < 4096 }
@@ -100,8 +100,8 @@ pub(crate) fn area_in_page(page: &Page, offset: usize) -> Option<[u32; 16]>
     Some(page_words(&page.bytes, offset))
 }
 
-// Writes 16 words to the 64 bytes from an offset of a page on if all are mapped, and returns
-// whether they are.
+// Writes 16 words to the context save area (64 bytes) at an offset of a page. If one of the bytes
+// isn't mapped, the answer is false, and nothing changes.
 pub(crate) fn write_area_in_page(page: &mut Page, offset: usize, words: &[u32; 16]) -> bool
     requires aligned { offset % 64 ≡ 0 }
     requires within { offset < 4096 }
@@ -120,8 +120,8 @@ pub(crate) fn write_area_in_page(page: &mut Page, offset: usize, words: &[u32; 1
     mapped
 }
 
-// Returns the first word of the 64 bytes from an offset of a page on, or `None` unless all 64 are
-// mapped.
+// Returns the first word of the context save area (64 bytes) at an offset of a page, or `None`
+// unless all its bytes are mapped.
 pub(crate) fn area_first_word_in_page(page: &Page, offset: usize) -> Option<u32>
     requires aligned { offset % 64 ≡ 0 }
     requires within { offset < 4096 }
@@ -201,7 +201,8 @@ pub(crate) fn write_mapped_page_half(page: &mut Page, offset: usize, half: u16) 
     mapped
 }
 
-// Maps the bytes that a range has in the page with this number: sets their bits in `mapped`.
+// Maps the bytes that a range of addresses has in the page with this number (its first address /
+// 4,096): sets their bits in `mapped`.
 pub(crate) fn set_page_bits_of_range(mapped: &mut [u64; 64], number: u32, range: &Range)
     ensures { (k : ℕ) → k < 4096
         → is_page_bit_set mapped.new k
@@ -232,7 +233,8 @@ pub(crate) fn unmapped_page_bits() -> [u64; 64]
     [0; 64]
 }
 
-// Returns the page with this number, all zero, in which the bytes of the ranges are mapped.
+// Returns the page with this number (its first address / 4,096), all zero, in which the bytes of
+// the ranges are mapped.
 pub(crate) fn new_page(number: u32, ranges: &[Range]) -> Page
     ensures number { result.number ≡ number }
     ensures page { IsPage result }
@@ -259,7 +261,7 @@ fn is_page_byte_mapped(page: &Page, offset: usize) -> bool
     (page.mapped[offset / 64] >> (offset % 64)) % 2 == 1
 }
 
-// Returns the 16 words of a page from an offset on, each with its lowest byte first.
+// Returns the 16 words of a page from an offset on, mapped or not, each lowest byte first.
 fn page_words(bytes: &[u8; 4096], offset: usize) -> [u32; 16]
     requires { offset + 64 ≤ 4096 }
     ensures size { length result ≡ 16 }
@@ -273,7 +275,7 @@ fn page_words(bytes: &[u8; 4096], offset: usize) -> [u32; 16]
     words
 }
 
-// Writes 16 words to a page from an offset on, each with its lowest byte first, mapped or not.
+// Writes 16 words to a page from an offset on, mapped or not, each lowest byte first.
 fn write_page_words(bytes: &mut [u8; 4096], offset: usize, words: &[u32; 16])
     requires { offset + 64 ≤ 4096 }
     ensures { bytes.new ≡ page_bytes_with_words bytes.old offset words.now }
@@ -352,7 +354,7 @@ fn mapped_page_bits() -> [u64; 64]
     [u64::MAX; 64]
 }
 
-// Maps the 64 bytes of a page from an offset on: sets their bits, which are one word.
+// Maps the 64 bytes of a page from an offset on: sets their bits, which are one `u64` of `mapped`.
 fn set_page_bit_block(mapped: &mut [u64; 64], offset: usize)
     requires aligned { offset % 64 ≡ 0 }
     requires within { offset < 4096 }

@@ -31,8 +31,8 @@ pub(crate) fn read_memory_byte(pages: &[Page], addr: u32, near: usize) -> Option
     page_byte_at(&pages[i], addr)
 }
 
-/// Writes bytes to a whole memory from an address on, as a part of `Mem::set_bytes` that is all in
-/// one page. Those that aren't mapped are dropped.
+/// Writes bytes from an address on, all in one page, for `Mem::set_bytes`. Those that aren't mapped
+/// are dropped.
 pub(crate) fn write_bytes_in_page(pages: &mut [Page], addr: u32, bytes: &[u8])
     requires pages { AreMemoryPages pages.old }
     requires within { addr % 4096 + length bytes.now ≤ 4096 }
@@ -92,8 +92,8 @@ pub(crate) fn write_memory_byte(pages: &mut [Page], addr: u32, byte: u8, near: u
     write_page_byte(&mut pages[i], (addr % 4096) as usize, byte)
 }
 
-/// Writes bytes to a whole memory from an address on, for `Mem::set_bytes`, page by page. Those
-/// that aren't mapped are dropped.
+/// Writes bytes from an address on, page by page, for `Mem::set_bytes`. Those that aren't mapped
+/// are dropped.
 pub(crate) fn write_memory_bytes(pages: &mut [Page], addr: u32, bytes: &[u8])
     requires pages { AreMemoryPages pages.old }
     requires fits { addr + length bytes.now ≤ 2 ^ 32 }
@@ -146,8 +146,8 @@ pub(crate) fn write_memory_half(pages: &mut [Page], addr: u32, half: u16, near: 
     write_mapped_page_half(&mut pages[i], (addr % 4096) as usize, half)
 }
 
-/// Returns the first word of an area of 64 bytes, or `None` if one of them isn't mapped. `near`
-/// guesses the page's index in `pages`, and becomes that index if the page is there.
+/// Returns the first word of a context save area (64 bytes), or `None` if one of the bytes isn't
+/// mapped. `near` guesses the page's index in `pages`, and becomes that index if the page is there.
 pub(crate) fn read_area_first_word(pages: &[Page], addr: u32, near: &mut usize) -> Option<u32>
     requires pages { AreMemoryPages pages.now }
     requires aligned { addr % 64 ≡ 0 }
@@ -161,8 +161,8 @@ pub(crate) fn read_area_first_word(pages: &[Page], addr: u32, near: &mut usize) 
     area_first_word_in_page(&pages[i], (addr % 4096) as usize)
 }
 
-/// Returns the 16 words of an area, or `None` if one of its 64 bytes isn't mapped. `near` guesses
-/// the page's index in `pages`.
+/// Returns the 16 words of a context save area, or `None` if one of the 64 bytes isn't mapped.
+/// `near` guesses the page's index in `pages`.
 pub(crate) fn read_area(pages: &[Page], addr: u32, near: usize) -> Option<[u32; 16]>
     requires pages { AreMemoryPages pages.now }
     requires aligned { addr % 64 ≡ 0 }
@@ -175,8 +175,8 @@ pub(crate) fn read_area(pages: &[Page], addr: u32, near: usize) -> Option<[u32; 
     area_in_page(&pages[i], (addr % 4096) as usize)
 }
 
-/// Writes 16 words to an area, or returns false if one of its 64 bytes isn't mapped. `near` guesses
-/// the page's index in `pages`, and becomes that index if the page is there.
+/// Writes 16 words to a context save area, or returns false if one of the 64 bytes isn't mapped.
+/// `near` guesses the page's index in `pages`, and becomes that index if the page is there.
 pub(crate) fn write_area(pages: &mut [Page], addr: u32, words: &[u32; 16], near: &mut usize) -> bool
     requires pages { AreMemoryPages pages.old }
     requires aligned { addr % 64 ≡ 0 }

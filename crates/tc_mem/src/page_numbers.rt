@@ -8,8 +8,8 @@ use crate::page::Page;
 use std::alloc::Global;
 use tcd_base::{NoMemory, Range};
 
-// Returns the index of the page with this number in a list of pages, or `None`. The index `near` is
-// tried first, then a binary search.
+// Returns the index in `pages` of the page with this number (its first address / 4,096), or `None`
+// if there is none. The index `near` is tried first, then a binary search.
 pub(crate) fn find_page_near(pages: &[Page], number: u32, near: usize) -> Option<usize>
     requires { AscendByNumber pages.now }
     ensures within { IfSome result (λ i. i < length pages.now) }
@@ -22,8 +22,8 @@ pub(crate) fn find_page_near(pages: &[Page], number: u32, near: usize) -> Option
     binary_search_page(pages, number)
 }
 
-/// Returns the index of the page with this number in a list of pages, or `None`. An index that the
-/// number suggests is tried first, or else `near`.
+/// Returns the index in `pages` of the page with this number (its first address / 4,096), or `None`
+/// if there is none. An index guessed from the number, else `near`, is tried before a search.
 pub(crate) fn find_page(pages: &[Page], number: u32, near: usize) -> Option<usize>
     requires { AscendByNumber pages.now }
     ensures within { IfSome result (λ i. i < length pages.now) }
@@ -33,7 +33,7 @@ pub(crate) fn find_page(pages: &[Page], number: u32, near: usize) -> Option<usiz
     find_page_near(pages, number, likely_page_index(pages, number, near))
 }
 
-// Returns the numbers of the pages in which the ranges have bytes, ascending.
+// Returns the ascending numbers (first address / 4,096) of the pages in which ranges have bytes.
 pub(crate) fn page_numbers(alloc: Global, ranges: &[Range]) -> Result<Vec<u32>, NoMemory>
     ensures rising { IfOk result (λ v. IsStrictlyIncreasing v.items) }
     ensures all { IfOk result
@@ -48,7 +48,7 @@ pub(crate) fn page_numbers(alloc: Global, ranges: &[Range]) -> Result<Vec<u32>, 
     Ok(numbers)
 }
 
-// Returns the index of the page with this number in a list of pages, or `None`.
+// Returns the index of the page with this number (first address / 4,096), or `None` if none has.
 fn binary_search_page(pages: &[Page], number: u32) -> Option<usize>
     requires { AscendByNumber pages.now }
     ensures within { IfSome result (λ i. i < length pages.now) }
@@ -90,7 +90,7 @@ fn likely_page_index(pages: &[Page], number: u32, near: usize) -> usize {
     near
 }
 
-// Appends the numbers of the pages in which a range has bytes.
+// Appends the numbers (first address / 4,096) of the pages in which a range has bytes.
 fn add_page_numbers(numbers: &mut Vec<u32>, range: &Range) -> Result<(), NoMemory>
     ensures kept { OnOk result
         ((n : ℕ) → Contains numbers.old.items n → Contains numbers.new.items n) }

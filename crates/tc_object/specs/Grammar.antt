@@ -34,7 +34,7 @@ unfoldable pub section_with_new_name : (List ℕ → Bool) → Place → Result 
 section_with_new_name is_used p =
     new_object_name_at is_used p >>= λ name. u32_at name.1 >>= λ len. field_bytes_at len.0 len.1 >>= λ bytes. Ok (record { name = name.0; bytes = bytes.0 }, bytes.1)
 
--- the next section of an object file, read at this place; its name is none of the earlier ones
+-- the next section of an object file, read at this place; the name of an earlier section is a fault
 unfoldable pub new_section_at : List SectionData → Place → Result (SectionData × Place) FormErr
 new_section_at before p = section_with_new_name (is_section_name before) p
 
@@ -58,11 +58,11 @@ symbol_after_name sections name p =
     symbol_offset_at sections kind.0 section.0 section.1 >>= λ offset.
     Ok (record { name = name; kind = kind.0; section = section.0; offset = offset.0 }, offset.1)
 
--- a symbol read at this place of an object file, with a name that isn't used yet
+-- a symbol read at this place of an object file; a name that is used already is a fault
 unfoldable pub symbol_with_new_name : List SectionData → (List ℕ → Bool) → Place → Result (SymbolData × Place) FormErr
 symbol_with_new_name sections is_used p = new_object_name_at is_used p >>= λ name. symbol_after_name sections name.0 name.1
 
--- the next symbol of an object file, read at this place; its name is none of the earlier ones
+-- the next symbol of an object file, read at this place; the name of an earlier symbol is a fault
 unfoldable pub new_symbol_at : List SectionData → List SymbolData → Place → Result (SymbolData × Place) FormErr
 new_symbol_at sections before p = symbol_with_new_name sections (is_symbol_name before) p
 

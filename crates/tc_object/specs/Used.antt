@@ -4,6 +4,6 @@ use Rattle.std.specs.Borrow.{Bor}
 use Rattle.std.specs.HashMap.{HashMap, get_by}
 use Rattle.std.specs.Str.{bytes_eq}
 
--- the map of used names, those of an object file's earlier symbols, has this name
+-- the map of an object file's symbol names so far has this name
 abbrev pub is_used_name : {X S : Type 0} → HashMap (Bor (List ℕ)) X S → List ℕ → Bool
 is_used_name names q = is_some (get_by (λ k. bytes_eq q k.now) names)

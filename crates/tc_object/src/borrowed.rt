@@ -34,8 +34,8 @@ impl<'a> ObjectRef<'a> {
     ghost use Rattle.tc_object.specs.Grammar.{object_of};
     ghost use Rattle.tc_object.specs.Spelling.{bytes_of_object};
 
-    /// Returns the `ObjectRef` that the bytes spell, which borrows its names and contents from
-    /// them, or their first fault.
+    /// Parses the bytes of an object file. The `ObjectRef` borrows its names and contents from
+    /// them; an error has their first fault.
     pub fn read(alloc: Global, bytes: &'a [u8]) -> Result<ObjectRef<'a>, ObjErr>
         requires { length bytes.now ≤ 2 ^ 30 }
         ensures ok { IfOk result (λ o. object_of bytes.now ≡ Ok o) }

@@ -11,7 +11,8 @@ pub(crate) const MAGIC: u32 = 0x314f_4354;
 /// The most sections of an object.
 pub(crate) const MOST_SECTIONS: u16 = 64;
 
-/// Reads the magic bytes 54 43 4F 31 ("TCO1") with which an object file begins.
+/// Reads the magic bytes 54 43 4F 31 ("TCO1") with which an object file begins, as a word. Other
+/// bytes are the fault `BAD_MAGIC`.
 #[tactic(auto, unfolding(crate::specs::Grammar::magic_at))]
 pub(crate) fn read_magic(c: &mut FileCursor<'_>) -> Result<u32, FormErr>
     ensures { ReadsField result c.old c.new magic_at }
@@ -31,7 +32,8 @@ pub(crate) fn is_kind_between(low: u8, high: u8, kind: u8) -> bool
     low <= kind && kind <= high
 }
 
-/// Reads the kind of a symbol or of a relocation, which must be in `low..=high`.
+/// Reads the kind of a symbol or of a relocation. A kind outside of `low..=high` is the fault
+/// `BAD_VALUE`.
 #[tactic(auto, unfolding(crate::specs::Grammar::kind_at))]
 pub(crate) fn read_kind(c: &mut FileCursor<'_>, low: u8, high: u8) -> Result<u8, FormErr>
     ensures { ReadsField result c.old c.new (kind_at low high) }

@@ -9,7 +9,8 @@ use tcd_base::{
     BAD_VALUE, FileCursor, FormErr, are_name_bytes, form_err_at, is_name_start, read_bytes, read_u8,
 };
 
-/// The bytes as a name, 1 to 64 letters, digits, `_`, `.` and `$`, no digit first; or `None`.
+/// Returns the bytes as the name of a section or symbol: 1 to 64 letters, digits, `_`, `.` and `$`,
+/// no digit first. None for other bytes.
 pub fn object_name_of(bytes: &[u8]) -> Option<&str>
     ensures { option_copied result ≡ object_name_of bytes.now }
 {
@@ -20,7 +21,7 @@ pub fn object_name_of(bytes: &[u8]) -> Option<&str>
     }
 }
 
-/// Reads the length of a name in bytes, from 1 to 64.
+/// Reads the length of a name in bytes. A length outside of 1 to 64 is the fault `BAD_VALUE`.
 #[tactic(auto, unfolding(crate::specs::Grammar::name_length_at))]
 pub(crate) fn read_name_length(c: &mut FileCursor<'_>) -> Result<u8, FormErr>
     ensures { ReadsField result c.old c.new name_length_at }
@@ -34,7 +35,8 @@ pub(crate) fn read_name_length(c: &mut FileCursor<'_>) -> Result<u8, FormErr>
     }
 }
 
-/// Reads the bytes of a name of an object file, which has this length.
+/// Reads the `count` bytes of a name of an object file. Bytes that are no name are the fault
+/// `BAD_VALUE`.
 #[tactic(auto, unfolding(crate::specs::Grammar::name_bytes_at))]
 pub(crate) fn read_name_bytes<'a>(c: &mut FileCursor<'a>, count: u8) -> Result<&'a str, FormErr>
     ensures read { MatchResult result (λ name. name_bytes_at count c.old ≡ Ok (name.now, c.new))
@@ -49,14 +51,15 @@ pub(crate) fn read_name_bytes<'a>(c: &mut FileCursor<'a>, count: u8) -> Result<&
     Ok(object_name_text(bytes))
 }
 
-/// Whether the bytes spell a name of a section or symbol, whatever their number, but not none.
+/// Returns true if the bytes spell the name of a section or symbol. The limit of 64 bytes isn't
+/// checked.
 fn is_object_name(bytes: &[u8]) -> bool
     ensures { result ≡ is_object_name bytes.now }
 {
     !bytes.is_empty() && is_name_start(bytes[0]) && are_name_bytes(bytes)
 }
 
-// The bytes of a name as a text. They are ASCII, so this can't fail.
+// Returns the bytes of a valid name as a string. They are ASCII, so the conversion can't fail.
 fn object_name_text(bytes: &[u8]) -> &str
     requires { is_object_name bytes.now ≡ true }
     ensures { result.now ≡ bytes.now }

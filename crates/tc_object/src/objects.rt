@@ -36,8 +36,8 @@ impl Object {
     ghost use Rattle.tc_object.specs.Grammar.{object_of};
     ghost use Rattle.tc_object.specs.Spelling.{bytes_of_object};
 
-    /// Returns the `Object` that the bytes spell, which owns its names and contents, or their first
-    /// fault.
+    /// Parses the bytes of an object file into an `Object` that owns its names and contents. An
+    /// error has the first fault of the bytes.
     pub fn read(alloc: Global, bytes: &[u8]) -> Result<Object, ObjErr>
         requires { length bytes.now ≤ 2 ^ 30 }
         ensures ok { IfOk result (λ o. object_of bytes.now ≡ Ok o) }
@@ -50,8 +50,8 @@ impl Object {
         Ok(object.into_object(alloc)?)
     }
 
-    /// Returns the bytes that spell this object, which owns its names and contents. From them
-    /// `read` reads the object back.
+    /// Returns the bytes of the object file with these sections, symbols and relocations.
+    /// `Object::read` gives the object back.
     #[tactic(auto, unfolding(crate::specs::Spelling::bytes_of_object, crate::specs::Spelling::bytes_of_header))]
     pub fn write(&self, alloc: Global) -> Result<Vec<u8>, ObjErr>
         ensures bytes { IfOk result (λ out. out.items ≡ bytes_of_object self.now) }

@@ -6,7 +6,8 @@ ghost use Rattle.tc_object.specs.Spelling.{bytes_of_name, bytes_of_section, byte
 use crate::{Reloc, Section, Symbol};
 use tcd_base::{NoMemory, put_u16, put_u32};
 
-/// Writes all sections of an object, in their one spelling, as a part of an object file.
+/// Appends all sections of an object to the object file `out`: of each the name, the length, and
+/// the bytes.
 pub(crate) fn write_sections(out: &mut Vec<u8>, sections: &[Section]) -> Result<(), NoMemory>
     requires names { All (λ s. length s.name ≤ 64) sections.now }
     requires small { All (λ s. length s.bytes < 2 ^ 32) sections.now }
@@ -19,7 +20,8 @@ pub(crate) fn write_sections(out: &mut Vec<u8>, sections: &[Section]) -> Result<
     Ok(())
 }
 
-/// Writes all symbols of an object, in their one spelling, as a part of an object file.
+/// Appends all symbols of an object to the object file `out`: of each the name, kind, section and
+/// offset.
 pub(crate) fn write_symbols(out: &mut Vec<u8>, symbols: &[Symbol]) -> Result<(), NoMemory>
     requires { All (λ s. length s.name ≤ 64) symbols.now }
     ensures { OnOk result (out.new.items ≡ out.old.items ++ flat_map bytes_of_symbol symbols.now) }
@@ -30,7 +32,8 @@ pub(crate) fn write_symbols(out: &mut Vec<u8>, symbols: &[Symbol]) -> Result<(),
     Ok(())
 }
 
-/// Writes all relocations of an object, in their one spelling, as a part of an object file.
+/// Appends all relocations of an object to the object file `out`: of each the section, offset,
+/// kind, symbol and addend.
 pub(crate) fn write_relocs(out: &mut Vec<u8>, relocs: &[Reloc]) -> Result<(), NoMemory>
     ensures { OnOk result (out.new.items ≡ out.old.items ++ flat_map bytes_of_reloc relocs.now) }
 {
@@ -40,7 +43,7 @@ pub(crate) fn write_relocs(out: &mut Vec<u8>, relocs: &[Reloc]) -> Result<(), No
     Ok(())
 }
 
-/// Writes a section as a part of an object file: appends its name, its length, and its bytes.
+/// Appends a section to the object file `out`: its name, its length, and its bytes.
 #[tactic(auto, unfolding(crate::specs::Spelling::bytes_of_section))]
 fn write_section(out: &mut Vec<u8>, section: &Section) -> Result<(), NoMemory>
     requires name { length section.now.name ≤ 64 }
@@ -53,7 +56,7 @@ fn write_section(out: &mut Vec<u8>, section: &Section) -> Result<(), NoMemory>
     Ok(())
 }
 
-/// Writes a name in a part of an object file: appends its length, and its bytes.
+/// Appends a name to the object file `out`: its length in one byte, and its bytes.
 #[tactic(auto, unfolding(crate::specs::Spelling::bytes_of_name))]
 fn write_name(out: &mut Vec<u8>, name: &str) -> Result<(), NoMemory>
     requires { length name.now ≤ 64 }
@@ -64,7 +67,7 @@ fn write_name(out: &mut Vec<u8>, name: &str) -> Result<(), NoMemory>
     Ok(())
 }
 
-/// Writes a symbol as a part of an object file: appends its name, kind, section and offset.
+/// Appends a symbol to the object file `out`: its name, kind, section and offset.
 #[tactic(auto, unfolding(crate::specs::Spelling::bytes_of_symbol))]
 fn write_symbol(out: &mut Vec<u8>, symbol: &Symbol) -> Result<(), NoMemory>
     requires { length symbol.now.name ≤ 64 }
@@ -76,8 +79,7 @@ fn write_symbol(out: &mut Vec<u8>, symbol: &Symbol) -> Result<(), NoMemory>
     put_u32(out, symbol.offset)
 }
 
-/// Writes a relocation as a part of an object file: appends its section, offset, kind, symbol and
-/// addend.
+/// Appends a relocation to the object file `out`: its section, offset, kind, symbol and addend.
 #[tactic(auto, unfolding(crate::specs::Spelling::bytes_of_reloc))]
 fn write_reloc(out: &mut Vec<u8>, reloc: &Reloc) -> Result<(), NoMemory>
     ensures { OnOk result (out.new.items ≡ out.old.items ++ bytes_of_reloc reloc.now) }

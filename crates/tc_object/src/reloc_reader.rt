@@ -21,8 +21,8 @@ const LAST_KIND: u8 = 7;
 // The size of a relocation in the file.
 const RELOC_BYTES: usize = 13;
 
-/// Reads `count` relocations of an object file, in ascending order of section and offset, or
-/// returns the first fault. `symbols` is the number of symbols.
+/// Reads `count` relocations of an object file with these sections, in ascending order of section
+/// and offset, or returns the first fault. `symbols` is the number of symbols.
 #[inline(never)]
 pub(crate) fn read_relocs(
     alloc: Global,
@@ -46,6 +46,7 @@ pub(crate) fn read_relocs(
 }
 
 /// Reads the relocation after those in `before`, from its 13 bytes at once if all are there.
+/// `symbols` is the number of symbols.
 fn read_reloc(
     c: &mut FileCursor<'_>,
     sections: &[SectionRef<'_>],
@@ -63,8 +64,8 @@ fn read_reloc(
     Ok(reloc)
 }
 
-/// Reads a relocation that comes after those in `before`, field by field. If the file ends within
-/// the relocation, the fault is at the first field that is cut off.
+/// Reads the relocation after those in `before`, field by field. If the file ends within the
+/// relocation, the fault is at the first field that is cut off. `symbols` is the number of symbols.
 #[inline(never)]
 #[tactic(auto, unfolding(crate::specs::Grammar::next_reloc_at))]
 fn read_reloc_fields(
@@ -90,7 +91,7 @@ fn read_reloc_fields(
     })
 }
 
-// The relocation in these 13 bytes.
+// Returns the relocation that these 13 bytes of an object file hold, unchecked.
 fn reloc_in_bytes(bytes: &[u8]) -> Reloc
     requires { length bytes.now ≡ 13 }
     ensures { result ≡ record {
@@ -110,7 +111,8 @@ fn reloc_in_bytes(bytes: &[u8]) -> Reloc
     }
 }
 
-// The first fault of a relocation after those in `before`. Its bytes begin at offset `start`.
+// Checks a relocation that comes after those in `before`, or returns its first fault. Its bytes
+// begin at offset `start` of the file. `symbols` is the number of symbols.
 #[tactic(auto, unfolding(crate::specs::Faults::reloc_fault))]
 fn check_reloc(
     sections: &[SectionRef<'_>],
@@ -145,8 +147,8 @@ fn check_reloc(
     Ok(())
 }
 
-/// Reads the section number of a relocation: a section of the object, not below that of the last
-/// relocation in `before`.
+/// Reads the section number of the relocation after those in `before`. A number below the last
+/// one's is the fault `BAD_ORDER`, one of no section `BAD_VALUE`.
 #[tactic(auto, unfolding(crate::specs::Grammar::reloc_section_at))]
 fn read_reloc_section(
     c: &mut FileCursor<'_>,
@@ -166,8 +168,8 @@ fn read_reloc_section(
     Ok(section)
 }
 
-/// Reads the offset of a relocation in its section. A wrong order after `before` is a fault at
-/// `section_at`, the byte offset of the relocation's section field.
+/// Reads the offset of a relocation in its section. If relocations aren't in ascending order, the
+/// fault is at `section_at`, the byte offset of the relocation's first field.
 #[tactic(auto, unfolding(crate::specs::Grammar::reloc_offset_at))]
 fn read_reloc_offset(
     c: &mut FileCursor<'_>,
@@ -192,7 +194,8 @@ fn read_reloc_offset(
     Ok(offset)
 }
 
-/// Reads the symbol of a relocation, a number below `symbols`, the number of symbols.
+/// Reads the number of a relocation's symbol. A number that isn't below `symbols`, the number of
+/// symbols, is the fault `BAD_VALUE`.
 #[tactic(auto, unfolding(crate::specs::Grammar::reloc_symbol_at))]
 fn read_reloc_symbol(c: &mut FileCursor<'_>, symbols: u16) -> Result<u16, FormErr>
     ensures { ReadsField result c.old c.new (reloc_symbol_at symbols) }
@@ -205,7 +208,8 @@ fn read_reloc_symbol(c: &mut FileCursor<'_>, symbols: u16) -> Result<u16, FormEr
     Ok(symbol)
 }
 
-// Whether a section number isn't below that of the last of these relocations, if there is one.
+// Returns true if `section` isn't below the section of the last relocation in `before`, or there is
+// none.
 fn is_reloc_section_ordered(before: &[Reloc], section: u16) -> bool
     ensures { result ≡ is_reloc_section_ordered (last_reloc before.now) section }
 {
@@ -215,7 +219,8 @@ fn is_reloc_section_ordered(before: &[Reloc], section: u16) -> bool
     }
 }
 
-// Whether section and offset come after those of the last of these relocations, if any.
+// Returns true if `section` and `offset` come after those of the last relocation in `before`, or
+// there is none.
 fn is_after_last_reloc(before: &[Reloc], section: u16, offset: u32) -> bool
     ensures { result ≡ is_after_last_reloc (last_reloc before.now) section offset }
 {

@@ -32,7 +32,7 @@ pub(crate) fn read_sections<'a>(
     Ok(sections)
 }
 
-/// Reads the number of sections, at most 64.
+/// Reads the number of sections. More than 64 are the fault `ABOVE_LIMIT`.
 #[tactic(auto, unfolding(crate::specs::Grammar::section_count_at))]
 pub(crate) fn read_section_count(c: &mut FileCursor<'_>) -> Result<u16, FormErr>
     ensures { ReadsField result c.old c.new section_count_at }
@@ -56,7 +56,8 @@ pub(crate) fn section_size_at(sections: &[SectionRef<'_>], number: u16) -> usize
     }
 }
 
-/// Reads the next section of an object file, whose name none of the sections in `before` has.
+/// Reads the next section of an object file. A name that one of the sections in `before` has is a
+/// fault.
 #[tactic(auto, unfolding(crate::specs::Grammar::new_section_at, crate::specs::Grammar::section_with_new_name))]
 fn read_section<'a>(
     c: &mut FileCursor<'a>,
@@ -70,7 +71,8 @@ fn read_section<'a>(
     Ok(SectionRef { name, bytes })
 }
 
-/// Reads the name of a section, which none of the sections in `before` has.
+/// Reads the name of a section. A name that one of the sections in `before` has is the fault
+/// `BAD_VALUE`.
 #[tactic(auto, unfolding(crate::specs::Grammar::new_object_name_at))]
 fn read_section_name<'a>(c: &mut FileCursor<'a>, before: &[SectionRef]) -> Result<&'a str, FormErr>
     ensures read { MatchResult result
@@ -87,7 +89,8 @@ fn read_section_name<'a>(c: &mut FileCursor<'a>, before: &[SectionRef]) -> Resul
     Ok(name)
 }
 
-// Whether one of these sections has the name. A search by hand is enough: there are at most 64.
+// Returns true if one of these sections has the name. A linear search is enough, as there are at
+// most 64.
 fn is_section_name(sections: &[SectionRef<'_>], name: &str) -> bool
     ensures { result ≡ is_section_name sections.now name.now }
 {

@@ -19,8 +19,8 @@ use tcd_base::{BAD_VALUE, FileCursor, FormErr, form_err_at, read_u16, read_u32};
 // The size of a symbol's kind, section and offset in the file.
 const SYMBOL_BYTES: usize = 7;
 
-/// Reads `count` symbols of an object file, each with a name that no earlier one has, or returns
-/// the first fault.
+/// Reads `count` symbols of an object file with these sections, or returns the first fault. A name
+/// that an earlier symbol has is a fault.
 #[inline(never)]
 pub(crate) fn read_symbols<'a>(
     alloc: Global,
@@ -42,7 +42,8 @@ pub(crate) fn read_symbols<'a>(
     Ok(symbols)
 }
 
-/// Reads the next symbol of an object file. Its name isn't in `names` yet, and is added.
+/// Reads the next symbol of an object file with these sections, and adds its name to `names`, those
+/// of earlier symbols. A name that is there already is a fault.
 #[tactic(auto, unfolding(crate::specs::Grammar::symbol_with_new_name))]
 fn read_symbol<'a>(
     c: &mut FileCursor<'a>,
@@ -62,7 +63,7 @@ fn read_symbol<'a>(
 }
 
 /// Reads the kind, section and offset of the symbol of this name, from 7 bytes at once if the file
-/// holds all of them.
+/// holds all of them. `sections` are the object's.
 fn read_symbol_after_name<'a>(
     c: &mut FileCursor<'_>,
     sections: &[SectionRef<'_>],
@@ -80,8 +81,8 @@ fn read_symbol_after_name<'a>(
     Ok(symbol)
 }
 
-/// Reads what follows a symbol's name, field by field. If the file ends within the symbol, the
-/// fault is at the first field that is cut off.
+/// Reads the kind, section and offset of the symbol of this name, field by field. If the file ends
+/// within the symbol, the fault is at the first field that is cut off.
 #[inline(never)]
 #[tactic(auto, unfolding(crate::specs::Grammar::symbol_after_name))]
 fn read_symbol_fields<'a>(
@@ -103,7 +104,8 @@ fn read_symbol_fields<'a>(
     })
 }
 
-// The symbol of this name whose kind, section and offset are in these 7 bytes.
+// Returns the symbol of this name whose kind, section and offset these 7 bytes of an object file
+// hold, unchecked.
 fn symbol_in_bytes<'a>(bytes: &[u8], name: &'a str) -> SymbolRef<'a>
     requires { length bytes.now ≡ 7 }
     ensures { result ≡ record {
@@ -121,7 +123,8 @@ fn symbol_in_bytes<'a>(bytes: &[u8], name: &'a str) -> SymbolRef<'a>
     }
 }
 
-// The first fault of a symbol, if any. Its kind is at the byte offset `start` of the file.
+// Checks a symbol of an object with these sections, or returns the symbol's first fault. Its kind
+// is at the byte offset `start` of the file.
 #[tactic(auto, unfolding(crate::specs::Faults::symbol_fault))]
 fn check_symbol(
     sections: &[SectionRef<'_>],
@@ -144,7 +147,8 @@ fn check_symbol(
     Ok(())
 }
 
-/// Reads the section number of a symbol of this kind: 0 for an undefined symbol.
+/// Reads the section number of a symbol of this kind: 0 for an undefined symbol, else that of one
+/// of these sections. Another number is the fault `BAD_VALUE`.
 #[tactic(auto, unfolding(crate::specs::Grammar::symbol_section_at))]
 fn read_symbol_section(
     c: &mut FileCursor<'_>,
@@ -161,7 +165,8 @@ fn read_symbol_section(
     Ok(section)
 }
 
-/// Reads the offset of a symbol in its section: 0 for an undefined symbol.
+/// Reads the offset of a symbol in its section: 0 for an undefined symbol, else at most the
+/// section's size. Another offset is the fault `BAD_VALUE`.
 #[tactic(auto, unfolding(crate::specs::Grammar::symbol_offset_at))]
 fn read_symbol_offset(
     c: &mut FileCursor<'_>,
@@ -179,7 +184,7 @@ fn read_symbol_offset(
     Ok(offset)
 }
 
-// Whether a section number is 0 for an undefined symbol, else that of one of these sections.
+// Returns true if `section` is 0 for an undefined symbol, else the number of one of these sections.
 fn is_valid_symbol_section(sections: &[SectionRef<'_>], kind: u8, section: u16) -> bool
     ensures { result ≡ is_valid_symbol_section sections.now kind section }
 {
@@ -189,7 +194,8 @@ fn is_valid_symbol_section(sections: &[SectionRef<'_>], kind: u8, section: u16) 
     }
 }
 
-// Whether an offset is 0 for an undefined symbol, else in its section or at its end.
+// Returns true if `offset` is 0 for an undefined symbol, else in the symbol's section or at its
+// end.
 fn is_valid_symbol_offset(sections: &[SectionRef<'_>], kind: u8, section: u16, offset: u32) -> bool
     ensures { result ≡ is_valid_symbol_offset sections.now kind section offset }
 {

@@ -11,7 +11,7 @@ use std::alloc::{AllocError, AllocFailed, Global};
 use std::collections::HashMap;
 use tcd_base::{BAD_VALUE, FileCursor, form_err_at};
 
-/// An empty map of symbol names, those that an object file has used so far, with room for `count`.
+/// Returns an empty map for the names of an object file's symbols, with room for `count` names.
 pub(crate) fn empty_used_names<'a>(
     alloc: Global,
     count: u16,
@@ -22,8 +22,8 @@ pub(crate) fn empty_used_names<'a>(
     Ok(names)
 }
 
-/// Reads the name of a symbol, which no earlier symbol of the object file may have, and adds it to
-/// the used names.
+/// Reads the name of a symbol of an object file, and adds the name to `names`, those of earlier
+/// symbols. A name that is there already is the fault `BAD_VALUE`.
 #[tactic(auto, unfolding(crate::specs::Grammar::new_object_name_at))]
 pub(crate) fn read_new_name<'a>(
     c: &mut FileCursor<'a>,
@@ -45,8 +45,8 @@ pub(crate) fn read_new_name<'a>(
     Ok(name)
 }
 
-/// Adds a name to the used names of an object file's symbols, and returns whether no earlier symbol
-/// has this name.
+/// Adds a name to `names`, those of an object file's earlier symbols. Returns true if the name
+/// wasn't there, as `HashSet::insert` does.
 fn insert_used_name<'a>(
     names: &mut HashMap<&'a str, ()>,
     name: &'a str,

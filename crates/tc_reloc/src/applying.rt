@@ -9,11 +9,9 @@ use crate::fields::{bits_outside_reloc_field, reloc_field_bits, reloc_field_numb
 use crate::refusals::{RelocErr, reloc_value_refusal};
 use tc_isa::WORD32;
 
-/// The four bytes of a field at `place`, with `value` written in the way of this kind. All other
-/// bits keep their values.
-///
-/// Kinds: 1 a near call or jump, 2 an absolute call or jump, 3 a conditional jump, 4 the upper half
-/// of an address, 5 the lower half as a constant, 6 the lower half as an offset, 7 a whole word.
+/// Applies a relocation: returns `field`, four bytes at address `place`, with `value` written in,
+/// or why the value doesn't fit. Kinds: 1 near and 2 absolute call or jump, 3 branch, 4 upper half,
+/// 5 lower half, 6 lower half as an offset, 7 word.
 pub fn apply(kind: u8, field: [u8; 4], place: u32, value: u32) -> Result<[u8; 4], RelocErr>
     requires some { 1 ≤ kind }
     requires most { kind ≤ 7 }
@@ -35,8 +33,8 @@ pub fn apply(kind: u8, field: [u8; 4], place: u32, value: u32) -> Result<[u8; 4]
     Ok(word.to_le_bytes())
 }
 
-/// Applies a relocation that isn't refused: returns the word with the value in its field. A whole
-/// word is its own field, so none of its old bits remain.
+/// Returns `word`, at address `place`, with `value` written into the field of a relocation of this
+/// kind. Kind 7 replaces the whole word.
 fn fill_reloc_field(kind: u8, word: u32, place: u32, value: u32) -> u32
     requires some { 1 ≤ kind }
     requires most { kind ≤ 7 }

@@ -2,7 +2,7 @@
 ghost use Rattle.tc_reloc.specs.FillingLaws.{FilledFieldsFitRow, FillingSetsOnlyConstant};
 
 /// If the field of a relocation can hold a number, that number fits the constant of each
-/// instruction whose constant the relocation fills. Writing it into the field gives the spelling of
+/// instruction whose constant the relocation fills. Writing the number there gives the encoding of
 /// the instruction with that constant.
 pub fn relocation_filling_laws()
     ensures fits { FilledFieldsFitRow }

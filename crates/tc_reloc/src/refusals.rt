@@ -17,8 +17,8 @@ pub enum RelocErr {
     Segment,
 }
 
-/// The first reason why a relocation of this kind at address `place` can't take the value, if there
-/// is one.
+/// The first reason why a relocation of this kind, with its field at address `place`, can't take
+/// the value, or `None`.
 #[tactic(auto, unfolding(crate::specs::Refusals::reloc_value_refusal))]
 pub(crate) fn reloc_value_refusal(kind: u8, place: u32, value: u32) -> Option<RelocErr>
     ensures { result ≡ reloc_value_refusal kind place value }
@@ -34,7 +34,7 @@ pub(crate) fn reloc_value_refusal(kind: u8, place: u32, value: u32) -> Option<Re
     }
 }
 
-// Whether a distance in bytes, halved, is a signed number of `bits` bits.
+// Whether a distance in bytes, modulo 2^32, fits a signed field of `bits` bits, in halfwords.
 fn is_reloc_in_reach(bits: u8, distance: u32) -> bool
     requires { bits ≤ 31 }
     ensures { result ≡ is_reloc_in_reach bits distance }

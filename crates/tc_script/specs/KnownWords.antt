@@ -13,7 +13,8 @@ use Rattle.tc_script.specs.declared.known_words.KnownWord.{KnownWord}
 abbrev pub IsDecodedShapeOf : Result (Shape × ℕ) Cause → List ℕ → Type 0
 IsDecodedShapeOf found bytes = (found ≡ fetched_shape (decoded_of bytes)) × IfOk found (λ it. IsShapeInBounds it.0)
 
--- an entry of the cache of decoded words: if it has a word, it says what the word's four bytes do
+-- an entry of the cache of decoded words is correct: if it has a word, it says what the word's four
+-- bytes do
 abbrev pub IsCorrectCacheEntry : KnownWord → Type 0
 IsCorrectCacheEntry k = IfSome k.word (λ w. IsDecodedShapeOf k.found (bytes_of_word w))
 

@@ -10,11 +10,12 @@ pub record PortsData (F : Type 0) : Type 0 where
   pub devices : List Device
   pub answer : F
 
--- the closure of ports may be asked for each address of each peripheral and each event number
+-- the closure of ports accepts each address of each peripheral with each number of an event
 abbrev pub AcceptsDeviceAddresses : (ℕ → ℕ → Type 0) → List Device → Type 0
 AcceptsDeviceAddresses can devices = All (λ d. (addr t : ℕ) → IsWithinRange addr 1 d.range → t < 2 ^ 32 → can addr t) devices
 
--- each word that the closure answers for an address of a peripheral is within the latter's bounds
+-- each word that the closure of ports answers for an address of a peripheral is within the
+-- peripheral's bounds
 abbrev pub AnswersWithinDeviceBounds : (ℕ → ℕ → ℕ → Type 0) → List Device → Type 0
 AnswersWithinDeviceBounds gives devices =
     All (λ d. (addr t w : ℕ) → IsWithinRange addr 1 d.range → t < 2 ^ 32 → w < 2 ^ 32 → gives addr t w → (d.lo ≤ w) × (w ≤ d.hi)) devices

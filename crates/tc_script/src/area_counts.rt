@@ -30,8 +30,8 @@ pub(crate) enum Effect {
     Unknown,
 }
 
-/// Returns how many save areas are in use, by a walk along their chain, or 0 if there is no chain.
-/// They are known to be consecutive only if there are none.
+/// Counts the save areas in use along the chain from PCXI, as 0 if the chain is broken. Whether
+/// they are consecutive isn't examined: `in_row` is set only if there are none.
 pub(crate) fn count_areas_in_use(m: &Machine) -> AreasUsed
     ensures { CountsAreasInUse result m.now }
 {
@@ -43,8 +43,8 @@ pub(crate) fn count_areas_in_use(m: &Machine) -> AreasUsed
     }
 }
 
-/// Returns the effect of an event on the save areas in use, if known. The machine runs before and
-/// after the event; `found` is what the bytes at pc do.
+/// Returns the effect of an event on the save areas in use, if the machine still runs afterwards.
+/// `used` counts them before the event; `found` is what the bytes at pc do.
 pub(crate) fn area_effect_of_event(
     m: &Machine,
     event: &Event,
@@ -74,8 +74,8 @@ pub(crate) fn area_effect_of_event(
     }
 }
 
-/// Updates the script's count of areas in use after an event that has this effect if the machine
-/// still runs. If it is dead, or the effect isn't known, they are counted again.
+/// Updates the count `used` of areas in use after an event with this effect. If the machine is dead
+/// or the effect isn't known, the areas are counted again.
 pub(crate) fn update_areas_in_use(m: &Machine, used: &mut AreasUsed, effect: Effect)
     requires { m.now.end ≡ End.Running → AreaEffectHolds effect used.old m.now }
     ensures { CountsAreasInUse used.new m.now }
@@ -99,8 +99,8 @@ fn is_event_interrupt_taken(m: &Machine, event: &Event) -> bool
     m.ie && m.ccpn < event.irq
 }
 
-/// Returns the effect of a save on areas in use that are consecutive: one more, if the first free
-/// area is next, else unknown.
+/// Returns the effect of saving a context on consecutive areas in use, which `used` counts. The
+/// effect is one area more only if the first free area follows them, else unknown.
 fn area_effect_of_save(m: &Machine, used: AreasUsed) -> Effect
     requires counted { CountsAreasInUse used m.now }
     requires row { KnowsAreasInSequence used }
@@ -119,8 +119,8 @@ fn area_effect_of_save(m: &Machine, used: AreasUsed) -> Effect
     Effect::Saves
 }
 
-/// Returns the effect of an instruction on the areas in use, which are consecutive, if the machine
-/// still runs afterwards.
+/// Returns the effect of an instruction on consecutive areas in use, which `used` counts. The
+/// effect is right if the machine still runs afterwards.
 fn area_effect_of_instruction(m: &Machine, event: &Event, shape: Shape, used: AreasUsed) -> Effect
     requires counted { CountsAreasInUse used m.now }
     requires row { KnowsAreasInSequence used }
@@ -160,8 +160,8 @@ fn area_effect_of_instruction(m: &Machine, event: &Event, shape: Shape, used: Ar
     }
 }
 
-/// Returns the effect of a load on the areas in use, which are consecutive: none, or that of a save
-/// if the load traps.
+/// Returns the effect of a load on consecutive areas in use, which `used` counts: none, or that of
+/// saving a context if the load traps.
 fn area_effect_of_load(m: &Machine, event: &Event, used: AreasUsed, addr: u32, size: u8) -> Effect
     requires counted { CountsAreasInUse used m.now }
     requires row { KnowsAreasInSequence used }
@@ -178,8 +178,8 @@ fn area_effect_of_load(m: &Machine, event: &Event, used: AreasUsed, addr: u32, s
     }
 }
 
-/// Returns the effect of a store on the areas in use: that of a save of a context if the store
-/// traps, else that of its bytes.
+/// Returns the effect of a store on consecutive areas in use, which `used` counts. If the store
+/// traps, the effect is that of saving a context.
 fn area_effect_of_store_or_trap(
     m: &Machine,
     event: &Event,
@@ -202,8 +202,8 @@ fn area_effect_of_store_or_trap(
     }
 }
 
-/// Returns the effect of a call, a return, or another save or restore of a context on consecutive
-/// areas in use; unknown for other instructions.
+/// Returns the effect of an instruction that saves or restores a context on consecutive areas in
+/// use, which `used` counts. The effect of other instructions is unknown.
 fn area_effect_of_context_op(m: &Machine, event: &Event, shape: Shape, used: AreasUsed) -> Effect
     requires counted { CountsAreasInUse used m.now }
     requires row { KnowsAreasInSequence used }
@@ -221,8 +221,9 @@ fn area_effect_of_context_op(m: &Machine, event: &Event, shape: Shape, used: Are
     }
 }
 
-/// Returns the effect on the areas in use of a store that doesn't trap: none if the store surely
-/// misses all of them, else unknown.
+/// Returns the effect of an untrapped store on consecutive areas in use, which `used` counts: none
+/// if the store misses the areas, else unknown. Stores above FFFFF000 may wrap, so their effect is
+/// unknown.
 fn area_effect_of_store(m: &Machine, used: AreasUsed, addr: u32, size: u8) -> Effect
     requires counted { CountsAreasInUse used m.now }
     requires row { KnowsAreasInSequence used }
@@ -249,8 +250,8 @@ fn area_effect_of_store(m: &Machine, used: AreasUsed, addr: u32, size: u8) -> Ef
     Effect::Unknown
 }
 
-/// Returns the effect of a restore on the areas in use, which are consecutive: one less, or unknown
-/// if there are none.
+/// Returns the effect of restoring a context on consecutive areas in use, which `used` counts: one
+/// area less, or unknown if there are none.
 fn area_effect_of_restore(m: &Machine, used: AreasUsed) -> Effect
     requires counted { CountsAreasInUse used m.now }
     requires row { KnowsAreasInSequence used }

@@ -23,9 +23,9 @@ pub struct Peak {
     pub peak: u32,
 }
 
-/// Performs one event for each turn of the script, until the machine is dead or the turns end.
-/// An event has the turn's `irq` and `aln`, and status 0. Its input is the answer of the ports if
-/// the load at pc is wholly inside one peripheral range, else 0.
+/// Steps the machine once for each turn of the script until the machine dies; `ports` answers loads
+/// from peripherals, and other inputs are 0. Returns the number of steps and the most save areas in
+/// use.
 pub fn drive<F: Fn(u32, u32) -> u32>(
     m: &mut Machine,
     plan: &Plan,
@@ -72,8 +72,8 @@ fn is_machine_running(m: &Machine) -> bool
     }
 }
 
-/// Returns the event of turn `t` of a script, whose input is what the ports answer; `found` is what
-/// the bytes at pc do.
+/// Returns the machine's event in turn `t` of a script. The event's input is the answer of `ports`
+/// to a load at pc, else 0; `found` is the result of decoding at pc.
 fn event_of_turn<F: Fn(u32, u32) -> u32>(
     ports: &Ports<F>,
     m: &Machine,

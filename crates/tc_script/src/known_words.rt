@@ -21,8 +21,8 @@ pub(crate) struct KnownWords {
     pub words: [KnownWord; 1024],
 }
 
-/// Returns the index of a word in the cache of decoded words. The index is the highest ten of the
-/// 32 bits of the word's product with 2^32 divided by the golden ratio.
+/// Returns the index of a word of code in the cache of decoded instructions: the upper ten bits of
+/// the word's Fibonacci hash.
 fn known_word_index(word: u32) -> usize
     ensures { result < 1024 }
 {
@@ -30,7 +30,7 @@ fn known_word_index(word: u32) -> usize
 }
 
 impl KnownWords {
-    /// Returns the cache of decoded words with which the run of a script begins: without words.
+    /// Returns an empty cache of decoded words of code.
     pub(crate) fn new() -> KnownWords
         ensures { All IsCorrectCacheEntry result.words }
     {
@@ -50,8 +50,8 @@ impl KnownWords {
         }
     }
 
-    /// Returns the index of an entry of the cache of decoded words that says what the bytes at pc
-    /// do. They are decoded if no entry does yet.
+    /// Returns the index of the cache entry that says what the bytes at pc do. If no entry does
+    /// yet, the bytes are decoded into one first.
     pub(crate) fn find_or_decode_at_pc(&mut self, m: &Machine) -> usize
         requires { All IsCorrectCacheEntry self.old.words }
         ensures place { result < 1024 }
@@ -72,7 +72,7 @@ impl KnownWords {
     }
 
     /// Decodes the bytes at pc into entry `place` of the cache. The entry is for `word`, which
-    /// these bytes are; with None it names no word.
+    /// these bytes are; with `None` it is for no word and is never found again.
     #[inline(never)]
     fn decode_into(&mut self, m: &Machine, place: usize, word: Option<u32>)
         requires place { place < 1024 }

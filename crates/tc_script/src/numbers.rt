@@ -5,8 +5,8 @@ ghost use Rattle.std.specs.List.{list_all};
 ghost use Rattle.std.specs.Str.Parse.{digits_value};
 ghost use Rattle.tc_script.specs.Numbers.{is_decimal, script_number};
 
-/// Returns the number that a token of a script or the argument of `gen` spells, or None: decimal,
-/// no leading zeros, below 2^32.
+/// Returns the number below 2^32 that a token of a script, or the argument of `gen`, spells in
+/// decimal without leading zeros. `None` for any other text.
 #[tactic(auto, unfolding(crate::specs::Numbers::script_number))]
 pub fn script_number(word: &[u8]) -> Option<u32>
     ensures { result ≡ script_number word.now }
@@ -31,7 +31,7 @@ fn is_decimal(word: &[u8]) -> bool
     word.len() == 1 || word[0] != b'0'
 }
 
-/// Returns the number that decimal digits spell, or 2^32 for all numbers above it.
+/// Returns the number that these decimal digits spell, capped at 2^32.
 fn script_digits_value(word: &[u8]) -> u64
     requires { list_all is_ascii_digit word.now ≡ true }
     ensures { result ≡ min (digits_value 10 word.now) (2 ^ 32) }

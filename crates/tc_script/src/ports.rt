@@ -28,7 +28,8 @@ impl<F: Fn(u32, u32) -> u32> Model for Ports<F> {
 }
 
 impl<F: Fn(u32, u32) -> u32> Ports<F> {
-    /// Returns the ports of a plan's peripherals.
+    /// Returns the ports of a plan: its peripherals, with a closure that answers their loads.
+    /// `answer` maps a loaded address and the event's number to the word that the load gives.
     pub fn new(plan: &Plan, answer: F) -> Ports<F>
         requires askable { AcceptsDeviceAddresses (F.pre answer) plan.now.devices }
         requires bounded { AnswersWithinDeviceBounds (F.post answer) plan.now.devices }
@@ -44,7 +45,7 @@ impl<F: Fn(u32, u32) -> u32> Ports<F> {
         Ports { devices, answer }
     }
 
-    /// Returns true if the bytes from an address on are wholly inside one peripheral range.
+    /// Returns true if the `size` bytes from an address on are wholly inside one peripheral range.
     pub(crate) fn holds(&self, addr: u32, size: u8) -> bool
         ensures { result ≡ is_in_device addr size self.now.devices }
     {
@@ -63,8 +64,8 @@ impl<F: Fn(u32, u32) -> u32> Ports<F> {
     }
 }
 
-/// Returns the input of event `t`: the closure's answer if the load is wholly inside one peripheral
-/// range, else 0.
+/// Returns the input of event `t`: the closure's answer if `load`, the address and size of the next
+/// load, is wholly inside one peripheral range, else 0.
 pub(crate) fn port_input<F: Fn(u32, u32) -> u32>(
     ports: &Ports<F>,
     load: Option<(u32, u8)>,

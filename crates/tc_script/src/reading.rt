@@ -20,7 +20,7 @@ pub(crate) struct Draft {
     pub(crate) aln: bool,
 }
 
-/// Returns each peripheral's bounds before a line of the script states others: its `lo` alone.
+/// Returns the bounds of peripherals' answers until the script sets others: each one's `lo` alone.
 fn initial_script_bounds(devices: &[Device]) -> ArrayVec<AnswerRange, 16>
     requires { length devices.now ≤ 16 }
     ensures { result.items ≡ map initial_answer_bounds devices.now }
@@ -42,8 +42,8 @@ fn is_plan_irq(plan: &Plan, irq: u8) -> bool
     plan.irqs.iter().any(|q| *q == irq)
 }
 
-/// Returns true if a line `in` of a script can be read: the plan has its peripheral, and its bounds
-/// are inside the peripheral's own.
+/// Returns true if the plan has a peripheral number `device`, and the bounds `lo` and `hi` of a
+/// script's line are inside the peripheral's own.
 fn may_set_bounds(devices: &[Device], device: usize, lo: u32, hi: u32) -> bool
     ensures value { result ≡ may_set_bounds (slice_get devices.now device) lo hi }
     ensures there { IsTrue result → device < length devices.now }
@@ -83,8 +83,8 @@ impl Draft {
         }
     }
 
-    /// Applies the statement of a script's line to the draft: adds turns, or sets bounds or the
-    /// trap of misaligned accesses.
+    /// Applies the statement `said` of a script's line to the draft: adds turns, or sets bounds or
+    /// the trap of misaligned accesses. An error has the line's number `line`.
     #[tactic(auto, unfolding(crate::specs::ScriptText::script_draft_after_statement))]
     fn apply_statement(&mut self, plan: &Plan, line: u32, said: Statement) -> Result<(), ScriptErr>
         requires ordered { HasOrderedBounds said }
@@ -117,8 +117,8 @@ impl Draft {
         }
     }
 
-    /// Adds `count` turns with this interrupt, or returns `TooMany` if the script would then have
-    /// more than 100,000 turns.
+    /// Adds `count` turns that request the interrupt `irq`, 0 for none. Returns `TooMany` with the
+    /// line's number `line` if the script would then have more than 100,000 turns.
     fn add_turns(&mut self, line: u32, count: u32, irq: u8) -> Result<(), ScriptErr>
         ensures turns { GivesScriptDraft result self.new (with_turns line count irq self.old) }
         ensures devices { length self.new.script.bounds ≡ length self.old.script.bounds }
@@ -134,7 +134,7 @@ impl Draft {
         Ok(())
     }
 
-    /// Sets the bounds of a peripheral's answers in the script that is read.
+    /// Sets the bounds of what peripheral number `device` answers in the script that is read.
     fn set_bounds(&mut self, device: usize, lo: u32, hi: u32)
         requires there { device < length self.old.script.bounds }
         requires ordered { lo ≤ hi }

@@ -9,8 +9,8 @@ use crate::{Peak, Ports, Script, drive};
 use tc_machine::Machine;
 use tcd_plan::Plan;
 
-/// Runs the machine by a script that answers for the peripherals too: performs one event for each
-/// turn, until the machine is dead or the turns end.
+/// Runs the machine by a script that answers for the peripherals too, until the machine is dead or
+/// the turns end. Returns how many events were performed, and the most save areas in use.
 pub fn drive_by_script(m: &mut Machine, plan: &Plan, script: &Script) -> Peak
     requires { FitsPlan plan.now script.now }
     ensures { IsScriptRun plan.now script.now m.old m.new result }

@@ -48,7 +48,7 @@ impl Script {
         self.turns.len() as u32
     }
 
-    /// Returns a turn, numbered from 0.
+    /// Returns turn `at`, from 0: a step's interrupt request, and whether misaligned accesses trap.
     pub fn turn(&self, at: u32) -> Turn
         requires { at < length self.now.turns }
         ensures { slice_get self.now.turns at ≡ Some result }

@@ -47,8 +47,8 @@ pub(crate) fn script_statement_in(line: &[u8]) -> Option<Statement>
     }
 }
 
-/// Returns a script's statement `step N`, `irq P`, `aln 0` or `aln 1`, if its number is within its
-/// bounds.
+/// Returns a script's statement `step N`, `irq P`, `aln 0` or `aln 1` from its verb and number.
+/// `None`: another verb, or the number is out of bounds.
 fn statement_of_one_number(verb: &[u8], n: u32) -> Option<Statement>
     ensures { result ≡ statement_of_one_number verb.now n }
 {
@@ -60,7 +60,8 @@ fn statement_of_one_number(verb: &[u8], n: u32) -> Option<Statement>
     }
 }
 
-/// Returns a script's statement `in DEVICE LO HI`, with LO at most HI.
+/// Returns a script's statement `in DEVICE LO HI` from its verb and numbers. `None`: another verb,
+/// or LO is above HI.
 fn statement_of_three_numbers(verb: &[u8], device: u32, lo: u32, hi: u32) -> Option<Statement>
     ensures { result ≡ statement_of_three_numbers verb.now device lo hi }
 {

@@ -119,8 +119,8 @@ fill_absolute r v acc =
 unfoldable pub fill_register : Bool → Field → ValueData → RowFieldsData → Option RowFieldsData
 fill_register bank field v acc = if is_name_operand v.shape then Some (fill_named_register bank field v.name acc) else None
 
--- A row's fields after the value a10, the stack pointer, which no field holds; another name breaks
--- rule 4. Source: manual, volume 1, general purpose and system registers.
+-- A row's fields after an operand that has to be a10, the stack pointer, which no field holds;
+-- another name breaks rule 4. Source: manual, volume 1, general purpose and system registers.
 unfoldable pub check_a10 : ValueData → RowFieldsData → Option RowFieldsData
 check_a10 v acc = if is_name_operand v.shape then (if bytes_eq v.name (codes "a10") then Some acc else Some (with_rule wrong_register acc)) else None
 
@@ -157,7 +157,7 @@ note_equal_registers r f = if are_registers_allowed r f.fields then f else with_
 unfoldable pub fields_of_row : RowData → List Want → List OperandData → Option RowFieldsData
 fields_of_row r ws os = option_and_then (λ f. Some (note_equal_registers r f)) (fill_operands r ws os zero_fields)
 
--- the code's result for operands that fill a row: true and these fields as plain data, or false for
--- None
+-- the code's result for operands that fill a row: true and these fields as plain data, or false if
+-- there are none
 abbrev pub GivesFieldsOrFalse : Bool → RowFields → Option RowFieldsData → Type 0
 GivesFieldsOrFalse fits f given = (if fits then Some (row_fields_of f) else None) ≡ given

@@ -21,7 +21,7 @@ pub record AreReadLines (lines : List Line) (items : List Item) (ls : List LineD
   pub counts : map (λ (l : Line). l.count) lines ≡ map (λ (l : LineData). length l.items) ls
   pub items_are : map item_of items ≡ items_in ls
 
--- the code read one more line of a source: it returned the line's rule, and in the plain data the
--- line's items come after those before
+-- the code read a line: the result is the line's rule, and the line's items, as plain data, come
+-- after the old ones
 abbrev pub GivesRuleAndAddsItems : {E : Type 0} → LineData → Result ℕ E → List Item → List Item → Type 0
 GivesRuleAndAddsItems l result old new = IfOk result (λ rule. line_data rule (map item_of new) ≡ line_after_items (map item_of old) l)

@@ -23,7 +23,7 @@ row_outcome name os r t =
     then option_map_or (λ f. if f.rule == no_rule then Ok f else Err (record { named = true; fits = true; least = min t.least f.rule })) (fields_of_row r (wants_of r) os) (Err (record t { named = true }))
     else Err t
 
--- the least rule that is broken if no row fits
+-- the least rule that a statement breaks that fits none of the rows tried
 abbrev pub rule_broken_by_statement : Tally → ℕ
 rule_broken_by_statement t = if t.named then (if t.fits then t.least else wrong_operands) else unknown_statement
 

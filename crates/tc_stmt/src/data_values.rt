@@ -14,8 +14,8 @@ use crate::{shape_index, rule_broken_by_symbol};
 use std::alloc::AllocError;
 use tc_lex::Operand;
 
-/// The least rule that a value of `.byte`, `.half` or `.word` breaks, or no rule. `width` is its
-/// number of bytes.
+/// Returns the lowest-numbered rule that the operand `o`, a value of `.byte`, `.half` or `.word`,
+/// breaks, or `NO_RULE`. `width` is its number of bytes.
 #[tactic(auto, unfolding(crate::specs::DataValues::rule_broken_by_value))]
 pub(crate) fn rule_broken_by_value(width: u8, o: &Operand<'_>) -> u8
     requires { IsDataWidth width }
@@ -47,8 +47,8 @@ pub(crate) fn rule_broken_by_value(width: u8, o: &Operand<'_>) -> u8
     }
 }
 
-/// The item that a value of `.byte`, `.half` or `.word` adds to its source: `width` bytes, which
-/// are zeros if the value breaks `rule`.
+/// The item that the operand `o`, a value of `.byte`, `.half` or `.word`, adds to its source. Its
+/// `width` bytes are zeros if the value breaks `rule`.
 #[tactic(auto, unfolding(crate::specs::DataValues::value_item))]
 pub(crate) fn value_item<'a>(rule: u8, width: u8, o: &Operand<'a>) -> Item<'a>
     requires rule { rule ≡ rule_broken_by_value width (operand_of o.now) }
@@ -65,8 +65,8 @@ pub(crate) fn value_item<'a>(rule: u8, width: u8, o: &Operand<'a>) -> Item<'a>
     Item::Word(width, o.value.minus, size, o.value.name)
 }
 
-/// Returns the least rule that the operand of the data `.space N` breaks by itself, or no rule: N
-/// may be negative, too large or no number.
+/// Checks N in `.space N`: returns the rule broken if N is negative, too large or no number, else
+/// `NO_RULE`.
 #[tactic(auto, unfolding(crate::specs::DataValues::rule_broken_by_space))]
 pub(crate) fn rule_broken_by_space(o: &Operand<'_>) -> u8
     ensures value { result ≡ rule_broken_by_space (operand_of o.now) }
@@ -92,7 +92,7 @@ pub(crate) fn rule_broken_by_space(o: &Operand<'_>) -> u8
     }
 }
 
-/// The item for `.space`: zeros, and none of them if the operand breaks a rule.
+/// The item that `.space` with this operand adds: its zeros, or none if the operand breaks a rule.
 #[tactic(auto, unfolding(crate::specs::DataValues::space_item))]
 pub(crate) fn space_item<'a>(o: &Operand<'a>) -> Item<'a>
     ensures { item_of result ≡ space_item (operand_of o.now) }
@@ -104,7 +104,7 @@ pub(crate) fn space_item<'a>(o: &Operand<'a>) -> Item<'a>
     }
 }
 
-/// The rule that a `.byte`, `.half` or `.word` without values breaks, or no rule.
+/// Returns rule 3, wrong operands, if `.byte`, `.half` or `.word` has no values, else `NO_RULE`.
 pub(crate) fn rule_broken_by_missing_values(os: &[Operand<'_>]) -> u8
     ensures { result ≡ (if length (map operand_of os.now) == 0 then wrong_operands else no_rule) }
 {
@@ -115,8 +115,8 @@ pub(crate) fn rule_broken_by_missing_values(os: &[Operand<'_>]) -> u8
     }
 }
 
-/// Adds an item of `width` bytes for each of these values of `.byte`, `.half` or `.word`. Returns
-/// the least rule that they break, or no rule.
+/// Adds an item of `width` bytes for each of the values `os` of `.byte`, `.half` or `.word`.
+/// Returns the lowest-numbered rule that they break, or `NO_RULE`.
 #[tactic(auto, unfolding(crate::specs::DataValues::rule_broken_by_values))]
 pub(crate) fn add_values<'a>(
     width: u8,

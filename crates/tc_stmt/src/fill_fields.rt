@@ -24,7 +24,7 @@ use tc_lex::{Operand, Shape, Value, is_same_text};
 const NO_REGISTER: u8 = 64;
 
 /// Returns the row's fields with a displacement of `size` bytes, backwards if `minus`, in the field
-/// of its target. Otherwise the rule that is broken is noted.
+/// of a jump's target. If a rule is broken, that rule is noted instead.
 pub fn with_displacement<'a>(
     row: &Row,
     minus: bool,
@@ -39,8 +39,8 @@ pub fn with_displacement<'a>(
     made
 }
 
-/// Fills a row's fields with an operand of the kind that the row wants there. Returns false if the
-/// operand has another form.
+/// Fills `acc`, an instruction's fields so far, from the operand `o`. Returns false if the operand
+/// isn't of the kind `want` that the instruction takes.
 #[tactic(auto, unfolding(crate::specs::Filling::fill_operand, crate::specs::Filling::fill_plain_operand))]
 pub(crate) fn fill_operand<'a>(row: &Row, want: Want, o: &Operand<'a>, acc: &mut RowFields<'a>) -> bool
     ensures { GivesFieldsOrFalse result acc.new
@@ -62,8 +62,8 @@ pub(crate) fn fill_operand<'a>(row: &Row, want: Want, o: &Operand<'a>, acc: &mut
     }
 }
 
-// Fills a row's fields with all operands, each of the kind that the row wants. Returns false if
-// their number or a form differs.
+// Fills `acc`, the row's fields so far, from the operands `os`, of the kinds `wants` that the row
+// takes. Returns false if their number or a form differs.
 pub(crate) fn fill_operands<'a>(
     row: &Row,
     wants: &[Want],
@@ -84,8 +84,8 @@ pub(crate) fn fill_operands<'a>(
     true
 }
 
-/// Fills the field of a displacement of `size` bytes, backwards if `minus`, or notes the rule that
-/// is broken.
+/// Fills the field of a jump's target in `acc` with a displacement of `size` bytes, backwards if
+/// `minus`, or notes the rule that is broken.
 #[tactic(auto, unfolding(crate::specs::Displacements::with_displacement))]
 fn fill_displacement(row: &Row, minus: bool, size: u128, acc: &mut RowFields<'_>)
     ensures { row_fields_of acc.new
@@ -103,7 +103,8 @@ fn fill_displacement(row: &Row, minus: bool, size: u128, acc: &mut RowFields<'_>
     }
 }
 
-// The least rule that a displacement of `size` bytes, backwards if `minus`, breaks, or no rule.
+// Checks a jump's displacement of `size` bytes, backwards if `minus`: returns the rule broken if
+// odd or too far, else `NO_RULE`.
 #[tactic(auto, unfolding(crate::specs::Displacements::rule_broken_by_displacement))]
 fn rule_broken_by_displacement(row: &Row, minus: bool, size: u128) -> u8
     ensures value { result ≡ rule_broken_by_displacement (row_of row.now) minus size }
@@ -127,7 +128,7 @@ fn rule_broken_by_displacement(row: &Row, minus: bool, size: u128) -> u8
     by_far.min(by_odd)
 }
 
-/// An operand's number `size`, negative if `minus`, modulo the bound of its field.
+/// An operand's number `size`, negative if `minus`, modulo `bound`, its field's number of values.
 fn operand_number_modulo(bound: u32, minus: bool, size: u32) -> u32
     requires { size ≤ bound }
     ensures { result ≡ operand_number_modulo bound minus size }
@@ -139,8 +140,8 @@ fn operand_number_modulo(bound: u32, minus: bool, size: u32) -> u32
     }
 }
 
-/// Returns the bound of the field that a statement's target fills, in rows of this form: the number
-/// of values that the field can have.
+/// Returns the number of values that the field of a jump's target can have in instructions of this
+/// format.
 #[tactic(auto, unfolding(tc_isa::specs::Forms::field_bounds))]
 fn target_operand_bound(form: Form) -> u32
     ensures value { result ≡ (field_bounds form).k }
@@ -150,8 +151,8 @@ fn target_operand_bound(form: Form) -> u32
     field_bounds(form).k
 }
 
-/// Whether `size` bytes, backwards if `minus`, are too far for a row of this form, whose field has
-/// `bound` values. SBR only reaches forwards.
+/// Whether `size` bytes, backwards if `minus`, are too far for a jump of this format. Its field has
+/// `bound` values, signed and in halfwords. SBR only reaches forwards, so its field is unsigned.
 fn is_far_displacement(form: Form, bound: u32, minus: bool, size: u128) -> bool
     requires { 1 ≤ bound }
     ensures value { result ≡ is_far_displacement form bound minus size }
@@ -171,8 +172,8 @@ fn is_far_displacement(form: Form, bound: u32, minus: bool, size: u128) -> bool
     }
 }
 
-/// Fills the fields of `[BASE]`, or of `[BASE+]` if `plus`, with an offset if `offset`. Returns
-/// false if the operand has another form.
+/// Fills the base register from `[BASE]`, or from `[BASE+]` if `plus`, and the offset after the
+/// brackets if the row takes one (`offset`). Returns false if the operand has another form.
 #[tactic(auto, unfolding(crate::specs::Filling::fill_memory))]
 fn fill_memory<'a>(
     row: &Row,
@@ -199,8 +200,8 @@ fn fill_memory<'a>(
     }
 }
 
-/// Fills a field with the register that an operand names, of the address bank if `bank`, else data.
-/// Returns false if the operand has another form.
+/// Fills a field in `acc` with the register that an operand's value `v` names: an address register
+/// if `bank`, else a data register. Returns false if the value is no name.
 #[tactic(auto, unfolding(crate::specs::Filling::fill_register))]
 fn fill_register(bank: bool, field: Field, v: &Value<'_>, acc: &mut RowFields<'_>) -> bool
     ensures { GivesFieldsOrFalse result acc.new
@@ -214,8 +215,8 @@ fn fill_register(bank: bool, field: Field, v: &Value<'_>, acc: &mut RowFields<'_
     }
 }
 
-/// Takes the operand a10, which no field holds; another name breaks rule 4. Returns false if the
-/// operand has another form.
+/// Checks an operand that has to be a10, which takes no field. Another name is noted in `acc` as a
+/// wrong register (rule 4); false means that the operand is no name.
 #[tactic(auto, unfolding(crate::specs::Filling::check_a10))]
 fn check_a10(v: &Value<'_>, acc: &mut RowFields<'_>) -> bool
     ensures { GivesFieldsOrFalse result acc.new (check_a10 (value_of v.now) (row_fields_of acc.old)) }
@@ -230,8 +231,8 @@ fn check_a10(v: &Value<'_>, acc: &mut RowFields<'_>) -> bool
     }
 }
 
-/// Fills a field, signed if `signed`, with an operand's constant, or notes the rule that is broken.
-/// Returns false if the operand has another form.
+/// Fills a field in `acc`, signed if `signed`, with the constant of an operand's value `v`, or
+/// notes the rule that is broken. Returns false if the value has another form.
 #[tactic(auto, unfolding(crate::specs::Filling::fill_constant))]
 fn fill_constant<'a>(
     row: &Row,
@@ -266,8 +267,8 @@ fn fill_constant<'a>(
     }
 }
 
-/// Fills the field of a target with a displacement, or notes its symbol. Returns false if the
-/// operand has another form.
+/// Fills the field of a jump's target in `acc` with the displacement of an operand's value `v`, or
+/// notes its symbol. Returns false if the value has another form.
 #[tactic(auto, unfolding(crate::specs::Filling::fill_target))]
 fn fill_target<'a>(row: &Row, v: &Value<'a>, acc: &mut RowFields<'a>) -> bool
     ensures { GivesFieldsOrFalse result acc.new
@@ -292,8 +293,8 @@ fn fill_target<'a>(row: &Row, v: &Value<'a>, acc: &mut RowFields<'a>) -> bool
     }
 }
 
-/// Fills the field of an absolute address with a number, or notes its symbol. Returns false if the
-/// operand has another form.
+/// Fills the field of an absolute address in `acc` with the number of an operand's value `v`, or
+/// notes its symbol. Returns false if the value has another form.
 #[tactic(auto, unfolding(crate::specs::Filling::fill_absolute))]
 fn fill_absolute<'a>(row: &Row, v: &Value<'a>, acc: &mut RowFields<'a>) -> bool
     ensures { GivesFieldsOrFalse result acc.new
@@ -321,8 +322,8 @@ fn fill_absolute<'a>(row: &Row, v: &Value<'a>, acc: &mut RowFields<'a>) -> bool
     }
 }
 
-/// Fills a field with the register of this name, of the address bank if `bank`, else data. Another
-/// name breaks rule 4.
+/// Fills a field in `acc` with the register of this name: an address register if `bank`, else a
+/// data register. Another name is noted as a wrong register (rule 4).
 #[tactic(auto, unfolding(crate::specs::Filling::fill_named_register))]
 fn fill_named_register(bank: bool, field: Field, name: &[u8], acc: &mut RowFields<'_>)
     ensures { row_fields_of acc.new
@@ -367,8 +368,8 @@ fn bank_first_register(c: u8) -> u8
     }
 }
 
-/// Fills a field, signed if `signed`, with the number `size`, negative if `minus`. A number that
-/// doesn't fit breaks rule 5.
+/// Fills a field in `acc`, signed if `signed`, with the number `size`, negative if `minus`. A
+/// number that doesn't fit is noted as too wide (rule 5).
 #[tactic(auto, unfolding(crate::specs::Filling::fill_number))]
 fn fill_number(
     form: Form,
@@ -389,8 +390,8 @@ fn fill_number(
     }
 }
 
-/// Returns the relocation that a statement's operand `hi:` or `lo:` needs where it fills the
-/// constant of this row, or `NO_RELOC` if the row takes none.
+/// Returns the relocation by which an operand `hi:` or `lo:`, a value of form `shape`, fills the
+/// constant of this row. `NO_RELOC` means that the row takes none.
 #[tactic(auto, unfolding(crate::specs::Filling::half_operand_relocation))]
 fn half_operand_relocation(row: &Row, shape: Shape) -> u8
     ensures { result ≡ half_operand_relocation (row_of row.now) shape }
@@ -434,15 +435,15 @@ fn is_within_field_bound(signed: bool, bound: u32, minus: bool, size: u128) -> b
     }
 }
 
-/// Returns true if this row, whose fields an operand is to fill, has this name.
+/// Whether this row of the instruction table has this name.
 fn is_row_named(row: &Row, name: &str) -> bool
     ensures { result ≡ is_row_named (row_of row.now) name.now }
 {
     is_same_text(row.name.as_bytes(), name)
 }
 
-/// Returns the relocation that fills the field of a jump or call whose target is a symbol, or
-/// `NO_RELOC` in rows of 16 bits.
+/// Returns the kind of relocation for a jump or call to a symbol: `REL24` or `REL15`, or `NO_RELOC`
+/// for 16-bit instructions.
 #[tactic(auto, unfolding(crate::specs::Displacements::target_operand_relocation))]
 fn target_operand_relocation(row: &Row) -> u8
     ensures { result ≡ target_operand_relocation (row_of row.now) }
@@ -458,8 +459,8 @@ fn target_operand_relocation(row: &Row) -> u8
     }
 }
 
-/// Fills the constant with the absolute address `size`. A negative address, or one that the form
-/// can't hold, breaks rule 5.
+/// Fills the constant in `acc` with the absolute address `size`. An address that is negative
+/// (`minus`), or that this format can't encode, is noted as too wide (rule 5).
 #[tactic(auto, unfolding(crate::specs::Filling::fill_address))]
 fn fill_address(form: Form, minus: bool, size: u128, acc: &mut RowFields<'_>)
     ensures { row_fields_of acc.new ≡ fill_address form minus size (row_fields_of acc.old) }

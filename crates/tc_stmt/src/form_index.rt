@@ -16,7 +16,7 @@ pub(crate) const ABS: u8 = 8;
 /// Branches of 16 bits, which only go forwards.
 pub(crate) const SBR: u8 = 13;
 
-/// A number for each form, so that forms can be compared.
+/// A number for each format of instructions, so that formats can be compared.
 #[tactic(auto, unfolding(tc_isa::specs::Forms::form_index))]
 pub(crate) fn form_index(form: Form) -> u8
     ensures { result ≡ form_index form }

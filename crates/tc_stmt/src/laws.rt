@@ -2,11 +2,8 @@
 ghost use Rattle.tc_lex.specs.Numbers.{TokenNumbersAreExact};
 ghost use Rattle.tc_stmt.specs.StatedRows.{StatementsFitRows};
 
-/// A token's number is what its digits spell, if that is below 2^128.
-///
-/// A statement that breaks no rule has a listed row, and its fields fit this row. If it has a
-/// symbol, the row has a field for it, whose value is 0 so far. The symbol's relocation fills that
-/// field; a jump of 16 bits has no relocation, and its constant is that field.
+/// A token's number is what its digits spell, if below 2^128. A statement that breaks no rule fits
+/// its row of the instruction table, with 0 in the field that its symbol, if any, will fill.
 pub fn number_and_statement_laws()
     ensures numbers { TokenNumbersAreExact }
     ensures stated { StatementsFitRows }

@@ -24,8 +24,8 @@ use tc_lex::{
     token_text,
 };
 
-/// Reads a line: adds its items, and returns their number and the least rule that the line breaks
-/// by itself. `pieces` and `operands` are scratch space.
+/// Parses a line of a source and adds its items: a label, a directive, an instruction or data.
+/// Returns their number and the lowest-numbered rule that the line breaks by itself.
 #[inline(always)]
 pub(crate) fn read_line<'a>(
     line: &'a [u8],
@@ -50,7 +50,8 @@ pub(crate) fn read_line<'a>(
     Ok(Line { rule, count })
 }
 
-// Adds the items of a line, and returns the least rule that the line breaks by itself.
+// Parses a line of a source and adds its items: a label, a directive, an instruction or data.
+// Returns the lowest-numbered rule that the line breaks by itself, or `NO_RULE`.
 #[inline(never)]
 #[tactic(auto, using(crate::proofs::PieceLines::line_pieces, crate::proofs::PieceLines::line_unread))]
 fn read_line_items<'a>(
@@ -67,8 +68,8 @@ fn read_line_items<'a>(
     }
 }
 
-/// Reads a line from its tokens: adds the items of its label and its statement, and returns the
-/// rule that the line breaks.
+/// Reads a line from its tokens `ps`. Adds the items of its label and its statement, and returns
+/// the rule that the line breaks, or `NO_RULE`. `operands` is scratch space.
 #[tactic(auto, unfolding(crate::specs::Lines::tokens_line))]
 fn read_line_of_tokens<'a>(
     ps: &[Piece<'a>],
@@ -85,8 +86,8 @@ fn read_line_of_tokens<'a>(
     }
 }
 
-// Reads a line that can't be cut into tokens, and breaks rule 1. Adds the label in `front`, its
-// text before the first bad byte.
+// Adds the label, if any, of a line that can't be cut into tokens; `front` is the text before the
+// fault. Returns rule 1, on bad tokens.
 #[tactic(auto, using(crate::proofs::PieceLines::label_pieces, crate::proofs::PieceLines::label_unread))]
 fn read_uncut_line<'a>(
     front: &'a [u8],
@@ -102,7 +103,7 @@ fn read_uncut_line<'a>(
     }
 }
 
-// Whether these tokens begin with a label.
+// Whether these tokens of a line begin with a label: a word and a colon.
 fn has_label(ps: &[Piece]) -> bool
     ensures value { result ≡ has_label (map piece_of ps.now) }
     ensures long { result ≡ true → 2 ≤ length ps.now }
@@ -110,8 +111,8 @@ fn has_label(ps: &[Piece]) -> bool
     is_token_kind(ps, 0, TokenKind::Word) && is_token_kind(ps, 1, TokenKind::Colon)
 }
 
-// Reads a line that begins with a label: adds the label, and reads the rest. Returns the rule that
-// the rest breaks.
+// Reads a line that begins with a label: adds the label and the items of the rest. Returns the rule
+// that the rest breaks, or `NO_RULE`. `operands` is scratch space.
 fn read_labelled_line<'a>(
     ps: &[Piece<'a>],
     operands: &mut Scratch<Operand<'a>, 65>,
@@ -127,7 +128,7 @@ fn read_labelled_line<'a>(
     read_line_from(ps, 2, operands, items)
 }
 
-/// Reads a line from token `at` on: nothing, or a statement.
+/// Reads a line from token `at` on: nothing, or a statement. Returns the rule broken, or `NO_RULE`.
 #[tactic(auto, unfolding(crate::specs::Lines::line_from))]
 fn read_line_from<'a>(
     ps: &[Piece<'a>],
@@ -148,7 +149,7 @@ fn read_line_from<'a>(
     }
 }
 
-/// Adds the item of a line's label.
+/// Adds the item of a line's label to the items of its source.
 fn add_label<'a>(name: &'a [u8], items: &mut Vec<Item<'a>>) -> Result<(), AllocError>
     ensures { OnOk result
         (map item_of items.new.items ≡ map item_of items.old.items ++ label name.entry.now ∷ []) }
@@ -164,7 +165,7 @@ fn rule_without_items(rule: u8, items: &mut Vec<Item<'_>>) -> Result<u8, AllocEr
     Ok(rule)
 }
 
-// Reads the statement whose name is token `at`.
+// Adds the items of the statement named by token `at`; returns the rule broken, or `NO_RULE`.
 fn read_statement_at<'a>(
     ps: &[Piece<'a>],
     at: usize,
@@ -181,7 +182,7 @@ fn read_statement_at<'a>(
     read_statement_line(token_text(ps, at), operands.as_slice(), items)
 }
 
-/// Reads the operands of a line, which are after the statement's name at token `at`.
+/// Reads into `out` the operands of a line, after the statement's name at token `at`.
 fn read_operands_after_name<'a>(ps: &[Piece<'a>], at: usize, out: &mut Scratch<Operand<'a>, 65>)
     requires few { length ps.now ≤ 64 }
     requires place { at < length ps.now }
@@ -190,7 +191,7 @@ fn read_operands_after_name<'a>(ps: &[Piece<'a>], at: usize, out: &mut Scratch<O
     operands_into(tokens_after_name(ps, at), out)
 }
 
-/// Reads the line of a statement: a directive or an instruction.
+/// Adds the items of a directive or instruction; returns the rule broken, or `NO_RULE`.
 #[tactic(auto, unfolding(crate::specs::Lines::statement_line))]
 fn read_statement_line<'a>(
     name: &[u8],
@@ -225,7 +226,7 @@ fn tokens_after_name<'p, 'a>(ps: &'p [Piece<'a>], at: usize) -> &'p [Piece<'a>]
     &ps[at + 1..]
 }
 
-/// Reads the line `.section NAME`: adds its item, and returns its rule.
+/// Reads `.section NAME`: adds its item, and returns the rule that the line breaks, or `NO_RULE`.
 #[tactic(auto, unfolding(crate::specs::Lines::named_line))]
 fn read_section_line<'a>(os: &[Operand<'a>], items: &mut Vec<Item<'a>>) -> Result<u8, AllocError>
     ensures { GivesRuleAndAddsItems (named_line section
@@ -237,7 +238,7 @@ fn read_section_line<'a>(os: &[Operand<'a>], items: &mut Vec<Item<'a>>) -> Resul
     }
 }
 
-/// Reads the line `.global NAME`: adds its item, and returns its rule.
+/// Reads `.global NAME`: adds its item, and returns the rule that the line breaks, or `NO_RULE`.
 #[tactic(auto, unfolding(crate::specs::Lines::named_line))]
 fn read_global_line<'a>(os: &[Operand<'a>], items: &mut Vec<Item<'a>>) -> Result<u8, AllocError>
     ensures { GivesRuleAndAddsItems (named_line global
@@ -249,8 +250,8 @@ fn read_global_line<'a>(os: &[Operand<'a>], items: &mut Vec<Item<'a>>) -> Result
     }
 }
 
-/// Reads a line that is `.byte`, `.half` or `.word`: adds an item for each value of `width` bytes,
-/// and returns the rule that the line breaks.
+/// Reads a line that is `.byte`, `.half` or `.word`, with values `os` of `width` bytes: adds an
+/// item for each value. Returns the lowest-numbered rule broken, or `NO_RULE`.
 #[tactic(auto, unfolding(crate::specs::Lines::values_line))]
 fn read_values_line<'a>(
     width: u8,
@@ -265,8 +266,8 @@ fn read_values_line<'a>(
     Ok(rule)
 }
 
-/// Reads a line that is `.space`, with any operands: adds the item of its zeros, and returns the
-/// rule that the line breaks.
+/// Reads a line that is `.space`, with the operands `os`. Adds the item of its zeros, and returns
+/// the rule that the line breaks, or `NO_RULE`.
 fn read_space_line<'a>(os: &[Operand<'a>], items: &mut Vec<Item<'a>>) -> Result<u8, AllocError>
     ensures { GivesRuleAndAddsItems (space_line (map operand_of os.now)) result items.old.items items.new.items }
 {
@@ -276,8 +277,8 @@ fn read_space_line<'a>(os: &[Operand<'a>], items: &mut Vec<Item<'a>>) -> Result<
     read_space_operand(&os[0], items)
 }
 
-/// Reads the line of an instruction: adds its item, or zeros of its size if a rule is broken, and
-/// returns that rule.
+/// Reads the line of an instruction with this name and the operands `os`. Adds its item, or zeros
+/// of its size if a rule is broken, and returns that rule, or `NO_RULE`.
 fn read_code_line<'a>(
     name: &[u8],
     os: &[Operand<'a>],
@@ -307,8 +308,8 @@ fn only_operand_name<'a>(os: &[Operand<'a>]) -> Option<&'a [u8]>
     }
 }
 
-// Adds one item of a line to those of its source, and returns the rule that the line breaks, or no
-// rule.
+// Adds one item of a line to those of its source, and returns `rule`: the rule that the line
+// breaks, or `NO_RULE`.
 fn add_item<'a>(rule: u8, item: Item<'a>, items: &mut Vec<Item<'a>>) -> Result<u8, AllocError>
     ensures { GivesRuleAndAddsItems (line_data rule
         (item_of item.entry ∷ [])) result items.old.items items.new.items }
@@ -325,8 +326,8 @@ fn is_unbracketed_name(o: &Operand<'_>) -> bool
     !o.is_memory && shape_index(o.value.shape) == WORD
 }
 
-/// Reads a line that is `.space N`, by its one operand: adds the item of its zeros, and returns the
-/// rule that the line breaks.
+/// Reads a line that is `.space N`, by its one operand. Adds the item of its zeros, and returns the
+/// rule that the line breaks, or `NO_RULE`.
 fn read_space_operand<'a>(o: &Operand<'a>, items: &mut Vec<Item<'a>>) -> Result<u8, AllocError>
     ensures { GivesRuleAndAddsItems (line_data (rule_broken_by_space (operand_of o.now))
         (space_item (operand_of o.now) ∷ []))
@@ -335,8 +336,8 @@ fn read_space_operand<'a>(o: &Operand<'a>, items: &mut Vec<Item<'a>>) -> Result<
     add_item(rule_broken_by_space(o), space_item(o), items)
 }
 
-/// Returns the item that the line of an instruction adds to its source: its row, its fields, and
-/// its symbol, if it has one.
+/// Returns the item of an instruction of this row of the instruction table, with the fields and the
+/// symbol, if any, that are `found`.
 fn code_item<'a>(row: u8, found: &RowFields<'a>) -> Item<'a>
     ensures { item_of result ≡ code row found.now.fields (reference_if_any found.now.reference) }
 {
@@ -358,7 +359,7 @@ fn instruction_size(name: &[u8]) -> u32
     }
 }
 
-// Adds the label that these tokens begin with, if there is one. Their line breaks rule 1.
+// Adds the label that begins these tokens, if any; returns rule 1: their line has a bad token.
 #[tactic(auto, unfolding(crate::specs::Lines::label_of))]
 fn add_label_before_fault<'a>(ps: &[Piece<'a>], items: &mut Vec<Item<'a>>) -> Result<u8, AllocError>
     ensures { GivesRuleAndAddsItems (line_data bad_token
@@ -372,7 +373,7 @@ fn add_label_before_fault<'a>(ps: &[Piece<'a>], items: &mut Vec<Item<'a>>) -> Re
     }
 }
 
-// Adds the label of a line that breaks rule 1.
+// Adds the label of a line with a bad token, and returns rule 1, which such a line breaks.
 fn add_label_of_bad_line<'a>(name: &'a [u8], items: &mut Vec<Item<'a>>) -> Result<u8, AllocError>
     ensures { GivesRuleAndAddsItems (line_data bad_token
         (label name.entry.now ∷ [])) result items.old.items items.new.items }

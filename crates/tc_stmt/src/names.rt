@@ -20,8 +20,8 @@ pub fn is_source_name(bytes: &[u8]) -> bool
         && !is_same_text(bytes, ".")
 }
 
-/// Returns the least rule that an operand's symbol breaks in every place, by its name or by a wide
-/// number added to it, or `NO_RULE`.
+/// Returns rule 5 if an operand adds 2^32 or more to its symbol, rule 9 if the symbol's name is
+/// bad, else `NO_RULE`.
 #[tactic(auto, unfolding(crate::specs::Names::rule_broken_by_symbol))]
 pub fn rule_broken_by_symbol(v: &Value<'_>) -> u8
     ensures value { result ≡ rule_broken_by_symbol (value_of v.now) }

@@ -30,8 +30,8 @@ pub struct Reference<'a> {
     pub minus: bool,
 }
 
-/// Returns a reference of this kind, as a row's fields keep one: to the symbol of this name, with
-/// the number that is added to its address or subtracted from it.
+/// Returns a reference of this kind to the symbol of this name. The number `size` is added to its
+/// address, or subtracted if `minus`.
 pub fn reference_to(kind: u8, name: &[u8], minus: bool, size: u32) -> Reference<'_>
     ensures { reference_of result ≡ reference_to kind name.now minus size }
 {
@@ -72,14 +72,14 @@ pub(crate) fn zero_fields<'a>() -> RowFields<'a>
     }
 }
 
-/// Notes among a row's fields that an operand breaks a rule. The least rule counts.
+/// Notes in `acc`, a row's fields so far, that an operand breaks a rule. The lowest number counts.
 pub(crate) fn note_broken_rule(rule: u8, acc: &mut RowFields<'_>)
     ensures { row_fields_of acc.new ≡ with_rule rule (row_fields_of acc.old) }
 {
     acc.rule = acc.rule.min(rule);
 }
 
-/// Sets one of a row's fields to the value from an operand; all but `k` are bytes.
+/// Sets one of a row's fields to the value `v` from an operand, modulo 256 in all fields but `k`.
 #[tactic(auto, unfolding(crate::specs::RowFields::set_field))]
 pub(crate) fn set_field(field: Field, v: u32, f: &mut Fields)
     ensures { f.new ≡ set_field field v f.old }
@@ -107,15 +107,15 @@ pub fn field_of(field: Field, f: &Fields) -> u32
     }
 }
 
-/// Fills one of a row's fields with a value, modulo 256 in all fields but `k`.
+/// Sets one of the fields `acc` of a row to the value `v`, modulo 256 in all fields but `k`.
 pub(crate) fn fill_field(field: Field, v: u32, acc: &mut RowFields<'_>)
     ensures { row_fields_of acc.new ≡ with_field_value field v (row_fields_of acc.old) }
 {
     set_field(field, v, &mut acc.fields);
 }
 
-/// Notes among a row's fields an operand's symbol, with the `kind` of its relocation (0 for none),
-/// or the rule that the symbol breaks.
+/// Notes in `acc`, a row's fields so far, the symbol of an operand's value `v`, with the `kind` of
+/// its relocation (0 for none). If the symbol breaks a rule, that rule is noted.
 #[tactic(auto, unfolding(crate::specs::Filling::with_symbol))]
 pub(crate) fn note_symbol<'a>(kind: u8, v: &Value<'a>, acc: &mut RowFields<'a>)
     ensures { row_fields_of acc.new
@@ -134,14 +134,15 @@ pub(crate) fn note_symbol<'a>(kind: u8, v: &Value<'a>, acc: &mut RowFields<'a>)
     });
 }
 
-/// Notes among a row's fields that an operand has a symbol in a place that takes none.
+/// Notes in `acc` that an operand's value `v` has a symbol in a place that takes none.
 pub(crate) fn note_misplaced_symbol(v: &Value<'_>, acc: &mut RowFields<'_>)
     ensures { row_fields_of acc.new ≡ with_misplaced_symbol (value_of v.now) (row_fields_of acc.old) }
 {
     note_broken_rule(MISPLACED_SYMBOL.min(rule_broken_by_symbol(v)), acc);
 }
 
-/// Notes that rule 12 is broken, if the row's registers must differ and are equal.
+/// Notes in `f` that rule 12 is broken if the row's post-increment uses one address register as
+/// both base and operand.
 pub(crate) fn note_equal_registers(row: &Row, f: &mut RowFields<'_>)
     ensures { row_fields_of f.new ≡ note_equal_registers (row_of row.now) (row_fields_of f.old) }
 {

@@ -171,8 +171,8 @@ static NEXT: [u8; ROW_COUNT] = [
     142, // st16.a [As2], As1
 ];
 
-/// Returns the index in which a statement's name is looked up: for each key, the number of the
-/// first row whose name has it.
+/// Returns the number of the first instruction table row for each key, a hash of names. Without
+/// such a row, the entry is the number of rows.
 #[tactic(auto, unfolding(crate::specs::RowIndex::name_key))]
 pub(crate) fn first_rows_by_key() -> &'static [u8]
     ensures { IsFirstRowIndex table_rows result.now }
@@ -180,8 +180,8 @@ pub(crate) fn first_rows_by_key() -> &'static [u8]
     &FIRST
 }
 
-/// Returns for each row the number of the next row whose name has the same key, so that the search
-/// for a statement's row skips those between.
+/// Returns for each row of the instruction table the number of the next row whose name has the same
+/// key, a hash. Without such a row, the entry is the number of rows.
 #[tactic(auto, unfolding(crate::specs::RowIndex::name_key))]
 pub(crate) fn next_rows_by_key() -> &'static [u8]
     ensures { IsNextRowIndex table_rows result.now }
@@ -189,8 +189,8 @@ pub(crate) fn next_rows_by_key() -> &'static [u8]
     &NEXT
 }
 
-/// The first row to try in the search for a statement's row: no earlier row has the key of this
-/// name.
+/// Returns the number of the first row of the instruction table that may have this name: no earlier
+/// name has the same key, a hash. `first` is the index by keys.
 pub(crate) fn first_row_to_try(first: &[u8], name: &[u8]) -> usize
     ensures { (rows : List RowData) → IsFirstRowIndex rows first.now
         → are_first_without_key result (name_key name.now) rows ≡ true }
@@ -203,8 +203,8 @@ pub(crate) fn first_row_to_try(first: &[u8], name: &[u8]) -> usize
     }
 }
 
-/// The row to try after row `i` in the search for a statement's row: no row between them has the
-/// key of this name.
+/// Returns the number of the next row after row `i` that may have this name: no name between has
+/// the same key, a hash. `next` is the index by keys.
 pub(crate) fn next_row_to_try(rows: &[Row], next: &[u8], i: usize, name: &[u8]) -> usize
     requires place { i < length rows.now }
     requires next { IsNextRowIndex (map row_of rows.now) next.now }
@@ -219,21 +219,21 @@ pub(crate) fn next_row_to_try(rows: &[Row], next: &[u8], i: usize, name: &[u8]) 
     }
 }
 
-/// The first of these rows that has this name.
+/// The first of these rows that has this name, or `None` if there is none.
 pub(crate) fn find_row_by_name<'a>(rows: &'a [Row], name: &[u8]) -> Option<&'a Row>
     ensures { option_map (λ r. r.now) result ≡ find (λ r. bytes_eq r.name.now name.now) rows.now }
 {
     rows.iter().find(|r| r.name.as_bytes() == name)
 }
 
-// The first row of the instruction table with this name, if an instruction has it.
+// The first row of the instruction table with this name, or `None` if no instruction has the name.
 pub(crate) fn row_of_name(name: &[u8]) -> Option<&'static Row>
     ensures { option_map (λ r. row_of r.now) result ≡ row_of_name name.now }
 {
     find_row_by_name(rows(), name)
 }
 
-/// The key of a row's name, below 256: few names of rows share one.
+/// The key of a row's name, a hash below 256: few names share one.
 #[tactic(auto, unfolding(crate::specs::RowIndex::name_key))]
 fn name_key(name: &[u8]) -> usize
     ensures { result ≡ name_key name.now }
@@ -254,7 +254,7 @@ fn name_byte_at(text: &[u8], i: usize) -> usize
     }
 }
 
-/// Whether the row's name has the key of this name.
+/// Whether the name of this row of the instruction table has the same key as this name.
 fn has_same_name_key(row: &Row, name: &[u8]) -> bool
     ensures { result ≡ (name_key (row_of row.now).name == name_key name.now) }
 {

@@ -357,7 +357,7 @@ pub static WANTS: [&[Want]; ROW_COUNT] = [
     &[Want::Memory(false, false), Want::Reg(true, Field::S1)], // st16.a [As2], As1
 ];
 
-/// The operands that each row wants, in the order of the rows.
+/// The kinds of operands that each row of the instruction table takes, in the order of the rows.
 #[tactic(auto, unfolding(crate::specs::Wants::wants_of, crate::specs::Wants::want_of))]
 pub fn wants() -> &'static [&'static [Want]]
     ensures { map row_wants_now result.now ≡ map wants_of table_rows }

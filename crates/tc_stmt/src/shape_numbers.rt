@@ -28,7 +28,7 @@ const BAD: u8 = 6;
 /// A number of 2^128 or more.
 pub(crate) const HUGE: u8 = 7;
 
-/// A number for each form of values, so that forms can be compared.
+/// A number for each form of an operand's value, so that forms can be compared.
 #[tactic(auto, unfolding(crate::specs::OperandForms::shape_index))]
 pub fn shape_index(shape: Shape) -> u8
     ensures { result ≡ shape_index shape }

@@ -29,7 +29,8 @@ pub struct Source<'a> {
     pub items: Vec<Item<'a>>,
 }
 
-/// Reads each line of a source. Line feeds separate the lines.
+/// Parses an assembler source into its items: labels, directives, instructions and data. Each line
+/// has its number of items and the rule that the line breaks by itself.
 pub fn read_source<'a>(alloc: Global, source: &'a [u8]) -> Result<Source<'a>, AllocError>
     ensures lines { IfOk result (λ s. source_lines s ≡ lines_in source.now) }
     ensures items { IfOk result (λ s. map item_of s.items.items ≡ items_in (lines_in source.now)) }
@@ -48,7 +49,7 @@ pub fn read_source<'a>(alloc: Global, source: &'a [u8]) -> Result<Source<'a>, Al
     Ok(Source { lines, items })
 }
 
-// The place of the first line feed in the rest of a source, or `None` if there is none.
+// The index of the first line feed in the rest of a source, or `None` if there is none.
 #[inline(always)]
 #[tactic(auto, using(crate::proofs::Feeds::first_byte))]
 fn next_line_feed(rest: &[u8]) -> Option<usize>
@@ -61,7 +62,7 @@ fn next_line_feed(rest: &[u8]) -> Option<usize>
     memchr(b'\n', rest)
 }
 
-/// The line of the source before the line feed at `i`.
+/// The line at the start of the rest of a source, up to the line feed at `i`.
 fn line_before_feed(rest: &[u8], i: usize) -> &[u8]
     requires { i ≤ length rest.now }
     ensures { result.now ≡ take i rest.now }
@@ -69,8 +70,8 @@ fn line_before_feed(rest: &[u8], i: usize) -> &[u8]
     &rest[..i]
 }
 
-// Reads the next line of a source, and adds the line and its items to the lists. Two other lists
-// are scratch space.
+// Reads the next line of a source, and adds the line to `lines` and what it contains to `items`.
+// `pieces` and `operands` are scratch space.
 #[inline(always)]
 fn add_source_line<'a>(
     line: &'a [u8],

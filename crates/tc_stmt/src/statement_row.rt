@@ -19,16 +19,16 @@ use crate::want::Want;
 use tc_isa::{Row, rows};
 use tc_lex::{Operand, are_same_bytes};
 
-/// Returns the number of the first row that the statement fits, with its fields, or the least rule
-/// that the statement breaks.
+/// Finds the first row of the instruction table that a statement fits, by its name and operands
+/// `os`: the row's number and filled fields. The error is the lowest-numbered source rule broken.
 pub fn row_of_statement<'a>(name: &[u8], os: &[Operand<'a>]) -> Result<(u8, RowFields<'a>), u8>
     ensures { GivesStatementOutcome result (row_of_statement name.now (map operand_of os.now)) }
 {
     search_statement_row(rows(), wants(), first_rows_by_key(), next_rows_by_key(), name, os)
 }
 
-/// Searches the instruction table for a statement's row: returns the row with its fields, or the
-/// least rule broken. Only rows with the name's key are visited.
+/// Finds the first row that the statement `name` with operands `os` fits, by the index `first` and
+/// `next` and the rows' operand kinds `wants`. The error is the lowest-numbered source rule broken.
 fn search_statement_row<'a>(
     rows: &[Row],
     wants: &[&[Want]],
@@ -61,8 +61,8 @@ fn search_statement_row<'a>(
     Err(rule_broken_by_statement(so_far))
 }
 
-/// Tries a row for a statement: fills the row's fields if the statement fits, else returns the
-/// tally of the rows tried.
+/// Matches the statement `name` with operands `os` against one row of the instruction table. Fills
+/// `found` on success; the error is `so_far` with this row's mismatch noted.
 #[tactic(auto, unfolding(crate::specs::StatementRow::row_outcome))]
 fn try_statement_row<'a>(
     row: &Row,
@@ -83,8 +83,8 @@ fn try_statement_row<'a>(
     }
 }
 
-// Tries a row that has the statement's name: fills its fields if the operands fit, else returns the
-// tally of the rows tried.
+// Matches the operands `os` against a table row that has the statement's name. Fills `found` on
+// success; the error is `so_far` with this row's mismatch noted.
 #[inline(never)]
 #[tactic(auto, unfolding(crate::specs::StatementRow::row_outcome))]
 fn try_row_of_name<'a>(
@@ -117,7 +117,7 @@ fn try_row_of_name<'a>(
     }
 }
 
-// Fills the fields of a row. Returns false if the operands have other forms than the row wants.
+// Fills `found` from the operands `os`. Returns false if their forms aren't those the row wants.
 #[tactic(auto, unfolding(crate::specs::Filling::fields_of_row))]
 fn fill_statement_row<'a>(
     row: &Row,

@@ -10,6 +10,8 @@ use tcd_real::{RealFiles, Stdout};
 #[cfg(test)]
 mod tests;
 
+/// Runs the tool on the program's arguments, and exits with the number of its status. Arguments
+/// that can't be read are a fault, or out of memory.
 fn main(rt: HostRuntime) -> ExitCode {
     match program_args(&rt) {
         Ok(words) => ExitCode::from(tool_exit_status(&rt, &words)),
@@ -20,7 +22,8 @@ fn main(rt: HostRuntime) -> ExitCode {
     }
 }
 
-// The arguments after the program's name.
+// Returns the program's arguments without the program's own name. An error means that they can't be
+// read, or that memory ran out.
 fn program_args<R: env::Env + AllocGlobal>(rt: &R) -> io::Result<Vec<String>> {
     let mut words = Vec::new(rt.alloc());
     for (i, word) in env::args(rt)?.enumerate() {
@@ -31,7 +34,8 @@ fn program_args<R: env::Env + AllocGlobal>(rt: &R) -> io::Result<Vec<String>> {
     Ok(words)
 }
 
-// The exit status for these arguments, over the system's files and standard output.
+// Runs the tool on these arguments, over the system's files and standard output, and returns the
+// exit status.
 fn tool_exit_status<R: rt::Files + Print + AllocGlobal>(rt: &R, words: &[String]) -> u8 {
     let mut files = RealFiles { rt, failed: 0 };
     let mut out = Stdout { rt, failed: 0 };

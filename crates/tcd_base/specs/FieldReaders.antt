@@ -43,7 +43,8 @@ abbrev pub IsFieldRead : {A : Type 0} → Result A FormErr → Place → Result 
 IsFieldRead (Ok x) after read = read ≡ Ok (x, after)
 IsFieldRead (Err e) after read = read ≡ Err e
 
--- a reader of fields: its answer is as defined, and the cursor keeps its bytes
+-- the result, and the cursor after, are what the definition `reader` gives at the cursor before;
+-- the cursor keeps its bytes
 pub record ReadsField {A : Type 0} (result : Result A FormErr) (before after : Place) (reader : Place → Result (A × Place) FormErr) : Type 0 where
   pub read : IsFieldRead result after (reader before)
   pub bytes : after.bytes ≡ before.bytes

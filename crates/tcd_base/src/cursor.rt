@@ -30,7 +30,7 @@ impl<'a> Cursor<'a> {
         Cursor { bytes, place: 0 }
     }
 
-    /// Returns the number of bytes taken so far.
+    /// Returns the byte offset of the cursor: the number of bytes taken so far.
     pub fn place(&self) -> usize
         ensures place { result ≡ self.now.place }
         ensures within { result ≤ length self.now.bytes }

@@ -33,7 +33,7 @@ impl<'a> FileCursor<'a> {
         }
     }
 
-    /// Returns the number of bytes taken so far.
+    /// Returns the byte offset of the cursor in the file: the number of bytes taken so far.
     pub fn place(&self) -> usize
         ensures place { result ≡ self.now.place }
         ensures within { result ≤ length self.now.bytes }
@@ -42,7 +42,7 @@ impl<'a> FileCursor<'a> {
         self.cursor.place()
     }
 
-    /// Takes the next `n` bytes, as `Cursor::take` does.
+    /// Takes the next `n` bytes. If fewer are left, the answer is `None`, and nothing moves.
     pub fn take(&mut self, n: usize) -> Option<&'a [u8]>
         ensures there { IsSome result ↔ (self.old.place + n ≤ length self.old.bytes) }
         ensures some { IfSome result (λ r. r.now ≡ take n (drop self.old.place self.old.bytes)) }

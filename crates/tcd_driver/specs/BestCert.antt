@@ -30,7 +30,8 @@ pub record IsAcceptedBestCert (image : ImageData) (plan : PlanData) (cert : Cert
   pub accepted : Accepts image plan cert
   pub safe : Safe image plan (certified_need image plan cert)
 
--- no certificate of either format is accepted, and this is why none of format 2 is
+-- no certificate of either format is accepted, and none of format 2 is since this rule fails, in
+-- this frame at this address
 pub record HasNoAcceptedCert (image : ImageData) (plan : PlanData) (rule : ℕ) (key : Key) (addr : ℕ) : Type 0 where
   pub first : IsNoCertAccepted image plan 1
   pub second : IsNoCertAccepted image plan 2

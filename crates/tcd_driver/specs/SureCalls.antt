@@ -33,8 +33,9 @@ pub record HasRoomForEnds (call : ToolCall) (before : FileMap) (IfDone IfRefused
   pub refused : (after : FileMap) (text : List ℕ) → IfRefused after text → length text ≤ room
   pub bad_input : (after : FileMap) (text : List ℕ) → IfBad after text → length text ≤ room
 
--- If the tool keeps a command's promise, the status of a call is one of three, each exactly if it
--- can be. The files hold all that is asked of, with room.
+-- If a call keeps the command's promise, its status is one of three, each exactly if the call can
+-- end so. Its files are steady and hold all that is asked of, its sink has room, and memory
+-- suffices.
 abbrev pub StatusesAreDecided : (FileMap → FileMap → List ℕ → Type 0) → (FileMap → FileMap → List ℕ → Type 0) → Type 0
 StatusesAreDecided IfDone IfRefused =
     (call : ToolCall) (words : List (List ℕ)) (asks : List InputRequirement) (before : FileMap)

@@ -30,12 +30,12 @@ impl<'a> Form for CellsFile<'a> {
         LIMIT
     }
 
-    /// Returns the line that is printed for a file of cells above this limit, or no memory.
+    /// Copies the line that is printed for a file of cells above the size limit.
     fn too_long_line(&self, alloc: Global) -> Result<Vec<u8>, NoMemory> {
         copy_printed_line(alloc, cells_too_long_line())
     }
 
-    /// Reads the cells in these bytes. `Err` has the line on a fault, or no memory.
+    /// Reads cells, words of RAM with bounds. `Err` has the line on a fault, or no memory.
     fn parse(&self, alloc: Global, bytes: Vec<u8>) -> Result<Cells, Stop> {
         match Cells::read(&bytes, self.plan) {
             Ok(cells) => Ok(cells),
@@ -66,7 +66,7 @@ impl<'a> Form for TasksFile<'a> {
         LIMIT
     }
 
-    /// Returns the line that is printed for a file of tasks above this limit, or no memory.
+    /// Copies the line that is printed for a file of tasks above the size limit.
     fn too_long_line(&self, alloc: Global) -> Result<Vec<u8>, NoMemory> {
         copy_printed_line(alloc, tasks_too_long_line())
     }

@@ -12,8 +12,8 @@ use tcd_forms::refused_line;
 use tcd_plan::Plan;
 use tcd_reading::{Outcome, Report, Status, Stop};
 
-/// Makes and checks the least certificate of format `version`, 1 or 2. Returns the certificate with
-/// its need, or why none of this format is accepted.
+/// Makes and checks the least certificate of format `version`, 1 or 2. Returns the certificate and
+/// how many CSAs it proves enough, or why none of this format is accepted.
 pub(crate) fn make_least_cert(
     alloc: Global,
     image: &Image,
@@ -33,7 +33,7 @@ pub(crate) fn make_least_cert(
 }
 
 /// Makes and checks the least certificate of format 1, or of format 2 if none of format 1 is
-/// accepted. Returns the certificate with its need, or why none of format 2 is accepted.
+/// accepted. Returns the certificate and how many CSAs are enough, or why there is none.
 pub(crate) fn make_best_cert(
     alloc: Global,
     image: &Image,
@@ -48,8 +48,8 @@ pub(crate) fn make_best_cert(
     }
 }
 
-/// Returns the outcome of a maker's error: a refusal with the rule that fails first, its address
-/// and its frame, or no memory.
+/// Returns the outcome if no certificate can be made: a refusal with the first rule that fails, its
+/// address and frame, or out of memory.
 pub(crate) fn report_no_cert(alloc: Global, e: MakeErr) -> Outcome
     ensures { IsReportOrNoMemory (IsNoCertReport e) result }
 {

@@ -407,8 +407,8 @@ fn gen_count_in_range(n: u32) -> Option<u32>
     }
 }
 
-// Returns the command `boot` with these arguments, or `None` if the address isn't eight upper-case
-// hex digits.
+// Returns the command `boot` for a boot sequence at `at`, with these file names. `None` if `at`
+// isn't eight upper-case hex digits.
 fn boot_command<'a>(elf: &'a str, plan: &'a str, cert: &'a str, at: &str) -> Option<Command<'a>>
     ensures is { option_map plain_command result
         ≡ boot_command_of elf.now plan.now cert.now at.now }
@@ -445,8 +445,9 @@ fn bootgen_command<'a>(plan: &'a str, entry: &str, at: &str, source: &'a str) ->
 }
 
 impl<'a> Command<'a> {
-    /// Runs the `Command` that arguments ask for: reads its inputs, and returns its outcome. No
-    /// command is inlined here, so that the stack has the locals of one command only.
+    /// Runs a command: reads its inputs, and returns a report with what to print and to write, or
+    /// why there is none. No command is inlined here, so that the stack has the locals of one
+    /// command only.
     pub(crate) fn outcome<F: Files>(self, alloc: Global, files: &mut F) -> Outcome
         requires { CommandKeepsLimits self }
         ensures { IsCommandOutcome (reading_of (plain_command self.entry)) (F.seen files.old)

@@ -7,8 +7,8 @@ ghost use Rattle.tcd_driver.specs.DistinctNames.{are_distinct_names};
 use std::alloc::{AllocError, Global};
 use std::collections::HashMap;
 
-/// Returns true if no two of these file names are equal. A map finds them; if there is no memory
-/// for it, each pair is compared.
+/// Returns true if no two of these file names are equal. Compares each pair if there is no memory
+/// for a map of the names.
 pub(crate) fn are_distinct_names(alloc: Global, names: &[String]) -> bool
     ensures { result ≡ are_distinct_names (map string_bytes names.now) }
 {
@@ -18,7 +18,8 @@ pub(crate) fn are_distinct_names(alloc: Global, names: &[String]) -> bool
     }
 }
 
-// Whether no name is there twice, by a map of the names before each.
+// Returns true if no two of these file names are equal, by a hash map of the names seen so far. An
+// error means that memory ran out.
 fn are_distinct_by_map(alloc: Global, names: &[String]) -> Result<bool, AllocError>
     ensures { IfOk result (λ distinct. distinct ≡ are_distinct_names (map string_bytes names.now)) }
 {
@@ -34,7 +35,8 @@ fn are_distinct_by_map(alloc: Global, names: &[String]) -> Result<bool, AllocErr
     Ok(true)
 }
 
-// Whether no name is there twice, by comparing each pair.
+// Returns true if no two of these file names are equal, by comparing each pair, which takes no
+// memory.
 fn are_distinct_in_pairs(names: &[String]) -> bool
     ensures { result ≡ are_distinct_names (map string_bytes names.now) }
 {
@@ -48,7 +50,7 @@ fn are_distinct_in_pairs(names: &[String]) -> bool
     true
 }
 
-// Whether a name is one of the others.
+// Returns true if a file name is among the others.
 fn is_one_of_names(name: &str, others: &[String]) -> bool
     ensures { result ≡ list_any (bytes_eq name.now) (map string_bytes others.now) }
 {

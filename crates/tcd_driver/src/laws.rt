@@ -20,8 +20,8 @@ impl AnyEnds for Brand {
     ghost IfRefused = { NeverRefuses };
 }
 
-/// A command with the ends `C` is done, refuses, or finds bad input, if its files are steady and
-/// present, with room and memory.
+/// Guards `CommandSays`, a command's promise: if no file, output or allocation fails, a call ends
+/// Done, Refused or BadInput, whichever the input files allow. `C` defines the first two.
 pub fn decided_status_law<C: AnyEnds>()
     ensures { StatusesAreDecided C.IfDone C.IfRefused }
 {}

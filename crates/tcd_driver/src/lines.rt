@@ -34,8 +34,8 @@ pub(crate) fn refused_boot_line(alloc: Global, e: BootErr) -> Result<Vec<u8>, No
     }
 }
 
-/// Returns the printed line on a file that isn't in the form of cells: the number of the fault, and
-/// its line.
+/// Returns the line `bad cells N at L`, printed on a malformed file of cells, words of RAM with
+/// bounds. Line L of the file has fault N, 1 to 4.
 #[tactic(auto, unfolding(crate::specs::BadInputLines::bad_cells_line, tcd_forms::specs::Lines::line_end_with_number))]
 pub(crate) fn bad_cells_line(alloc: Global, e: CellsErr) -> Result<Vec<u8>, NoMemory>
     ensures { IfOk result (λ line. line.items ≡ bad_cells_line e) }
@@ -48,8 +48,8 @@ pub(crate) fn bad_cells_line(alloc: Global, e: CellsErr) -> Result<Vec<u8>, NoMe
     }
 }
 
-/// Returns the printed line on a file that isn't in the form of tasks: the number of the fault, and
-/// for the first two its line.
+/// Returns the line `bad tasks N`, printed on a malformed file of tasks or a wrong number of
+/// certificates. Faults 1 and 2 add `at` and the file's line.
 #[tactic(auto, unfolding(crate::specs::BadInputLines::bad_tasks_line, tcd_forms::specs::Lines::line_end_with_number))]
 pub(crate) fn bad_tasks_line(alloc: Global, e: TasksErr) -> Result<Vec<u8>, NoMemory>
     ensures { IfOk result (λ line. line.items ≡ bad_tasks_line e) }
@@ -65,7 +65,7 @@ pub(crate) fn bad_tasks_line(alloc: Global, e: TasksErr) -> Result<Vec<u8>, NoMe
     }
 }
 
-// Returns the line `refused boot 4 at ADDR`: the byte at `addr` is the first that differs.
+// Returns the line `refused boot 4 at ADDR`: at `addr` the image first differs from the sequence.
 #[tactic(auto, unfolding(crate::specs::Boot::refused_boot_line))]
 pub(crate) fn boot_difference_line(alloc: Global, addr: u32) -> Result<Vec<u8>, NoMemory>
     ensures { IfOk result (λ line. line.items ≡ refused_boot_line (BootErr.Differs addr)) }

@@ -85,7 +85,8 @@ pub fn tasks_too_long_line() -> &'static [u8]
     b"bad tasks 0\n"
 }
 
-/// Returns the printed line on why a file is no executable. An error means that memory ran out.
+/// Returns the printed line on why a file is no executable: the number of the fault, 1 to 7. An
+/// error means that memory ran out.
 #[tactic(auto, unfolding(crate::specs::Lines::bad_elf_line, crate::specs::Lines::line_end_with_number, crate::specs::Lines::line_end_with_two_numbers))]
 pub fn bad_elf_line(alloc: Global, e: ImageErr) -> Result<Vec<u8>, NoMemory>
     ensures line { IfOk result (λ line. line.items ≡ bad_elf_line e) }
@@ -103,7 +104,8 @@ pub fn bad_elf_line(alloc: Global, e: ImageErr) -> Result<Vec<u8>, NoMemory>
     }
 }
 
-/// Returns the printed line on why a file is no plan. An error means that memory ran out.
+/// Returns the printed line on why a file is no plan: the number of the fault, 1 to 8, and the
+/// fault's key, if any. An error means that memory ran out.
 #[tactic(auto, unfolding(crate::specs::Lines::bad_plan_line, crate::specs::Lines::line_end_with_two_numbers))]
 pub fn bad_plan_line(alloc: Global, e: PlanErr) -> Result<Vec<u8>, NoMemory>
     requires { HasPrintedKey e }
@@ -149,8 +151,8 @@ pub fn bad_script_line(alloc: Global, e: ScriptErr) -> Result<Vec<u8>, NoMemory>
     }
 }
 
-/// Returns the printed line on a source that breaks a rule. `place` is its number among the files,
-/// from 0; `rule` is the least one broken in `line`, the first bad line.
+/// Returns the line printed on a source that can't be assembled. `place` is its number among the
+/// sources, from 0; `rule` is the assembler's rule that `line`, the first bad line, breaks.
 #[tactic(auto, unfolding(crate::specs::Lines::bad_source_line, crate::specs::Lines::line_end_with_two_numbers))]
 pub fn bad_source_line(alloc: Global, place: u32, rule: u8, line: u32) -> Result<Vec<u8>, NoMemory>
     ensures { IfOk result (λ text. text.items ≡ bad_source_line place rule line) }
@@ -229,8 +231,8 @@ pub fn bad_link_line(alloc: Global, e: LinkErr) -> Result<Vec<u8>, NoMemory>
     }
 }
 
-// Returns the printed line on why a file is no plan, if it names a key: the start of the line, then
-// the key.
+// Returns the line printed on a malformed plan, for a fault at a JSON key: `front`, the start of
+// the line, then the key.
 #[tactic(auto, unfolding(crate::specs::Lines::line_end_with_key))]
 fn bad_plan_key_line(alloc: Global, front: &str, key: PlanKey) -> Result<Vec<u8>, NoMemory>
     requires { key.0 < length key_texts }
@@ -240,7 +242,8 @@ fn bad_plan_key_line(alloc: Global, front: &str, key: PlanKey) -> Result<Vec<u8>
     Ok(format!(in alloc; "{front} key {text}\n")?.into_bytes())
 }
 
-// Returns the printed line on why objects can't be linked, if it names a symbol or a section.
+// Returns the printed line on why objects can't be linked: `front`, the start of the line, then the
+// name of a symbol or a section.
 #[tactic(auto, unfolding(crate::specs::Lines::line_end_with_name))]
 fn bad_link_name_line(alloc: Global, front: &str, name: &str) -> Result<Vec<u8>, NoMemory>
     ensures { IfOk result (λ line. line.items ≡ front.now ++ line_end_with_name name.now) }

@@ -43,7 +43,7 @@ impl Form for ElfFile {
         LIMIT
     }
 
-    /// Returns the line that is printed for an executable above this limit, or no memory.
+    /// Copies the line that is printed for an executable above the size limit.
     fn too_long_line(&self, alloc: Global) -> Result<Vec<u8>, NoMemory> {
         copy_printed_line(alloc, elf_too_long_line())
     }
@@ -75,7 +75,7 @@ impl Form for PlanFile {
         LIMIT
     }
 
-    /// Returns the line that is printed for a plan above this limit, or no memory.
+    /// Copies the line that is printed for a plan above the size limit.
     fn too_long_line(&self, alloc: Global) -> Result<Vec<u8>, NoMemory> {
         copy_printed_line(alloc, plan_too_long_line())
     }
@@ -107,7 +107,7 @@ impl Form for CertFile {
         CERT_LIMIT
     }
 
-    /// Returns the line that is printed for a certificate above this limit, or no memory.
+    /// Copies the line that is printed for a certificate above the size limit.
     fn too_long_line(&self, alloc: Global) -> Result<Vec<u8>, NoMemory> {
         copy_printed_line(alloc, cert_too_long_line())
     }
@@ -144,7 +144,7 @@ impl<'a> Form for ScriptFile<'a> {
         LIMIT
     }
 
-    /// Returns the line that is printed for a turn script above this limit, or no memory.
+    /// Copies the line that is printed for a turn script above the size limit.
     fn too_long_line(&self, alloc: Global) -> Result<Vec<u8>, NoMemory> {
         copy_printed_line(alloc, script_too_long_line())
     }
@@ -176,7 +176,7 @@ impl Form for SourceFile {
         LIMIT
     }
 
-    /// Returns the line that is printed for a source above this limit, or no memory.
+    /// Returns the line that is printed for a source above the size limit.
     fn too_long_line(&self, alloc: Global) -> Result<Vec<u8>, NoMemory> {
         source_too_long_line(alloc, 0)
     }
@@ -233,7 +233,7 @@ impl Form for PlacedSourceFile {
         LIMIT
     }
 
-    /// Returns the line that is printed for a source above this limit, or no memory.
+    /// Returns the line for a source above the size limit, with its number among the sources.
     fn too_long_line(&self, alloc: Global) -> Result<Vec<u8>, NoMemory> {
         source_too_long_line(alloc, self.place)
     }
@@ -271,7 +271,7 @@ impl Form for LayoutFile {
         LIMIT
     }
 
-    /// Returns the line that is printed for a layout above this limit, or no memory.
+    /// Copies the line that is printed for a layout above the size limit.
     fn too_long_line(&self, alloc: Global) -> Result<Vec<u8>, NoMemory> {
         copy_printed_line(alloc, layout_too_long_line())
     }
@@ -308,7 +308,7 @@ impl<'a> Form for ObjectFile<'a> {
         LIMIT
     }
 
-    /// Returns the line that is printed for an object above this limit, or no memory.
+    /// Returns the line for an object above the size limit, with its number among the objects.
     fn too_long_line(&self, alloc: Global) -> Result<Vec<u8>, NoMemory> {
         object_too_long_line(alloc, self.place)
     }

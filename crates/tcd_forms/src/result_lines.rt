@@ -30,8 +30,8 @@ pub fn bootgen_line() -> &'static [u8]
     b"boot 56 instructions\n"
 }
 
-/// Returns the printed line on certified cells: the needed CSAs, those of the plan without its
-/// reserve, and the number of cells in their bounds.
+/// Returns the line printed if cells, words of RAM, stay in their bounds: the needed CSAs, the
+/// plan's without its reserve, and how many cells.
 #[tactic(auto, unfolding(crate::specs::Lines::certified_cells_line))]
 pub fn certified_cells_line(
     alloc: Global,
@@ -129,7 +129,8 @@ pub fn linked_image_line(alloc: Global, bytes: &[u8]) -> Result<Vec<u8>, NoMemor
     Ok(format!(in alloc; "image {size} bytes\n")?.into_bytes())
 }
 
-/// Returns the printed line on a rule of certificates that fails, with the address and the frame.
+/// Returns the printed line on a rule of certificates that fails, with the address and `key`, which
+/// names the frame.
 #[tactic(auto, unfolding(crate::specs::Lines::refused_line, crate::specs::Lines::line_end_with_frame))]
 pub fn refused_line(alloc: Global, rule: u8, key: Key, addr: u32) -> Result<Vec<u8>, NoMemory>
     ensures { IfOk result (λ line. line.items ≡ refused_line rule key addr) }
@@ -158,8 +159,8 @@ pub fn refused_switch_line(alloc: Global, addr: u32) -> Result<Vec<u8>, NoMemory
     Ok(line)
 }
 
-/// Returns the printed line on a rule that fails in a task's certificate, with the address, the
-/// frame and the number of the task.
+/// Returns the printed line on a rule that fails in the certificate of task `u`, with the address
+/// and `key`, which names the frame.
 #[tactic(auto, unfolding(crate::specs::Lines::line_with_task))]
 pub fn refused_task_line(
     alloc: Global,

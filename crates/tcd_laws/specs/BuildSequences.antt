@@ -67,14 +67,14 @@ pub record IsBuildPart (held : Option FileMap) (p : BuildPartData) : Type 0 wher
   pub source : HoldsInput source_form held (p.names).source p.object
   pub short : length (bytes_of_object p.object) ≤ 2 ^ 24
 
--- no object goes to the name of another, of a source or of the layout
+-- no object of a build has the name of another object, of a source or of the layout
 pub record HasDistinctNames (b : BuildData) : Type 0 where
   pub different : are_distinct_names (object_names b.parts) ≡ true
   pub sources : All (λ p. All (λ q. (p.names).object ≢ (q.names).source) b.parts) b.parts
   pub layout : All (λ p. (p.names).object ≢ b.layout) b.parts
 
--- The sources and the layout are held, the objects can be linked by the layout, and their image
--- isn't longer than what `dis` reads.
+-- The sources and the layout of a build are held, and the objects can be linked by the layout.
+-- Their image isn't longer than what `dis` reads.
 pub record IsBuild (held : Option FileMap) (b : BuildData) : Type 0 where
   pub parts : All (IsBuildPart held) b.parts
   pub apart : HasDistinctNames b
@@ -83,11 +83,12 @@ pub record IsBuild (held : Option FileMap) (b : BuildData) : Type 0 where
   pub short : length (elf_file b.image) ≤ 2 ^ 24
 
 -- ---- the laws
--- each command of a build has what it reads, and its report is sure
+-- the law that each command of a build has its inputs and can only report this, which is done
 abbrev pub BuildCommandsReportSurely : Type 0
 BuildCommandsReportSurely = (b : BuildData) (held : Option FileMap) → IsSome held → IsBuild held b → ReportSurelyInSequence (build_commands b) held (build_reports b)
 
--- so over steady files with room for all that is printed a build ends Done or for want of memory
+-- the law that a build, over steady files with room for all that is printed, ends Done or out of
+-- memory
 abbrev pub BuildsEndWithoutFault : Type 0
 BuildsEndWithoutFault =
     (b : BuildData) (files files' : FilesSeen) (sink sink' : SinkSeen) (result : Status)

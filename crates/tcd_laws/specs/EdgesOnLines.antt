@@ -8,13 +8,12 @@ use Rattle.tcd_text.specs.Lines.{text_lines}
 use Rattle.tcd_report.specs.Graphs.{IsGraph}
 use Rattle.tcd_report.specs.Graphs.EdgeLaws.{LinesHaveAllEdges}
 
--- the lines on which the edges of runs stand: those of a graph's text as it is printed, each with
--- the line feed that ends it
+-- the lines of a graph's text as it is printed, each with the line feed that ends it
 abbrev pub printed_graph_lines : List ℕ → List (List ℕ)
 printed_graph_lines text = map (λ l. l ++ 10 ∷ []) (text_lines text)
 
--- the law that the edges of runs are on lines of the text of an accepted certificate's graph: that
--- of each step of each run, with its address and the key of its frame
+-- the law that an accepted certificate's printed graph has the edge of each step of each run, with
+-- its address and its frame's key
 abbrev pub PrintedGraphsHaveAllEdges : Type 0
 PrintedGraphsHaveAllEdges =
     (image : ImageData) (plan : PlanData) (cert : CertData) (text : List ℕ) → image.entry < 2 ^ 32 → IsPlan plan → IsCert cert

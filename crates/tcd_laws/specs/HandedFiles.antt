@@ -17,27 +17,27 @@ use Rattle.tcd_driver.specs.Asm.{AsmArgs, asm_reading}
 use Rattle.tcd_driver.specs.Link.{LinkArgs, link_reading}
 use Rattle.tcd_laws.specs.LimitsKept.{IsByte}
 
--- the file of this name is exactly this value: it is it, it is no other, and it isn't rejected
+-- the file of this name is read as exactly this value, and as no other, and isn't rejected
 pub record ReadsBackAs {A : Type 0} (form : FormSeen A) (held : Option FileMap) (name : List ℕ) (x : A) : Type 0 where
   pub is : HoldsInput form held name x
   pub only : (y : A) → HoldsInput form held name y → y ≡ x
   pub good : (text : List ℕ) → IsInputRejection form held name text → ⊥
 
--- the files of these names are these values, each in the form of its place in the list
+-- the files of these names have these values, each in the form of its place in the list
 abbrev pub HoldEachInput : {A : Type 0} → (ℕ → FormSeen A) → ℕ → Option FileMap → List (List ℕ) → List A → Type 0
 HoldEachInput form place held [] [] = Unit {0}
 HoldEachInput form place held [] (x ∷ xs) = ⊥
 HoldEachInput form place held (name ∷ names) [] = ⊥
 HoldEachInput form place held (name ∷ names) (x ∷ xs) = HoldsInput (form place) held name x × HoldEachInput form (place + 1) held names xs
 
--- what these names hold are bytes: the map that files tell is of lists of numbers, which doesn't
--- say so
+-- the files of these names hold bytes, if the contents of files are known: their numbers are below
+-- 256
 abbrev pub FilesHoldBytes : Option FileMap → List (List ℕ) → Type 0
 FilesHoldBytes held names = IfSome held (λ m. All (λ name. IfSome (get m name) (All IsByte)) names)
 
 -- ---- an object
--- the source's object was written, which holds bytes, and is read as exactly this object, unless it
--- is too long to be read
+-- the source's object was written, its file holds bytes, and unless the file is too long, it is
+-- read as exactly this object
 pub record IsObjectReadBack (names : AsmArgs) (held held' : Option FileMap) : Type 0 where
   pub object : ObjectData
   pub source : HoldsInput source_form held names.source object
@@ -45,15 +45,16 @@ pub record IsObjectReadBack (names : AsmArgs) (held held' : Option FileMap) : Ty
   pub bytes : FilesHoldBytes held' (names.object ∷ [])
   pub read : (place : ℕ) → length (bytes_of_object object) ≤ 2 ^ 24 → ReadsBackAs (object_form place) held' names.object object
 
--- what each `asm` that is done hands to `link`, over files that tell what they hold
+-- the law that the object that an `asm` with status Done has written is read back exactly, over
+-- files whose contents are known
 abbrev pub AssembledObjectsReadBack : Type 0
 AssembledObjectsReadBack =
     (names : AsmArgs) (files files' : FilesSeen) (sink sink' : SinkSeen) → IsSome files.held
     → Ends (asm_reading names) files files' sink sink' Done → IsObjectReadBack names files.held files'.held
 
 -- ---- an executable
--- the image of the objects by the layout was written, and is read as exactly this image, unless it
--- is too long to be read
+-- the image of the objects by the layout was written, and unless its file is too long, it is read
+-- as exactly this image
 pub record IsImageReadBack (names : LinkArgs) (held held' : Option FileMap) : Type 0 where
   pub layout : LayoutData
   pub layout_is : HoldsInput layout_form held names.layout layout
@@ -64,8 +65,8 @@ pub record IsImageReadBack (names : LinkArgs) (held held' : Option FileMap) : Ty
   pub written : held' ≡ files_after_write held names.image (elf_file image)
   pub read : length (elf_file image) ≤ 2 ^ 24 → ReadsBackAs elf_form held' names.image image
 
--- So after each `link` that is done, over files that tell what they hold, and whose objects are of
--- bytes: those that `asm` wrote are, and so is all that a file system holds.
+-- The law that the image that a `link` with status Done has written is read back exactly, over
+-- files whose contents are known. Its object files hold bytes, as those that `asm` wrote do.
 abbrev pub LinkedImagesReadBack : Type 0
 LinkedImagesReadBack =
     (names : LinkArgs) (files files' : FilesSeen) (sink sink' : SinkSeen) → IsSome files.held → FilesHoldBytes files.held names.objects

@@ -5,21 +5,20 @@ ghost use Rattle.tcd_laws.specs.HandedFiles.{AssembledObjectsReadBack, LinkedIma
 ghost use Rattle.tcd_laws.specs.LimitsKept.{LinksGiveImages, ObjectFilesHoldBytes, SourcesGiveObjects, TextsGiveLayouts};
 ghost use Rattle.tcd_laws.specs.Sequences.{SureSequencesEndWithoutFault};
 
-/// Each edge of each step of each run that starts as the plan says stands on a line of the graph of
-/// an accepted certificate, with the key of its frame and its address.
+/// The printed graph of an accepted certificate has the edge of each step of each run from a start
+/// state. The line has the step's frame, address and edge.
 pub fn edge_law()
     ensures { PrintedGraphsHaveAllEdges }
 {}
 
-/// Commands one after another, over steady files and a sink with room, each of which has what it
-/// reads and is to be done, end Done or for want of memory.
+/// Commands in sequence, whose inputs are present and which can only report Done, end Done or out
+/// of memory, without a fault. Files mustn't fail, and the output needs room.
 pub fn sequence_law()
     ensures { SureSequencesEndWithoutFault }
 {}
 
-/// The object of a source that breaks no rule is an object, whose sections hold bytes; the file of
-/// such an object holds bytes; what a text gives without a fault is a layout; and what such objects
-/// are linked to by it is an image.
+/// Assembled objects, layouts that were read, and linked images keep the limits of their types.
+/// Sections and files of such objects hold numbers below 256.
 pub fn kept_limit_laws()
     ensures objects { SourcesGiveObjects }
     ensures files { ObjectFilesHoldBytes }
@@ -27,15 +26,15 @@ pub fn kept_limit_laws()
     ensures images { LinksGiveImages }
 {}
 
-/// `asm` writes what `link` reads as exactly its object, and `link` writes what is read as exactly
-/// its image.
+/// What `asm` writes, `link` reads as exactly the same object. What `link` writes is read as
+/// exactly the same image. Both hold up to 16,777,216 bytes, the most that a command reads.
 pub fn read_back_laws()
     ensures assembled { AssembledObjectsReadBack }
     ensures linked { LinkedImagesReadBack }
 {}
 
-/// `asm` of sources, `link` of their objects and `dis` of the image are such commands, and so they
-/// end Done or for want of memory.
+/// A build is `asm` of each source, `link` of their objects, and `dis` of the image. If its inputs
+/// are present and good, and no file or output fails, a build ends Done or out of memory.
 pub fn build_laws()
     ensures reports { BuildCommandsReportSurely }
     ensures ends { BuildsEndWithoutFault }

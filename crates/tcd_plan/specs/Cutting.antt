@@ -11,6 +11,6 @@ range_between from upto = if nat_lt from upto then record { at = from; len = upt
 abbrev pub range_outside : ℕ → ℕ → Range → List Range
 range_outside x n r = range_between r.at (min x (r.at + r.len)) ++ range_between (max (x + n) r.at) (r.at + r.len)
 
--- the parts of all ranges, ascending if the ranges are
+-- the parts of all ranges below and above the n bytes from x on, ascending if the ranges are
 abbrev pub ranges_outside : ℕ → ℕ → List Range → List Range
 ranges_outside x n rs = flat_map (range_outside x n) rs

@@ -30,7 +30,7 @@ json_object_keys d = option_map_or json_member_keys (as_object d) []
 abbrev pub json_elements_at : List ℕ → Data → Option (List Data)
 json_elements_at name d = option_map json_array_elements (option_and_then as_array (get name d))
 
--- the value is this text
+-- the value is this JSON string
 abbrev pub is_json_string : List ℕ → Data → Bool
 is_json_string text d = option_map_or (λ s. bytes_eq s text) (as_str d) false
 
@@ -38,20 +38,21 @@ is_json_string text d = option_map_or (λ s. bytes_eq s text) (as_str d) false
 abbrev pub json_number_if_word : ℕ → Option ℕ
 json_number_if_word n = if nat_lt n (2 ^ 32) then Some n else None
 
--- a hex digit of either case, in a JSON text that is read as a number
+-- a hex digit of either case, in a JSON string that is read as a number
 abbrev pub is_json_hex : ℕ → Bool
 is_json_hex c = nat_lt (digit_value c) 16
 
--- the number in a JSON text after its `0x`: 1 to 8 hex digits of either case
+-- the number in a JSON string after its `0x`: 1 to 8 hex digits of either case
 abbrev pub json_hex_number : List ℕ → Option ℕ
 json_hex_number digits = if nat_le 1 (length digits) && nat_le (length digits) 8 && list_all is_json_hex digits then Some (digits_value 16 digits) else None
 
--- the number that a JSON text spells: `0x` and 1 to 8 hex digits
+-- the number that a JSON string spells: `0x` and 1 to 8 hex digits of either case; None for another
+-- string
 abbrev pub hex_string_value : List ℕ → Option ℕ
 hex_string_value (a ∷ b ∷ digits) = if a == 48 && b == 120 then json_hex_number digits else None
 hex_string_value cs = None
 
--- a number of 32 bits: a JSON number that is an unsigned integer, or a text of hex digits
+-- a number of 32 bits: a JSON number that is an unsigned integer, or a string of hex digits
 abbrev pub json_number_of : Data → Option ℕ
 json_number_of null = None
 json_number_of (boolean b) = None

@@ -49,6 +49,6 @@ first_missing_key d = first_key_where lacks_key d
 unfoldable pub first_object_with_unknown_key : Data → Option PlanKey
 first_object_with_unknown_key d = option_map (λ h. plan_key_of (parent_key h)) (find (λ h. list_any (has_unknown_key h) (plan_objects_of h d)) key_parents)
 
--- the first key whose value doesn't have its form
+-- the first key of the table whose value in an object of the document doesn't have its form
 unfoldable pub first_key_with_bad_value : Data → Option PlanKey
 first_key_with_bad_value d = first_key_where is_key_value_bad d

@@ -114,7 +114,8 @@ HasPrintedKey (BadValue key) = key.0 < length key_texts
 HasPrintedKey (TooMany key) = key.0 < length key_texts
 HasPrintedKey _ = Unit {0}
 
--- no array of a plan's document is too long, and there are not too many save areas
+-- in a plan's document, no array of ranges, peripherals or interrupts has too many elements, and
+-- there are at most 4096 save areas
 pub record HasShortPlanArrays (d : Data) : Type 0 where
   pub rom : length (plan_objects_of Rom d) ≤ 16
   pub ram : length (plan_objects_of Ram d) ≤ 16

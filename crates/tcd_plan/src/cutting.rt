@@ -5,8 +5,8 @@ ghost use Rattle.tcd_plan.specs.Cutting.{ranges_outside, range_outside, range_be
 use arrayvec::ArrayVec;
 use tcd_base::Range;
 
-/// Returns the parts of ranges below and above the `n` bytes from `x` on, at most two of each
-/// range.
+/// Cuts the `n` bytes from address `x` on out of ranges. Returns what is left below and above, at
+/// most two parts of each range.
 pub fn ranges_outside(ranges: &[Range], x: u32, n: u32) -> ArrayVec<Range, 32>
     requires few { length ranges.now ≤ 16 }
     requires fit { All (λ r. r.at + r.len ≤ 2 ^ 32) ranges.now }
@@ -19,8 +19,8 @@ pub fn ranges_outside(ranges: &[Range], x: u32, n: u32) -> ArrayVec<Range, 32>
     parts
 }
 
-/// Cuts the `n` bytes from `x` on out of a plan's range: appends the parts of the range below and
-/// above them.
+/// Appends to `ranges` the parts of the range `r` below and above the `n` bytes from `x` on, at
+/// most two.
 fn push_range_outside(ranges: &mut ArrayVec<Range, 32>, r: &Range, x: u32, n: u32)
     requires room { length ranges.old.items ≤ 30 }
     requires fits { r.now.at + r.now.len ≤ 2 ^ 32 }
@@ -34,7 +34,8 @@ fn push_range_outside(ranges: &mut ArrayVec<Range, 32>, r: &Range, x: u32, n: u3
     push_range_between(ranges, (block + u64::from(n)).max(start), end);
 }
 
-// Appends the range from address `from` up to, without, `upto`, if it has a byte.
+// Appends the range from address `from` up to, but not including, address `upto`, unless that range
+// is empty.
 fn push_range_between(ranges: &mut ArrayVec<Range, 32>, from: u64, upto: u64)
     requires room { length ranges.old.items < 32 }
     requires end { upto ≤ 2 ^ 32 }

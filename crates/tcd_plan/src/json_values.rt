@@ -16,7 +16,7 @@ pub fn json_elements_at<'a>(value: &'a Value, name: &str) -> Option<&'a [Value]>
     Some(list.as_slice())
 }
 
-/// Returns true if the value is this text.
+/// Returns true if the JSON value is the string `text`.
 pub fn is_json_string(value: &Value, text: &str) -> bool
     ensures { result ≡ is_json_string text.now (view value.now) }
 {
@@ -26,14 +26,15 @@ pub fn is_json_string(value: &Value, text: &str) -> bool
     }
 }
 
-/// Returns the number at a key of a JSON object, or 0 if there is none.
+/// Returns the number of 32 bits at the key `name` of a JSON object, or 0 if there is none.
 pub fn json_number_or_zero(value: &Value, name: &str) -> u32
     ensures { result ≡ json_number_or_zero name.now (view value.now) }
 {
     json_number_at(value, name).unwrap_or(0)
 }
 
-/// Returns the number at the key `name` of the object at the key `outer`, or 0 if there is none.
+/// Returns the number of 32 bits at the key `name` of the object at the key `outer` of a JSON
+/// object, or 0 if there is none.
 pub fn json_nested_number(value: &Value, outer: &str, name: &str) -> u32
     ensures { result ≡ json_nested_number outer.now name.now (view value.now) }
 {
@@ -43,15 +44,15 @@ pub fn json_nested_number(value: &Value, outer: &str, name: &str) -> u32
     }
 }
 
-/// Returns the number at a key of a JSON object, or `None` if there is none.
+/// Returns the number of 32 bits at the key `name` of a JSON object, or `None` if there is none.
 pub fn json_number_at(value: &Value, name: &str) -> Option<u32>
     ensures { result ≡ json_number_at name.now (view value.now) }
 {
     value.get(name).and_then(json_number_of)
 }
 
-/// Returns the number that a value is, or None: an unsigned integer of 32 bits, or a text `0x` with
-/// 1 to 8 hex digits.
+/// Returns the number that a JSON value is, or None: an unsigned integer of 32 bits, or a string of
+/// `0x` and 1 to 8 hex digits.
 pub fn json_number_of(value: &Value) -> Option<u32>
     ensures { result ≡ json_number_of (view value.now) }
 {
@@ -62,21 +63,23 @@ pub fn json_number_of(value: &Value) -> Option<u32>
     }
 }
 
-/// Returns the elements of the JSON array at a key of an object; none if no array is there.
+/// Returns the elements of the JSON array at the key `name` of an object, or an empty slice if no
+/// array is there.
 pub fn json_elements_or_empty<'a>(value: &'a Value, name: &str) -> &'a [Value]
     ensures { map view result.now ≡ json_elements_or_empty name.now (view value.now) }
 {
     json_elements_at(value, name).unwrap_or(&[])
 }
 
-/// Returns true if one of the elements of a JSON array is this text.
+/// Returns true if one of `places`, the elements of a JSON array, is the string `text`.
 pub fn has_json_string(places: &[Value], text: &str) -> bool
     ensures { result ≡ list_any (is_json_string text.now) (map view places.now) }
 {
     places.iter().any(|place| is_json_string(place, text))
 }
 
-/// Returns the number, below 256, at the key `name` of the object at the key `outer`; 0 if none.
+/// Returns the number, below 256, at the key `name` of the object at the key `outer` of a JSON
+/// object; 0 if there is none.
 pub fn json_nested_byte(value: &Value, outer: &str, name: &str) -> u8
     requires { json_nested_number outer.now name.now (view value.now) < 2 ^ 8 }
     ensures { result ≡ json_nested_number outer.now name.now (view value.now) }
@@ -84,7 +87,8 @@ pub fn json_nested_byte(value: &Value, outer: &str, name: &str) -> u8
     json_nested_number(value, outer, name) as u8
 }
 
-/// Returns the number that a JSON text spells, or None: `0x` with 1 to 8 hex digits.
+/// Returns the number that a JSON string of `0x` and 1 to 8 hex digits spells, or None for another
+/// string.
 fn hex_string_value(text: &[u8]) -> Option<u32>
     ensures { result ≡ hex_string_value text.now }
 {
@@ -96,8 +100,8 @@ fn hex_string_value(text: &[u8]) -> Option<u32>
     }
 }
 
-/// Returns the number that up to 8 hex digits of either case spell, as after a JSON text's `0x`;
-/// None if another character is there.
+/// Returns the number that up to 8 hex digits of either case spell, or None if another character is
+/// there. The digits follow the `0x` of a JSON string.
 fn json_hex_value(digits: &[u8]) -> Option<u32>
     requires { length digits.now ≤ 8 }
     ensures { result ≡

@@ -15,7 +15,8 @@ use crate::key_table::{
 use crate::object_forms::{has_value_form, plan_objects_of};
 use serde_json::{Map, Value};
 
-/// Returns the first key of the table that an object of the document lacks, or None.
+/// Returns the first required key, in the order of the table of keys, that an object of a plan's
+/// JSON document lacks; or None.
 pub fn first_missing_key(value: &Value) -> Option<PlanKey>
     ensures { result ≡ first_missing_key (view value.now) }
 {
@@ -26,7 +27,8 @@ pub fn first_missing_key(value: &Value) -> Option<PlanKey>
     )
 }
 
-/// Returns the first key of the table whose value in an object doesn't have its form, or None.
+/// Returns the first key, in the order of the table of keys, whose value in a plan's JSON document
+/// has the wrong form; or None.
 pub fn first_key_with_bad_value(value: &Value) -> Option<PlanKey>
     ensures { result ≡ first_key_with_bad_value (view value.now) }
 {
@@ -37,7 +39,8 @@ pub fn first_key_with_bad_value(value: &Value) -> Option<PlanKey>
     )
 }
 
-/// Returns the key of the first object, or array of objects, that has an unknown key; or None.
+/// Returns the key of the first object or array in a plan's JSON document that has a key outside
+/// the table of keys; or None.
 pub fn first_object_with_unknown_key(value: &Value) -> Option<PlanKey>
     ensures { result ≡ first_object_with_unknown_key (view value.now) }
 {
@@ -48,7 +51,7 @@ pub fn first_object_with_unknown_key(value: &Value) -> Option<PlanKey>
     )
 }
 
-/// Returns true if an object lacks the row's key, and this key may not be absent.
+/// Returns true if a JSON object lacks this table row's key, and the key is required.
 pub fn lacks_key(row: &Row, object: &Value) -> bool
     ensures { result ≡ lacks_key (row_of row.now) (view object.now) }
 {
@@ -62,14 +65,16 @@ pub(crate) fn may_key_be_absent(form: ValueForm) -> bool
     matches!(form, ValueForm::CoreText)
 }
 
-/// Returns the key of the row that a refusal is for, or None if there is no such row.
+/// Returns the key of the table row that a plan's document breaks, for the error that names the
+/// key. None if there is no such row.
 fn key_of_refused_row(row: Option<&Row>) -> Option<PlanKey>
     ensures { result ≡ option_map (λ r. plan_key_of r.now.key) row.entry }
 {
     row.map(|row| PlanKey(row.key))
 }
 
-/// Returns true if an object that the row's key belongs in lacks the key.
+/// Returns true if a required key, that of this table row, is missing in one of the plan's JSON
+/// objects to which the row applies.
 fn has_object_without_key(row: &Row, value: &Value) -> bool
     ensures { result ≡ list_any (lacks_key (row_of row.now))
         (plan_objects_of row.now.parent (view value.now)) }
@@ -79,7 +84,8 @@ fn has_object_without_key(row: &Row, value: &Value) -> bool
         .any(|object| lacks_key(row, object))
 }
 
-/// Returns true if an object that the row's key belongs in has a value of another form for the key.
+/// Returns true if one of the JSON objects to which this table row applies has no value of the
+/// right form at the row's key.
 fn has_object_with_bad_value(row: &Row, value: &Value) -> bool
     ensures { result ≡ list_any (is_key_value_bad (row_of row.now))
         (plan_objects_of row.now.parent (view value.now)) }
@@ -89,14 +95,15 @@ fn has_object_with_bad_value(row: &Row, value: &Value) -> bool
         .any(|object| !has_value_form(row.form, row.name, object))
 }
 
-/// Returns the key at which the plan has this parent of keys, or None if there is no parent.
+/// Returns the key at which the plan's document has this object or array of objects; None for None.
 fn key_of_parent(parent: Option<&KeyParent>) -> Option<PlanKey>
     ensures { result ≡ option_map (λ h. plan_key_of (parent_key h.now)) parent.entry }
 {
     parent.map(|parent| PlanKey(parent_key(*parent)))
 }
 
-/// Returns true if one of a parent's objects has a key that isn't in the table for them.
+/// Returns true if one of the objects at `parent` in a plan's document has a key that the table of
+/// keys doesn't list there.
 fn has_object_with_unknown_key(parent: KeyParent, value: &Value) -> bool
     ensures { result ≡ list_any (has_unknown_key parent) (plan_objects_of parent (view value.now)) }
 {
@@ -105,7 +112,8 @@ fn has_object_with_unknown_key(parent: KeyParent, value: &Value) -> bool
         .any(|object| has_unknown_key(parent, object))
 }
 
-/// Returns true if an object has a key that the table doesn't have for its parent.
+/// Returns true if an object at `parent` in a plan's document has a key that the table of keys
+/// doesn't list there.
 fn has_unknown_key(parent: KeyParent, object: &Value) -> bool
     ensures { result ≡ has_unknown_key parent (view object.now) }
 {
@@ -115,7 +123,8 @@ fn has_unknown_key(parent: KeyParent, object: &Value) -> bool
     }
 }
 
-/// Returns true if the table has all keys of an object for its parent.
+/// Returns true if the table of keys lists all `members` of an object at `parent` in a plan's
+/// document.
 fn are_known_keys(parent: KeyParent, members: &Map<String, Value>) -> bool
     ensures { result ≡ list_all (λ name. is_known_key parent (string_bytes name))
         (keys members.now) }
@@ -125,7 +134,7 @@ fn are_known_keys(parent: KeyParent, members: &Map<String, Value>) -> bool
         .all(|name| is_known_key(parent, name.as_str()))
 }
 
-/// Returns true if the table has the key with this name for a parent.
+/// Returns true if the table has the key `name` for the objects at `parent` in a plan's document.
 fn is_known_key(parent: KeyParent, name: &str) -> bool
     ensures { result ≡ is_known_key parent name.now }
 {

@@ -286,14 +286,16 @@ pub fn key_table_rows() -> &'static [Row]
     &ROWS
 }
 
-/// Returns the objects, and arrays of objects, of a plan that keys are in, by ascending keys.
+/// Returns the objects, and arrays of objects, of a plan's JSON document that hold the plan's keys,
+/// in the order of the table of keys.
 pub fn key_parents() -> &'static [KeyParent]
     ensures { result.now ≡ key_parents }
 {
     &KEY_PARENTS
 }
 
-/// Returns the number of the key at which the plan has a parent of keys; 0 for the whole document.
+/// Returns the number of the key whose value is this object or array of objects; 0 for the whole
+/// document.
 pub fn parent_key(parent: KeyParent) -> u8
     ensures { result ≡ parent_key parent }
 {
@@ -308,7 +310,7 @@ pub fn parent_key(parent: KeyParent) -> u8
     }
 }
 
-/// Returns true if a row of the table is of the key with this name in a parent's objects.
+/// Returns true if a row of the table is that of the key `name` for the objects at `parent`.
 pub(crate) fn is_row_of_key(row: &Row, parent: KeyParent, name: &str) -> bool
     ensures { result ≡ is_row_of_key parent name.now (row_of row.now) }
 {

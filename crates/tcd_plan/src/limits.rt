@@ -13,8 +13,8 @@ use arrayvec::ArrayVec;
 use serde_json::Value;
 use tcd_base::Range;
 
-/// Returns the key of a plan's first array with too many elements, or with too many bytes in its
-/// ranges.
+/// Returns the key of the first array of the plan's document, `value`, with too many elements, or
+/// too many bytes in its ranges; or None.
 #[tactic(auto, unfolding(crate::specs::PlanReader::unchecked_plan_of, crate::specs::PlanData::first_oversized_array))]
 pub fn first_oversized_array(value: &Value) -> Option<PlanKey>
     ensures { result ≡ first_oversized_array (unchecked_plan_of (view value.now)) }
@@ -34,7 +34,7 @@ pub fn first_oversized_array(value: &Value) -> Option<PlanKey>
     None
 }
 
-/// Returns true if the save areas are within their limits.
+/// Returns true if the plan's context save areas have a valid address, number and reserve.
 #[tactic(auto, unfolding(crate::specs::PlanReader::unchecked_plan_of, crate::specs::PlanData::has_valid_areas))]
 pub fn has_valid_areas(value: &Value) -> bool
     ensures { result ≡ has_valid_areas (unchecked_plan_of (view value.now)) }
@@ -46,7 +46,8 @@ pub fn has_valid_areas(value: &Value) -> bool
     )
 }
 
-/// Returns true if BIV and BTV are even.
+/// Returns true if BIV and BTV, the bases of the vector tables, are even in the plan's document,
+/// `value`.
 #[tactic(auto, unfolding(crate::specs::PlanReader::unchecked_plan_of, crate::specs::PlanData::has_even_vector_bases))]
 pub fn has_even_vector_bases(value: &Value) -> bool
     ensures { result ≡ has_even_vector_bases (unchecked_plan_of (view value.now)) }
@@ -54,8 +55,8 @@ pub fn has_even_vector_bases(value: &Value) -> bool
     json_number_or_zero(value, "biv") % 2 == 0 && json_number_or_zero(value, "btv") % 2 == 0
 }
 
-/// Returns the refusal for the first pair of ranges that share a byte, numbered over rom, ram,
-/// peripherals and the save areas; or None.
+/// Returns the refusal for the first two ranges of a plan that share a byte, or None. Ranges are
+/// numbered over rom, ram, peripherals and the save areas.
 pub fn plan_range_overlap(value: &Value) -> Option<PlanErr>
     requires { HasShortPlanArrays (view value.now) }
     ensures { result ≡ plan_range_overlap (unchecked_plan_of (view value.now)) }
@@ -76,7 +77,7 @@ fn are_ranges_within_limits(objects: &[Value]) -> bool
     objects.len() <= 16 && total_len_of_ranges(objects) <= 1 << 22
 }
 
-/// Returns the number of bytes in all ranges that these objects of a plan's document give.
+/// Returns the number of bytes in all ranges that these objects of a plan's document state.
 fn total_len_of_ranges(objects: &[Value]) -> u64
     requires { length objects.now ≤ 16 }
     ensures { result ≡ sum_by (λ r. r.len) (map plan_range_of (map view objects.now)) }
@@ -88,8 +89,8 @@ fn total_len_of_ranges(objects: &[Value]) -> u64
     total
 }
 
-/// Returns true if a plan's save areas are within their limits: 1 to 4096 from `at` on, whole, in a
-/// segment of 2^22 bytes, first link not 0, 1 or more of them in reserve.
+/// Returns true if a plan has 1 to 4096 context save areas, aligned to 64 bytes and in one segment
+/// that links can address. At least one is in reserve.
 fn are_valid_areas(at: u32, areas: u32, reserve: u32) -> bool
     ensures { result ≡ are_valid_areas at areas reserve }
 {
@@ -103,8 +104,8 @@ fn are_valid_areas(at: u32, areas: u32, reserve: u32) -> bool
         && at % 0x40_0000 + 64 * areas <= 0x40_0000
 }
 
-/// Tests the limit that no two ranges of a plan overlap: returns the refusal for the first pair
-/// that shares a byte, by their numbers.
+/// Returns the refusal for the first two of a plan's ranges that share a byte, with their indices;
+/// or None.
 fn first_overlap(ranges: &[Range]) -> Option<PlanErr>
     requires { length ranges.now ≤ 49 }
     ensures { result ≡ first_overlap_from 0 ranges.now }

@@ -13,8 +13,8 @@ use crate::key_table::{KeyParent, ValueForm};
 use serde_json::Value;
 use std::slice;
 
-/// Returns the objects that a plan's document has for a parent of keys. An array with an element
-/// that is no object has none.
+/// Returns the objects at `parent` in the plan's document, `value`: one object, or the elements of
+/// an array. An array with an element that is no object gives none.
 pub fn plan_objects_of(parent: KeyParent, value: &Value) -> &[Value]
     ensures { map view result.now ≡ plan_objects_of parent (view value.now) }
 {
@@ -29,7 +29,7 @@ pub fn plan_objects_of(parent: KeyParent, value: &Value) -> &[Value]
     }
 }
 
-/// Returns true if the value of the key `name` in an object has the form.
+/// Returns true if the key `name` of an object has a value of this form.
 pub fn has_value_form(form: ValueForm, name: &str, object: &Value) -> bool
     ensures { result ≡ has_value_form form name.now (view object.now) }
 {
@@ -76,7 +76,7 @@ fn single_object_at<'a>(value: &'a Value, name: &str) -> &'a [Value]
     }
 }
 
-/// Returns true if all elements of an array are objects.
+/// Returns true if all of `places`, the elements of a JSON array, are objects.
 fn are_objects(places: &[Value]) -> bool
     ensures { result ≡ list_all is_object (map view places.now) }
 {
@@ -91,8 +91,7 @@ fn is_range_len(at: u32, len: u32) -> bool
     len > 0 && len % 4 == 0 && u64::from(at) + u64::from(len) <= 1 << 32
 }
 
-/// Returns true if the value of `irqs` has its form: its elements are ascending numbers from 1 to
-/// 255.
+/// Returns true if `places`, the elements of the array `irqs`, are ascending numbers from 1 to 255.
 fn are_irqs(places: &[Value]) -> bool
     ensures { result ≡ are_irqs_above 0 (map view places.now) }
 {
@@ -106,8 +105,8 @@ fn are_irqs(places: &[Value]) -> bool
     true
 }
 
-/// Returns true if the value of `traps` has its form: the elements are only `sys` and `aln`, each
-/// at most once.
+/// Returns true if `places`, the elements of the array `traps`, are only `sys` and `aln`, each at
+/// most once.
 fn are_traps(places: &[Value]) -> bool
     ensures { result ≡ are_traps (map view places.now) }
 {
@@ -116,7 +115,7 @@ fn are_traps(places: &[Value]) -> bool
         && count_json_strings(places, "aln") <= 1
 }
 
-/// Returns true if the value of `core` is `1.3` or `1.6`, or absent.
+/// Returns true if the value of the key `core` is `1.3` or `1.6`, or the key is absent (None).
 fn is_core_version_or_absent(value: Option<&Value>) -> bool
     ensures { result ≡ is_core_version_or_absent (option_map (λ v. view v.now) value.entry) }
 {
@@ -126,14 +125,14 @@ fn is_core_version_or_absent(value: Option<&Value>) -> bool
     }
 }
 
-/// Returns true if each element of `traps` is `sys` or `aln`.
+/// Returns true if each of `places`, the elements of the array `traps`, is `sys` or `aln`.
 fn are_trap_names(places: &[Value]) -> bool
     ensures { result ≡ list_all is_trap_name (map view places.now) }
 {
     places.iter().all(is_trap_name)
 }
 
-/// Returns how many elements of the value of `traps` are this text.
+/// Returns how many of `places`, the elements of a JSON array, are the string `text`.
 fn count_json_strings(places: &[Value], text: &str) -> usize
     ensures { result ≡ count_by (is_json_string text.now) (map view places.now) }
 {
@@ -143,7 +142,7 @@ fn count_json_strings(places: &[Value], text: &str) -> usize
         .count()
 }
 
-/// Returns true if an element of the value of `traps` has its form: `sys` or `aln`.
+/// Returns true if `place`, an element of the array `traps`, is `sys` or `aln`.
 fn is_trap_name(place: &Value) -> bool
     ensures { result ≡ is_trap_name (view place.now) }
 {

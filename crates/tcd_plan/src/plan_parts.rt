@@ -21,7 +21,7 @@ pub fn plan_range_of(object: &Value) -> Range
     }
 }
 
-/// Appends the ranges of a plan that these objects of its document give.
+/// Appends the ranges of a plan that these objects of its document state.
 pub fn push_ranges<const N: usize>(ranges: &mut ArrayVec<Range, N>, objects: &[Value])
     requires { length ranges.old.items + length objects.now ≤ N }
     ensures { ranges.new.items ≡ ranges.old.items ++ map plan_range_of (map view objects.now) }
@@ -53,7 +53,8 @@ pub fn plan_devices_of(objects: &[Value]) -> ArrayVec<Device, 16>
     devices
 }
 
-/// Reads the priorities of a plan's interrupts from the elements of the document's `irqs`.
+/// Reads the priorities of a plan's interrupts from `places`, the elements of the array `irqs` in
+/// its document.
 pub fn plan_irqs_of(places: &[Value]) -> ArrayVec<u8, 32>
     requires few { length places.now ≤ 32 }
     requires bytes { All (λ q. plan_irq_of q < 2 ^ 8) (map view places.now) }
@@ -66,7 +67,7 @@ pub fn plan_irqs_of(places: &[Value]) -> ArrayVec<u8, 32>
     irqs
 }
 
-/// Reads the version of the core from a plan's document. It is `V13` if the key is absent.
+/// Reads the version of the core from a plan's document, `value`; `V13` if the key is absent.
 pub fn plan_core_of(value: &Value) -> Core
     ensures { result ≡ plan_core_of (view value.now) }
 {
@@ -76,7 +77,7 @@ pub fn plan_core_of(value: &Value) -> Core
     }
 }
 
-/// Reads the words of A0, A1, A8 and A9 at the start from a plan's document.
+/// Reads the words of A0, A1, A8 and A9 at the start from a plan's document, `value`.
 pub fn plan_globals_of(value: &Value) -> [u32; 4]
     ensures { result ≡ plan_globals_of (view value.now) }
 {
@@ -100,8 +101,8 @@ pub(crate) fn areas_range(value: &Value) -> Range
     }
 }
 
-/// Reads a peripheral of a plan from an object of its document: its range, and the bounds of its
-/// words.
+/// Reads a peripheral of a plan from an object of its JSON document: the range, and bounds of the
+/// words that loads give.
 fn plan_device_of(object: &Value) -> Device
     ensures { result ≡ plan_device_of (view object.now) }
 {

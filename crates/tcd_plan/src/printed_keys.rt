@@ -39,7 +39,7 @@ static KEY_TEXTS: [&str; 32] = [
     "core",
 ];
 
-/// Returns the text of a key as it is printed.
+/// Returns the text of a plan's key as error lines print the key, such as `csa.areas`.
 pub fn key_text(key: PlanKey) -> &'static str
     requires { key.0 < length key_texts }
     ensures { slice_get key_texts key.0 ≡ Some result.now }

@@ -17,7 +17,8 @@ use serde_json::{Error, Value};
 use std::alloc::Global;
 
 impl Plan {
-    /// Reads a plan from a file's bytes, or gives the first refusal. Only reading JSON allocates.
+    /// Reads a plan, the description of a board, from the bytes of a JSON file, or returns the
+    /// first refusal. Only parsing the JSON allocates.
     pub fn read(alloc: Global, bytes: &[u8]) -> Result<Plan, PlanErr>
         requires { length bytes.now ≤ 2 ^ 30 }
         ensures answer { IsPlanResult bytes.now result }
@@ -52,8 +53,8 @@ fn plan_of(value: &Value) -> Result<Plan, PlanErr>
     }
 }
 
-/// Returns the first refusal of a plan's document that applies, in the order of their numbers, or
-/// None.
+/// Returns the first error of a plan's JSON document, in the order of `PlanErr`, or None if the
+/// document is a plan.
 #[tactic(auto, unfolding(crate::specs::PlanReader::plan_refusal))]
 fn plan_refusal(value: &Value) -> Option<PlanErr>
     ensures { result ≡ plan_refusal (view value.now) }
@@ -82,7 +83,7 @@ fn plan_refusal(value: &Value) -> Option<PlanErr>
     plan_range_overlap(value)
 }
 
-/// Returns the plan in a document that isn't refused, and tests nothing again.
+/// Builds the plan from a JSON document that `plan_refusal` accepts, without further checks.
 #[tactic(auto, unfolding(crate::specs::PlanReader::unchecked_plan_of))]
 fn unchecked_plan_of(value: &Value) -> Plan
     requires { plan_refusal (view value.now) ≡ None }

@@ -47,7 +47,7 @@ pub record FilesAndSinkStay (files files' : FilesSeen) (sink sink' : SinkSeen) :
   pub files_stay : files' ≡ files
   pub sink_stays : sink' ≡ sink
 
--- how a command that has a report ends, with the counts of faults
+-- how a command that has a report ends, with the counts of faults of the files and of the sink
 abbrev pub EndsWithReport : Report → FilesSeen → FilesSeen → SinkSeen → SinkSeen → Status → Type 0
 EndsWithReport report files files' sink sink' result =
     IsEndingWithReport report files files' sink sink' result × KeepsFaultsIfSteady files files' × (files.faults ≤ files'.faults) × (sink.faults ≤ sink'.faults)

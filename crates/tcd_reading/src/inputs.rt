@@ -28,7 +28,7 @@ pub trait Form {
     fn too_long_line(&self, alloc: Global) -> Result<Vec<u8>, NoMemory>
         ensures { IfOk result (λ line. line.items ≡ (form self.now).too_long_line) };
 
-    /// Parses a file's bytes. `Err` has the line on why they have no value, or means no memory.
+    /// Parses a file. `Err` has the line to print on malformed bytes, or means out of memory.
     fn parse(&self, alloc: Global, bytes: Vec<u8>) -> Result<Self::Out, Stop>
         requires { length bytes.items ≤ (form self.now).limit }
         ensures found { IfOk result ((form self.now).Is bytes.items) }
@@ -58,7 +58,7 @@ pub fn read_input<I: Form, F: Files>(
     }
 }
 
-// Returns the stop of a command at an input file that wasn't read: too long, failed, or out of
+// Returns why a command stops at an input file that wasn't read: too long, failed, or out of
 // memory.
 fn stop_for_file_error<I: Form>(form: &I, alloc: Global, e: FileErr) -> Stop
     ensures { IsBadInputStop (λ t. (e ≡ FileErr.TooLong) × (t ≡ (I.form form.now).too_long_line))

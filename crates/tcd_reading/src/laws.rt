@@ -17,15 +17,15 @@ impl AnyCommand for Brand {
     ghost reading = { answer (λ _. ⊥) };
 }
 
-/// Guard laws of how a command ends, in plain equations: its status, the files after it, and the
-/// printed text.
+/// Guards `Ends`, the definition of how a command ends: plain equations on status, files and
+/// printed text follow. `told` is for files and a sink whose contents are known, `anyhow` for all.
 pub fn ending_laws<C: AnyCommand>()
     ensures told { EndingLaw C.reading }
     ensures anyhow { EndingLawInAllCases C.reading }
 {}
 
-/// Guard laws of a command's reports and of the files that it needs, in plain equations, whatever
-/// number of files it reads.
+/// Guards `ReadingSays` and `HoldsNeededInputs`: each report is on the first bad input, or on the
+/// values of all. Inputs after a bad one needn't be there.
 pub fn reading_laws<C: AnyCommand>()
     ensures says { ReportLaw C.reading }
     ensures asks { NeededInputsLaw C.reading }

@@ -30,7 +30,7 @@ impl Model for Write {
 }
 
 impl Write {
-    /// Makes a file to write.
+    /// Makes a file to write, with this name and these bytes. An error means that memory ran out.
     pub fn of(alloc: Global, name: &str, bytes: Vec<u8>) -> Result<Write, NoMemory>
         ensures { IfOk result (λ w. w ≡ record { name = name.now; bytes = bytes.items }) }
     {
@@ -60,7 +60,7 @@ impl Model for Report {
 }
 
 impl Report {
-    /// Makes a report with nothing to write.
+    /// Makes a report with this status, a text to print, and no file to write.
     pub fn of(alloc: Global, status: Status, text: Vec<u8>) -> Report
         ensures { result ≡ text_report status text.items }
     {
@@ -89,7 +89,7 @@ impl From<NoMemory> for Stop {
 
     ghost from_gives = { λ _ e. e ≡ stop.NoMemory };
 
-    /// Returns the stop of a command that is out of memory.
+    /// Converts an allocation failure to the reason why a command stops.
     fn from(_error: NoMemory) -> Stop {
         Stop::NoMemory
     }
@@ -98,7 +98,7 @@ impl From<NoMemory> for Stop {
 /// The outcome of a command, before a file is written or a text printed.
 pub type Outcome = Result<Report, Stop>;
 
-/// Returns a command's report that is done, with one file to write and a text to print.
+/// Returns a command's report with the status Done, one file to write and a text to print.
 pub fn report_with_file(
     alloc: Global,
     name: &str,
@@ -116,7 +116,7 @@ pub fn report_with_file(
     })
 }
 
-/// Returns a command's report that is done, with two files to write in this order and a text to
+/// Returns a command's report with the status Done, two files to write in this order and a text to
 /// print.
 pub fn report_with_two_files(
     alloc: Global,
@@ -137,7 +137,7 @@ pub fn report_with_two_files(
 }
 
 /// Ends a command: writes the files of its outcome, then prints its text, and returns the status.
-/// After the first file, only writing the next files allocates memory.
+/// Only writing files allocates memory.
 pub fn finish_outcome<F: Files, S: Sink>(
     alloc: Global,
     outcome: Outcome,
@@ -158,8 +158,8 @@ pub fn finish_outcome<F: Files, S: Sink>(
     }
 }
 
-/// Returns the stop of a command at an input that isn't in its form, with the line to print. If
-/// `line` is an error, the stop is for lack of memory.
+/// Returns why a command stops at a malformed input, with the line to print. If `line` is an error,
+/// the reason is that memory ran out.
 pub fn bad_input_stop(line: Result<Vec<u8>, NoMemory>) -> Stop
     ensures stops { IsBadInputOrNoMemory (λ t. IsOkAnd line (λ l. t ≡ l.items)) result }
     ensures sure { IsOk line → result ≢ Stop.NoMemory }
@@ -170,7 +170,8 @@ pub fn bad_input_stop(line: Result<Vec<u8>, NoMemory>) -> Stop
     }
 }
 
-/// Writes the files of a command's report in order, up to the first failure.
+/// Writes the files of a command's report in order, up to the first failure, whose error is
+/// returned.
 fn write_report_files<F: Files>(
     alloc: Global,
     writes: &[Write],

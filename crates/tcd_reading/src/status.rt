@@ -28,7 +28,7 @@ impl From<Status> for u8 {
 
     ghost from_gives = { λ status code. code ≡ exit_status_of status };
 
-    /// The exit status of the program.
+    /// Returns the program's exit status, 0 to 5, for a command's status.
     fn from(status: Status) -> u8 {
         match status {
             Status::Done => 0,
@@ -41,8 +41,8 @@ impl From<Status> for u8 {
     }
 }
 
-/// Prints a text and returns a command's status: the one given, or that of a fault if printing
-/// failed. It allocates no memory.
+/// Prints a text and returns the command's status: `status`, or `Fault` if printing failed.
+/// Allocates no memory.
 pub fn print_with_status<S: Sink>(out: &mut S, text: &[u8], status: Status) -> Status
     ensures prints { PrintsWithStatus status text.now (S.seen out.old) (S.seen out.new) result }
     ensures later { (S.seen out.old).faults ≤ (S.seen out.new).faults }

@@ -98,8 +98,8 @@ impl<'a, R: Print> Sink for Stdout<'a, R> {
     }
 }
 
-// Reads from an open file until the room is full or the file ends, and returns the number of bytes
-// read. `None` means that reading failed.
+// Reads from an open file until the buffer `room` is full or the file ends. Returns the number of
+// bytes read, or `None` if reading failed.
 fn read_until_full<R: Read>(file: &mut R, room: &mut [u8]) -> Option<usize> {
     let mut filled = 0;
     while filled < room.len() {

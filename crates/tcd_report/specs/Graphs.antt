@@ -34,11 +34,12 @@ pub data Arrow : Type 0 where
   goes : EdgeWay → Arrow
   back : ℕ → Arrow
 
--- the front of each line of a node in the graph: its key
+-- the prefix of each line of a node in the graph: its key, a colon and a blank
 abbrev pub node_line_prefix : Key → List ℕ
 node_line_prefix key = frame_name key ++ codes ": "
 
--- the front of each line of a point in the graph: that of its node, and the point's address
+-- the prefix of each line of a point in the graph: that of its node, the point's address and a
+-- blank
 abbrev pub point_line_prefix : Key → ℕ → List ℕ
 point_line_prefix key p = node_line_prefix key ++ (hex_word p ++ 32 ∷ [])
 
@@ -231,7 +232,7 @@ pub record AreEdges (cert : CertData) (ds : List Owed) (w : Edges) : Type 0 wher
   pub aln : w.aln.items ≡ misaligned_entries_of ds
   pub irq : w.irq.entries.items ≡ interrupt_entries_of ds
 
--- lines of the graph with this front and word, one for each address
+-- lines of the graph with this prefix and word, one for each address
 abbrev pub lines_to : List ℕ → List ℕ → List ℕ → List ℕ
 lines_to front word targets = flat_map (λ q. front ++ line_end_to word q) targets
 

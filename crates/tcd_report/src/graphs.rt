@@ -21,10 +21,9 @@ pub(crate) mod handlers;
 pub(crate) mod lines;
 pub(crate) mod successors;
 
-/// Returns the graph of an accepted certificate as text: one line for each way on from a point, in
-/// the order of keys and addresses. A point has, in order: jumps and calls by ascending address,
-/// returns of callees, system call, misaligned access, interrupts by ascending priority, its
-/// return. No line is there twice, and each ends with a line feed.
+/// Returns the control flow graph of an accepted certificate as text: a line for each edge, ordered
+/// by frame and address. At one address jumps and calls come first, then returns of callees, system
+/// call, misaligned access, interrupts, and `ret` or `rfe`.
 pub fn graph(alloc: Global, image: &Image, plan: &Plan, cert: &Cert) -> Result<String, NoMemory>
     requires { Accepts image.now plan.now cert.now }
     ensures { IfOk result (λ text. IsGraph image.now plan.now cert.now (string_bytes text)) }

@@ -6,8 +6,8 @@ use depth_cert::{Key, key_kind_text};
 use tcd_base::NoMemory;
 use tcd_text::{append_hex_word, append_str};
 
-/// Appends a frame's name, the text of its key, to a growing text: at the front of the graph's
-/// lines, or in the report.
+/// Appends the name of a frame, as `call 80000008 prio 10 is 1`, to a text for the graph or the
+/// report.
 #[tactic(auto, unfolding(crate::specs::Texts::frame_name))]
 pub(crate) fn append_frame_name(text: &mut String, key: &Key) -> Result<(), NoMemory>
     ensures { OnOk result (string_bytes text.new ≡ string_bytes text.old ++ frame_name key.now) }

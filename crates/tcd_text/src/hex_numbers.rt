@@ -20,7 +20,7 @@ pub fn hex_number(digits: &[u8]) -> Option<u32>
     }
 }
 
-/// Returns the two hex digits of a byte, the higher one first.
+/// Returns the two upper-case hex digits of a byte in ASCII, the higher one first.
 #[tactic(auto, unfolding(crate::specs::HexNumbers::hex_byte))]
 pub fn hex_byte(byte: u32) -> [u8; 2]
     requires { byte < 256 }
@@ -29,7 +29,7 @@ pub fn hex_byte(byte: u32) -> [u8; 2]
     [hex_digit(byte / 16), hex_digit(byte % 16)]
 }
 
-/// Returns the eight hex digits of a word, the highest one first.
+/// Returns the eight upper-case hex digits of a word in ASCII, the highest one first.
 #[tactic(auto, unfolding(crate::specs::HexNumbers::hex_byte, crate::specs::HexNumbers::hex_word))]
 pub fn hex_word(word: u32) -> [u8; 8]
     ensures { result ≡ hex_word word }
@@ -99,7 +99,7 @@ fn upper_hex_digit_value(c: u8) -> Option<u32>
     }
 }
 
-// Returns the ASCII code of a hex digit, in upper case.
+// Returns the ASCII code of the hex digit with value `n`, in upper case.
 #[tactic(auto, unfolding(crate::specs::HexNumbers::hex_digit))]
 fn hex_digit(n: u32) -> u8
     requires { n < 16 }

@@ -17,8 +17,7 @@ pub(crate) fn line_end(text: &[u8]) -> usize
     }
 }
 
-/// Returns the first of a text's lines, without its line feed, and the text after it. The text
-/// isn't empty.
+/// Splits a text that isn't empty into its first line, without the line feed, and the text after.
 pub fn cut_line(text: &[u8]) -> (&[u8], &[u8])
     requires { 0 < length text.now }
     ensures lines { text_lines text.now ≡ result.0.now ∷ text_lines result.1.now }

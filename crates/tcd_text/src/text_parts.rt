@@ -11,7 +11,7 @@ pub fn append_str(text: &mut String, more: &str) -> Result<(), NoMemory>
     Ok(())
 }
 
-/// Returns the bytes of a text before the index of a separator, such as the line feed of a line.
+/// Returns the bytes of a text before the separator at index `place`, such as a line feed.
 pub(crate) fn text_before(text: &[u8], place: usize) -> &[u8]
     requires { place ≤ length text.now }
     ensures { result.now ≡ take place text.now }
@@ -19,8 +19,8 @@ pub(crate) fn text_before(text: &[u8], place: usize) -> &[u8]
     &text[..place]
 }
 
-/// Returns the bytes of a text after the separator at this index, such as the line feed of a line.
-/// At the text's end there are none.
+/// Returns the bytes of a text after the separator at index `place`, such as a line feed. If
+/// `place` is the text's length, there are none.
 pub(crate) fn text_after(text: &[u8], place: usize) -> &[u8]
     requires { place ≤ length text.now }
     ensures { result.now ≡ drop (place + 1) text.now }

@@ -39,9 +39,9 @@ impl Cells {
     ghost use Rattle.value_cells.specs.Cells.{IsCell, AreCells};
     ghost use Rattle.value_cells.specs.CellListText.{HasRoomForCell, AreCellsAfterLine, IsErrOfCellLine, IsResultOfCellText};
 
-    /// Reads the cells of a plan from a text. Each line is empty or `cell AT LO HI`, where each
-    /// number has eight upper-case hex digits. The error is that of the first bad line; if several
-    /// errors fit it, the first in the order of `CellsErr`.
+    /// Reads the cells, words of ram with bounds, from lines `cell AT LO HI`; numbers have eight
+    /// upper-case hex digits, and empty lines are skipped. Returns the first bad line's first
+    /// error, in the order of `CellsErr`.
     pub fn read(bytes: &[u8], plan: &Plan) -> Result<Cells, CellsErr>
         requires { length bytes.now ≤ 2 ^ 30 }
         ensures read { IsResultOfCellText plan.now bytes.now result }
@@ -66,7 +66,7 @@ impl Cells {
         self.list.as_slice()
     }
 
-    // Returns an empty list of cells for this plan, on which only the contract depends.
+    // Returns an empty list of cells. The plan is there for the contract alone.
     fn new(plan: &Plan) -> Cells
         ensures none { result ≡ [] }
         ensures cells { AreCells plan.now result }
@@ -77,8 +77,8 @@ impl Cells {
         }
     }
 
-    // Adds the cell that line `number` of a text names. An empty line adds none; else the error is
-    // the line's.
+    // Adds the cell that line `number` of a text names; an empty line adds none. The error says
+    // what is wrong with the line: its form, not in ram, named twice, or too many.
     fn add_line(&mut self, plan: &Plan, number: u32, line: &[u8]) -> Result<(), CellsErr>
         requires { AreCells plan.now self.old }
         ensures ok { OnOk result (AreCellsAfterLine plan.now self.old line.now self.new) }

@@ -15,9 +15,9 @@ use packed_cert::{Cert, Node, PointWalk};
 use tcd_plan::Plan;
 use value_domain::Bounds;
 
-/// Returns the first key and address at which K16 fails: some possible store touches a cell, and
-/// isn't a store of the cell's whole word, or can store a word outside its bounds. The rules accept
-/// the certificate under the plan with cells.
+/// Returns the first frame key and address at which a store may break a cell's bounds (rule K16),
+/// or `None`. Cells are words of ram with bounds; the certificate is accepted under the plan with
+/// cells.
 #[inline(never)]
 pub fn cells_fault(image: &Image, plan: &Plan, cells: &Cells, cert: &Cert) -> Option<(Key, u32)>
     requires cells { AreCells plan.now cells.now }
@@ -49,8 +49,8 @@ pub fn cells_fault(image: &Image, plan: &Plan, cells: &Cells, cert: &Cert) -> Op
     None
 }
 
-/// Returns the first address of a node's points at which K16, the rule on cells, fails, or `None`
-/// if the rule holds at each.
+/// Returns the first address of a node's points at which a store may break a cell's bounds (rule
+/// K16), or `None`. `codes` caches decoded instructions; `walk` is reused.
 fn first_cell_fault_in_node<'a>(
     rule: &CellsRule,
     codes: &mut KnownCodes,

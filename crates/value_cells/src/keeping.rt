@@ -8,9 +8,9 @@ ghost use Rattle.value_cells.specs.Keeping.{AccessKeepsAllCellBounds, StoreKeeps
 use crate::cells::Cell;
 use value_domain::{Val, extent_of, member};
 
-/// Returns whether a store keeps each cell that it touches: it stores the cell's whole word, and a
-/// number inside the cell's bounds. The store has 1, 2 or 4 bytes (`size`); its address can be any
-/// word of `at`, and what it stores any word of `stored`.
+/// Returns whether a store keeps the bounds of each cell that it touches: it stores the cell's
+/// whole word, and a number within bounds. The store has `size` bytes; its address can be any word
+/// of `at`, and what it stores any word of `stored`.
 pub(crate) fn keeps_all_cell_bounds(at: &Val, size: u8, stored: &Val, cells: &[Cell]) -> bool
     requires at { IsWellFormed at.now }
     requires stored { IsWellFormed stored.now }
@@ -27,8 +27,8 @@ pub(crate) fn keeps_all_cell_bounds(at: &Val, size: u8, stored: &Val, cells: &[C
     true
 }
 
-/// Returns whether a store keeps one cell. Only stores from at most three bytes below the cell up
-/// to its last byte touch it.
+/// Returns whether a store, at each address in `at`, misses the cell, or writes exactly its word
+/// with a number within bounds.
 fn keeps_cell_bounds(at: &Val, size: u8, stored: &Val, cell: &Cell) -> bool
     requires at { IsWellFormed at.now }
     requires stored { IsWellFormed stored.now }
@@ -56,8 +56,9 @@ fn fits_cell(size: u8, stored: &Val, cell: &Cell) -> bool
     size == 4 && is_within_cell_bounds(stored, cell.lo, cell.hi)
 }
 
-/// Returns whether a store at `x` keeps the cell at the address `cell`: `x` is no member of `at`;
-/// or `fits`, and `x` is `cell`.
+/// Returns whether a store at the address `x` is impossible or keeps the bounds of the cell at
+/// `cell`. `at` has the store's possible addresses; `fits` says whether a store exactly at the cell
+/// keeps the bounds.
 fn is_store_allowed_at(x: u32, at: &Val, fits: bool, cell: u32) -> bool
     requires { IsWellFormed at.now }
     ensures { IsTrue result ↔ IsStoreAllowedAt at.now fits cell x }
@@ -65,7 +66,7 @@ fn is_store_allowed_at(x: u32, at: &Val, fits: bool, cell: u32) -> bool
     !member(x, at) || fits && x == cell
 }
 
-/// Returns whether all words of a value are in `lo..=hi`.
+/// Returns whether all words of an abstract value are within a cell's bounds `lo..=hi`.
 fn is_within_cell_bounds(v: &Val, lo: u32, hi: u32) -> bool
     requires { IsWellFormed v.now }
     ensures { IsTrue result ↔ AreWithinCellBounds v.now lo hi }

@@ -28,8 +28,8 @@ pub(crate) fn ram_without_cells(plan: &Plan, cells: &[Cell]) -> ArrayVec<Range, 
     ram
 }
 
-/// Returns the plan with cells: their words aren't ram, and they are the last peripherals, in their
-/// order.
+/// Returns the plan with the cells, bounded words of ram, as its last peripherals. Their bytes
+/// leave ram, and loads of them give words within bounds.
 pub fn with_cells(plan: &Plan, cells: &Cells) -> Plan
     requires { AreCells plan.now cells.now }
     ensures { result ≡ with_cells plan.now cells.now }

@@ -26,8 +26,9 @@ pub(crate) struct CellsRule<'a> {
     pub(crate) cells: &'a [Cell],
 }
 
-/// Returns whether K16 holds of the instruction at an address: if a possible store touches a cell,
-/// its whole word is stored, within bounds.
+/// Returns whether K16, the rule on cells, holds at an address in the state `s`. Each possible
+/// store there that touches a cell has to store its whole word, within bounds. `codes` caches
+/// decoded instructions.
 pub(crate) fn keeps_rule_16(rule: &CellsRule, codes: &mut KnownCodes, addr: u32, s: &State) -> bool
     requires values { AreInLattice rule.now.bounds.now s.now.regs }
     requires cells { CellsDoNotWrap rule.now.cells.now }

@@ -25,8 +25,8 @@ pub struct Extent {
     pub step: u8,
 }
 
-/// Returns the extent of a Set's ascending words: the least, the greatest, and the step up to 2
-/// such that 2^`step` divides all.
+/// Returns the extent of a Set's ascending words: the least, the greatest, and the greatest step up
+/// to 2 such that 2^`step` divides all.
 pub(crate) fn extent_of_set(words: &[u32]) -> Extent
     requires { AreSetWords words.now }
     ensures { IsExtent words.now result.least result.greatest result.step }
@@ -39,7 +39,7 @@ pub(crate) fn extent_of_set(words: &[u32]) -> Extent
 }
 
 /// Returns the extent of a Span: its least and its greatest member, which may be inside
-/// `lo..=last`, and its step.
+/// `lo..=last`, and its step: all members are multiples of `2 ^ step`.
 pub(crate) fn extent_of_span(lo: u32, last: u32, step: u8) -> Extent
     requires { IsWellFormed (Span lo last step) }
     ensures { IsExtent (multiples_in_range lo last step) result.least result.greatest result.step }
@@ -52,8 +52,8 @@ pub(crate) fn extent_of_span(lo: u32, last: u32, step: u8) -> Extent
     }
 }
 
-/// Overwrites `out` with the Span of this step between thresholds: from the one at or below `least`
-/// to before the one above `greatest`.
+/// Overwrites `out` with a Span of this step. The Span goes from the widening threshold at or below
+/// `least` to just before the one above `greatest`.
 pub fn write_span(b: &Bounds, least: u32, greatest: u32, step: u8, out: &mut Val)
     ensures { out.new ≡ span_between_thresholds b.now least greatest step }
 {
@@ -62,7 +62,8 @@ pub fn write_span(b: &Bounds, least: u32, greatest: u32, step: u8, out: &mut Val
     set_span(out, lo, last, step);
 }
 
-/// Joins a word into an abstract value, which becomes the least one that holds the word too.
+/// Joins the word `x` into the abstract value `v`, which becomes the least one of the lattice that
+/// holds `x` too.
 pub fn join_word(b: &Bounds, v: &mut Val, x: u32)
     requires { IsInLattice b.now v.old }
     ensures cover { v.new ≡ cover b.now (x ∷ members v.old) }
@@ -72,7 +73,8 @@ pub fn join_word(b: &Bounds, v: &mut Val, x: u32)
     insert_or_widen(b, v, x);
 }
 
-/// Joins words into an abstract value, which becomes the least one that holds these words too.
+/// Joins words into the abstract value `v`, which becomes the least one of the lattice that holds
+/// these words too.
 pub fn join_word_list(b: &Bounds, v: &mut Val, words: &[u32])
     requires { IsInLattice b.now v.old }
     ensures cover { v.new ≡ cover b.now (members v.old ++ words.now) }
@@ -89,8 +91,8 @@ pub fn join_word_list(b: &Bounds, v: &mut Val, words: &[u32])
     }
 }
 
-/// Returns the extent of these words and those of another extent together. The join of an abstract
-/// value and the words has this extent.
+/// Returns the extent of these words joined with a set of words of extent `e`. An extent is the
+/// least word, the greatest, and the greatest step up to 2 such that 2^`step` divides all.
 pub fn extent_with_words(e: &Extent, words: &[u32]) -> Extent
     ensures { (xs : List ℕ) → IsExtent xs e.now.least e.now.greatest e.now.step
         → IsExtent (xs ++ words.now) result.least result.greatest result.step }
@@ -110,7 +112,8 @@ pub fn extent_with_words(e: &Extent, words: &[u32]) -> Extent
     }
 }
 
-/// Returns the least abstract value that holds these words, of which there is at least one.
+/// Returns the least abstract value of the lattice that holds these words, of which there is at
+/// least one.
 pub fn cover_words(b: &Bounds, words: &[u32]) -> Val
     requires { 1 ≤ length words.now }
     ensures cover { result ≡ cover b.now words.now }
@@ -121,7 +124,8 @@ pub fn cover_words(b: &Bounds, words: &[u32]) -> Val
     out
 }
 
-/// Overwrites an abstract value with the least one that holds the words.
+/// Overwrites `out` with the least abstract value of the lattice that holds these words, of which
+/// there is at least one.
 pub fn write_cover_words(b: &Bounds, words: &[u32], out: &mut Val)
     requires { 1 ≤ length words.now }
     ensures cover { out.new ≡ cover b.now words.now }
@@ -183,8 +187,8 @@ pub fn is_extent_in_span(e: &Extent, lo: u32, last: u32, step: u8) -> bool
     lo <= e.least && e.greatest <= last && step <= e.step
 }
 
-/// Returns true if a value is in the lattice of these limits: a Set of no more words than allowed,
-/// or a Span between thresholds.
+/// Returns true if `v` is a value under the limits `b`: a Set of few enough words, or a larger Span
+/// between widening thresholds.
 pub fn is_value(b: &Bounds, v: &Val) -> bool
     ensures { IsTrue result ↔ IsInLattice b.now v.now }
 {
@@ -249,16 +253,16 @@ pub(crate) fn lower_bound_from(words: &[u32], k: usize, x: u32) -> usize
     at
 }
 
-/// Returns the step of the words' extent, by which the lattice covers them: the greatest up to 2
-/// such that 2^`step` divides all of them.
+/// Returns the common alignment of these words: the greatest step up to 2 such that 2^`step`
+/// divides all of them.
 fn extent_step(words: &[u32]) -> u8
     ensures { result ≡ step_of_set words.now }
 {
     alignment_log2(bitwise_or_of_words(words))
 }
 
-/// Returns the bitwise or of these words, whose trailing zero bits give the step of the words'
-/// extent in the lattice.
+/// Returns the bitwise or of these words. The trailing zero bits of the result, up to two, are the
+/// words' common alignment.
 fn bitwise_or_of_words(words: &[u32]) -> u32
     ensures { sets.alignment_log2 result ≡ step_of_set words.now }
 {
@@ -269,8 +273,8 @@ fn bitwise_or_of_words(words: &[u32]) -> u32
     bits
 }
 
-/// Joins a word into an abstract value: a member changes nothing, a Set with room gets the word,
-/// any other value becomes a Span.
+/// Joins the word `x` into the abstract value `v`: a member changes nothing, a Set with room gets
+/// the word, any other value becomes a Span.
 fn insert_or_widen(b: &Bounds, v: &mut Val, x: u32)
     requires { IsInLattice b.now v.old }
     ensures { v.new ≡ cover b.now (x ∷ members v.old) }
@@ -289,7 +293,7 @@ fn insert_or_widen(b: &Bounds, v: &mut Val, x: u32)
     write_span_with_word(b, &e, x, v);
 }
 
-/// Overwrites `out` with the Span between thresholds for a value of extent `e` and the word `x`.
+/// Overwrites `out` with the Span between thresholds that holds `x` and a value of extent `e`.
 fn write_span_with_word(b: &Bounds, e: &Extent, x: u32, out: &mut Val)
     ensures { out.new ≡ span_between_thresholds b.now (min x e.now.least) (max x e.now.greatest)
         (min (sets.alignment_log2 x) e.now.step) }
@@ -346,8 +350,8 @@ fn join_span(b: &Bounds, v: &mut Val, lo: u32, last: u32, step: u8)
     );
 }
 
-/// Joins two Sets in the lattice: widens the first to the least value that holds the words of both.
-/// It is a function of its own, so that its callers need no stack for the words.
+/// Joins the words of a Set into the Set `v`, which becomes the least value that holds both. Not
+/// inlined, so that callers need no stack for the union.
 #[inline(never)]
 fn join_set_with_set(b: &Bounds, v: &mut Val, words: &Words)
     requires { IsSome (words_of v.old) }
@@ -359,8 +363,8 @@ fn join_set_with_set(b: &Bounds, v: &mut Val, words: &Words)
     }
 }
 
-/// Overwrites `out` with the least value that holds these ascending words: their Set if a Set can
-/// have so many, else a Span.
+/// Overwrites `out` with the least value that holds these ascending words: the Set of the words if
+/// a Set can have so many, else a Span.
 fn write_value_of_words(b: &Bounds, words: &[u32], out: &mut Val)
     requires some { 1 ≤ length words.now }
     requires rising { IsAscending words.now }
@@ -422,8 +426,8 @@ fn is_span_below_set(lo: u32, last: u32, step: u8, words: &[u32]) -> bool
     true
 }
 
-/// Returns true if this Span is in the lattice of these limits: between thresholds, and of more
-/// members than a Set can have.
+/// Returns true if a Span is in the lattice with the limits `b`: its ends are at thresholds, and a
+/// Set can't have so many members.
 fn is_span_in_lattice(b: &Bounds, lo: u32, last: u32, step: u8) -> bool
     ensures { IsTrue result ↔ IsInLattice b.now (Span lo last step) }
 {
@@ -441,8 +445,8 @@ fn is_span_in_lattice(b: &Bounds, lo: u32, last: u32, step: u8) -> bool
     lo == b.floor(e.least) && u64::from(last) + 1 == b.threshold_above(e.greatest)
 }
 
-/// Overwrites `out` with the Span that is the least value with the multiples of `2 ^ step` in
-/// `first..=last`, more than a Set can have.
+/// Overwrites `out` with the least value that holds the multiples of `2 ^ step` in `first..=last`:
+/// a Span, since they are more than a Set can have.
 fn write_cover_as_span(b: &Bounds, first: u32, last: u32, step: u8, out: &mut Val)
     requires step { step ≤ 2 }
     requires many { b.now.most_words < span_len first last step }
@@ -454,7 +458,7 @@ fn write_cover_as_span(b: &Bounds, first: u32, last: u32, step: u8, out: &mut Va
 }
 
 /// Overwrites `out` with the least value that holds the multiples of `2 ^ step` in `first..=last`,
-/// which are at most 128. The words are listed first.
+/// from a list of them, at most 128. Not inlined, since the list needs stack.
 #[inline(never)]
 fn write_cover_as_set(b: &Bounds, first: u32, last: u32, step: u8, out: &mut Val)
     requires step { step ≤ 2 }

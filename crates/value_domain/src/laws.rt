@@ -3,9 +3,9 @@ ghost use Rattle.value_domain.specs.Laws.{JoinIsLeast, MembersAreListed, CoverIs
 ghost use Rattle.value_domain.specs.Thresholds.{ThresholdsAreNearest};
 ghost use Rattle.value_domain.specs.StateLaws.{StateJoinIsLeast};
 
-/// The laws of values: a value is given by its members; `cover` is the least value that holds a
-/// set, and `join` the least value above two; the ends of a Span are the thresholds next to its
-/// least and greatest member.
+/// States the lattice laws of abstract values: all members are listed, `cover` gives the least
+/// value that holds a set, `join` the least above two. The ends of a Span are the nearest
+/// thresholds.
 pub fn value_laws()
     ensures members { MembersAreListed }
     ensures closure { CoverIsLeast }
@@ -13,7 +13,7 @@ pub fn value_laws()
     ensures thresholds { ThresholdsAreNearest }
 {}
 
-/// The law of states: the join is the least state that covers both.
+/// States the law of states: the join of two states is the least state that covers both.
 pub fn state_laws()
     ensures { StateJoinIsLeast }
 {}

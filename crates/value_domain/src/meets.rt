@@ -27,7 +27,7 @@ pub fn write_meet_with_span(b: &Bounds, v: &Val, lo: u32, last: u32, step: u8, o
 }
 
 /// Overwrites `out` with the meet of a Set's words and a value: the cover of those that are members
-/// of `v`. Returns false if there are none.
+/// of `v`. Returns false, and leaves `out`, if there are none.
 pub fn write_meet_with_set(b: &Bounds, words: &[u32], v: &Val, out: &mut Val) -> bool
     requires { IsWellFormed v.now }
     ensures kept { value_if_found result out.new
@@ -44,8 +44,8 @@ pub fn write_meet_with_set(b: &Bounds, words: &[u32], v: &Val, out: &mut Val) ->
     found
 }
 
-/// Overwrites `out` with the cover of those of a Set's words that are in a Span. Returns false if
-/// there are none; then `out` may be any value.
+/// Overwrites `out` with the cover of those of a Set's words that are members of a Span. Returns
+/// false if there are none; then `out` may be any value.
 fn write_meet_of_set_and_span(b: &Bounds, words: &[u32], lo: u32, last: u32, step: u8, out: &mut Val) -> bool
     ensures meet { value_if_found result out.new
         ≡ cover_if_any b.now (filter (is_in_span lo last step) words.now) }
@@ -76,8 +76,8 @@ fn write_meet_of_spans(b: &Bounds, lo: u32, last: u32, step: u8, out: &mut Val) 
     true
 }
 
-/// Joins the word `x` into the meet `out` of two values. If `found` is false, no word was before,
-/// and the meet becomes its Set.
+/// Joins the word `x` into `out`, the meet of two values as far as known. If `found` is false, no
+/// word was joined before, and `out` becomes the Set of `x`.
 fn add_word_to_meet(b: &Bounds, found: bool, out: &mut Val, x: u32)
     requires { IfSome (value_if_found found out.old) (IsInLattice b.now) }
     ensures more { (xs : List ℕ) → value_if_found found out.old ≡ cover_if_any b.now xs

@@ -67,7 +67,8 @@ pub fn covers(upper: &State, s: &State) -> bool
     are_regs_below(&s.regs, &upper.regs)
 }
 
-/// Returns true if the context of `upper` covers this one: IE that may be on, least CCPN, `lower`.
+/// Returns true if `upper` permits interrupts if `ie` does, has a least CCPN up to `ccpn`, and
+/// promises the entry's lower registers only if `lower` does.
 pub fn covers_context(upper: &State, ie: bool, ccpn: u8, lower: bool) -> bool
     ensures { IsTrue result
         ↔ ((IsTrue ie → IsTrue upper.now.ie) × (upper.now.ccpn ≤ ccpn)
@@ -76,8 +77,8 @@ pub fn covers_context(upper: &State, ie: bool, ccpn: u8, lower: bool) -> bool
     flag_implies(ie, upper.ie) && upper.ccpn <= ccpn && flag_implies(upper.lower, lower)
 }
 
-/// Returns true if both lists are equally long, and each flag of `flags` implies the one with its
-/// index in `others`.
+/// Returns true if two lists of flags of saved lower contexts are equally long, and each of `flags`
+/// implies the one with its index in `others`.
 pub fn flags_imply(flags: &[bool], others: &[bool]) -> bool
     ensures { IsTrue result ↔ FlagsImply flags.now others.now }
 {
@@ -111,7 +112,8 @@ pub fn join_states(b: &Bounds, s: &State, t: &State) -> Option<State>
     })
 }
 
-/// Returns a copy of the flags of an abstract state's saved lower contexts. Mostly there are none.
+/// Returns a copy of the flags of an abstract state's saved lower contexts. Most states have none,
+/// and then nothing is copied.
 #[inline(always)]
 pub fn copy_locals(locals: &ArrayVec<bool, 8>) -> ArrayVec<bool, 8>
     ensures { result ≡ locals.now }
@@ -174,7 +176,8 @@ fn join_regs(b: &Bounds, s: &[Val; 27], t: &[Val; 27]) -> [Val; 27]
     out
 }
 
-/// Returns true if the flag of a saved lower context is set in both of two joined states.
+/// Returns true if both flags are set: the flag that a saved lower context has in the join of two
+/// states.
 fn are_both_flags_set(a: bool, b: bool) -> bool
     ensures { result ≡ (a && b) }
 {

@@ -92,7 +92,7 @@ impl Words {
         self.words.try_extend_from_slice(words).unwrap();
     }
 
-    /// Overwrites the list with one word, in place. If it had one, only that is written.
+    /// Overwrites the list with the one word `x`, in place.
     #[inline(always)]
     fn set_one(&mut self, x: u32)
         ensures { self.new ≡ x ∷ [] }
@@ -102,7 +102,8 @@ impl Words {
         self.words.push(x);
     }
 
-    /// Inserts a word at its index among a Set's ascending words, which are at most 127.
+    /// Inserts a word that isn't a member among a Set's ascending words, of which there are at most
+    /// 127.
     pub fn insert(&mut self, x: u32)
         requires room { length self.old < 128 }
         requires absent { ¬ Among x self.old }
@@ -139,7 +140,7 @@ fn count_words_below(words: &[u32], x: u32) -> usize
     words.partition_point(|w| *w < x)
 }
 
-/// Returns true if `x` is one of the ascending words.
+/// Returns true if `x` is one of a Set's ascending words.
 pub(crate) fn is_word_of_set(words: &[u32], x: u32) -> bool
     requires { IsAscending words.now }
     ensures { IsTrue result ↔ Among x words.now }
@@ -260,7 +261,7 @@ pub fn set_word(out: &mut Val, x: u32)
 // `replace_by_singleton`, `replace_by_set` and `replace_by_span` write all bytes of a
 // value. Each is a function of its own, so that its callers need no stack for a value.
 
-/// Overwrites a Span with the Set of one word.
+/// Replaces a value, Set or Span, by the Set of one word; not inlined, to save callers' stack.
 #[inline(never)]
 fn replace_by_singleton(out: &mut Val, x: u32)
     ensures { out.new ≡ Set (x ∷ []) }
@@ -268,7 +269,7 @@ fn replace_by_singleton(out: &mut Val, x: u32)
     *out = Val::one(x);
 }
 
-/// Overwrites a Span with the Set of these words.
+/// Replaces a value, Set or Span, by the Set of these words; not inlined, to save callers' stack.
 #[inline(never)]
 fn replace_by_set(out: &mut Val, words: &[u32])
     requires { AreSetWords words.now }
@@ -300,7 +301,7 @@ pub fn set_span(out: &mut Val, lo: u32, last: u32, step: u8)
 }
 
 /// Returns how many times two divides a word, counted up to 2. A word in a Span's range is a member
-/// of it if this is at least the Span's step.
+/// if its count is at least the Span's step.
 #[tactic(auto, unfolding(crate::specs::Sets::alignment_log2))]
 pub fn alignment_log2(x: u32) -> u8
     ensures { result ≡ sets.alignment_log2 x }
@@ -369,7 +370,7 @@ pub fn span_len(lo: u32, last: u32, step: u8) -> u64
     (u64::from(last) / unit + 1).saturating_sub((u64::from(lo) + (unit - 1)) / unit)
 }
 
-/// Returns true if the word is a member of this Span.
+/// Returns true if the word `x` is a member of the Span with these ends and this step.
 pub(crate) fn is_word_in_span(lo: u32, last: u32, step: u8, x: u32) -> bool
     ensures { result ≡ is_in_span lo last step x }
 {
@@ -401,7 +402,7 @@ pub fn is_equal_span(v: &Val, lo: u32, last: u32, step: u8) -> bool
     }
 }
 
-/// Overwrites a Set with a Span.
+/// Replaces a value, Set or Span, by a Span; not inlined, to save callers' stack.
 #[inline(never)]
 fn replace_by_span(out: &mut Val, lo: u32, last: u32, step: u8)
     ensures { out.new ≡ Span lo last step }

@@ -28,7 +28,8 @@ abbrev pub state_with_increased_base : Limits → PlanData → State → Arg →
 state_with_increased_base b p s (Reg r) offset after = if after then state_after_reg_write s r (operation_value b Add (reg_of p s r) (word_val offset)) else s
 state_with_increased_base b p s (Word w) offset after = s
 
--- the addresses of an access: base plus offset, or the base alone with post-increment
+-- the addresses of an access by its addressing mode: base plus offset, or the base alone with
+-- post-increment (after)
 abbrev pub address_by_mode : Limits → PlanData → State → Arg → ℕ → Bool → Val
 address_by_mode b p s base offset after = if after then arg_of p s base else operation_value b Add (arg_of p s base) (word_val offset)
 

@@ -20,11 +20,12 @@ register_slot r =
     else if nat_le 28 r && nat_le r 31 then Some (r - 5)
     else None
 
--- the fixed value of a register that a state has no place for: the plan's word, or any word for A11
+-- the value of a register without a slot in states: the plan's word for A0, A1, A8 and A9, any word
+-- for A11
 abbrev pub fixed_register_value : PlanData → ℕ → Val
 fixed_register_value p r = if r == 27 then any_val else word_val (global_of p r)
 
--- the value of a register by its place in a state, or its fixed value if it has no place
+-- the value of a register by its slot in a state, or its fixed value if it has no slot
 abbrev pub register_value_at : PlanData → State → ℕ → Option ℕ → Val
 register_value_at p s r (Some i) = slice_index_or s.regs i any_val
 register_value_at p s r None = fixed_register_value p r

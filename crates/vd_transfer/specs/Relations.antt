@@ -6,7 +6,8 @@ use Rattle.vd_transfer.specs.declared.refinement.Relation.{Relation}
 use Rattle.vd_transfer.specs.declared.refinement.Relation.TheVariants.{Same, Other, Less, AtLeast, More, AtMost}
 use Rattle.std.specs.List.{list_any}
 
--- the relation that a branch's operands are in if the branch is taken (the side is true) or isn't
+-- the relation between a branch's operands on one of its sides: if the branch is taken (the side is
+-- true), or if not
 unfoldable pub operand_relation : Cond → Bool → Relation
 operand_relation cond.Eq side = if side then Same else Other
 operand_relation cond.Ne side = if side then Other else Same

@@ -21,8 +21,8 @@ pub(crate) struct Addressing {
 }
 
 impl Addressing {
-    /// Returns how a load or a store computes its address: as `base + offset`, or as `base` alone
-    /// if the base is increased `after`wards.
+    /// Returns the addressing mode of a load or store: `base + offset` or, with `after`
+    /// (post-increment), `base` alone, which grows by the offset afterwards.
     pub(crate) fn new(base: Arg, offset: u32, after: bool) -> Addressing
         ensures { result ≡ record { base = base; offset = offset; after = after } }
     {
@@ -75,8 +75,8 @@ pub fn address_by_shape(b: &Bounds, plan: &Plan, shape: Shape, s: &State) -> Val
     out
 }
 
-/// Overwrites `out` with the addresses of an access by its addressing mode: base plus offset, or
-/// the base alone with post-increment.
+/// Overwrites `out` with the addresses of an access with the addressing mode `at`: base plus
+/// offset, or the base alone with post-increment.
 fn write_address_by_mode(b: &Bounds, plan: &Plan, s: &State, at: Addressing, out: &mut Val)
     requires base { IsArgInBounds at.base }
     requires values { AreInLattice b.now s.now.regs }

@@ -29,7 +29,7 @@ pub(crate) struct Comparison {
     pub(crate) y: Arg,
 }
 
-/// Returns the relation that a branch's operands are in on this side (true: the branch is taken).
+/// Returns the relation between the operands of a branch that is taken (`side` is true) or isn't.
 #[tactic(auto, unfolding(crate::specs::Relations::operand_relation))]
 pub(crate) fn operand_relation(cond: Cond, side: bool) -> Relation
     ensures { result ≡ operand_relation cond side }
@@ -77,8 +77,8 @@ fn is_side_taken_by_equal_words(cond: Cond, side: bool) -> bool
     }
 }
 
-/// Returns true if a branch that compares `x` and `y` goes to this side (true: the branch is
-/// taken).
+/// Returns true if a branch that compares `x` and `y` goes to this side: the taken edge if `side`
+/// is true, else the fall-through edge.
 fn is_side_taken(cond: Cond, side: bool, x: u32, y: u32) -> bool
     ensures { result ≡ is_side_taken cond side x y }
 {
@@ -91,8 +91,8 @@ fn is_side_taken(cond: Cond, side: bool, x: u32, y: u32) -> bool
 
 // The functions below write the change of a side into the caller's `Change`, whatever it held.
 
-/// Writes into `c` the change on a side of a branch: of `v`, its left register's value, only
-/// members possible against `w` stay. Returns false if there are none.
+/// Writes into `c` how a side of a branch changes `s`: the left register keeps only members of `v`
+/// that some member of `w` allows. Returns false if there are none.
 pub(crate) fn narrow_left_register(
     b: &Bounds,
     test: Comparison,
@@ -150,8 +150,8 @@ pub fn write_branch_change(
     }
 }
 
-/// Writes into `c` how a branch with this comparison changes a state on a side, and decrements a
-/// loop's counter. Returns false if the side isn't possible.
+/// Writes into `c` how a branch with this comparison changes a state on a side. A `loop` (`lowers`)
+/// also decrements its counter. Returns false if the side isn't possible.
 fn write_comparison_change(
     b: &Bounds,
     plan: &Plan,
@@ -175,7 +175,7 @@ fn write_comparison_change(
 }
 
 /// Writes into `c` how a branch's comparison narrows its operands on a side. Returns false if the
-/// side isn't possible. Two single words stay as they are.
+/// side isn't possible. Two operands of one word each stay as they are.
 fn narrow_operands(b: &Bounds, plan: &Plan, test: Comparison, s: &State, c: &mut Change) -> bool
     requires operands { (test.x < 32) × IsArgInBounds test.y }
     requires values { AreInLattice b.now s.now.regs }
@@ -217,8 +217,8 @@ fn decrement_if_loop(b: &Bounds, plan: &Plan, x: u8, lowers: bool, s: &State, c:
     }
 }
 
-/// Narrows the operands of a branch on a side by their abstract values. One that the state has
-/// isn't copied. Returns false if the side isn't possible.
+/// Writes into `c` how a side of a branch narrows its operands by their abstract values, which
+/// aren't copied if the state has them. Returns false if the side isn't possible.
 fn narrow_by_values(b: &Bounds, plan: &Plan, test: Comparison, s: &State, c: &mut Change) -> bool
     requires operands { (test.x < 32) × IsArgInBounds test.y }
     requires values { AreInLattice b.now s.now.regs }
@@ -240,8 +240,8 @@ fn narrow_by_values(b: &Bounds, plan: &Plan, test: Comparison, s: &State, c: &mu
     }
 }
 
-/// Narrows `v`, the value of the register that a branch compares with the constant `z`, to the
-/// members possible on a side. Returns false if there are none.
+/// Writes into `c` how a branch narrows `v`, the value of the register compared with the constant
+/// `z`, on a side. Returns false if no member is possible.
 fn narrow_against_constant(
     b: &Bounds,
     test: Comparison,
@@ -267,8 +267,8 @@ fn narrow_against_constant(
     true
 }
 
-/// Narrows a branch's operands whose values aren't in the state. Returns false if the side isn't
-/// possible. A function of its own, so that callers need no stack for values.
+/// Narrows as `narrow_by_values` does, for an operand without a value in the state: both values are
+/// built first. Never inlined, as values take room on the stack.
 #[inline(never)]
 fn narrow_built_operands(
     b: &Bounds,
@@ -289,7 +289,7 @@ fn narrow_built_operands(
     refine_both_operands(b, test, s, &v, &build_arg(b, plan, s, test.y), c)
 }
 
-/// Adds to a change `c` of `s` the decrement of the register `x` by 1, as its third write.
+/// Adds to `c`, a branch's change of `s`, the decrement of a `loop`'s counter register `x` by 1.
 #[inline(never)]
 fn decrement_register(b: &Bounds, plan: &Plan, x: u8, s: &State, c: &mut Change)
     requires register { x < 32 }

@@ -41,7 +41,7 @@ pub struct Change {
     pub locals: ArrayVec<bool, 8>,
 }
 
-/// Returns the write of a change that changes nothing: a value for no slot of a state.
+/// Returns a register write that changes nothing, for a `Change` that needs fewer than three.
 #[inline(always)]
 pub(crate) fn no_write() -> RegisterWrite
     ensures { result ≡ no_write }
@@ -103,7 +103,7 @@ impl Change {
 }
 
 /// Directs a write of a change to the slot of the register `r`. For a lower register clears `mark`,
-/// which says that the lower registers are those of the entry.
+/// which says that the lower registers are as at the frame's entry.
 #[inline(always)]
 pub(crate) fn set_write_slot(write: &mut RegisterWrite, mark: &mut bool, r: u8)
     ensures slot { write.new ≡ record write.old { at = register_slot r } }
@@ -114,8 +114,8 @@ pub(crate) fn set_write_slot(write: &mut RegisterWrite, mark: &mut bool, r: u8)
     *mark = *mark && !lower;
 }
 
-/// Directs the third write of a change, which has its value already, to the slot of the register
-/// `r`.
+/// Directs the third write of the change `c`, whose value is set already, to the register `r`. A
+/// write to a lower register also clears the flag `lower`.
 #[inline(always)]
 pub(crate) fn set_third_write_slot(b: &Bounds, s: &State, c: &mut Change, r: u8)
     requires values { AreInLattice b.now (state_after s.now c.old).regs }

@@ -57,8 +57,8 @@ fn is_write_to_slot(write: &RegisterWrite, i: usize) -> bool
     }
 }
 
-/// Returns the value in slot `i` that a change starts from, before its writes: the state's own, or
-/// `any` if the register becomes unknown.
+/// Returns the value in slot `i` before the writes of a change: that of `s`, or `any` if the change
+/// forgets the register.
 #[inline(always)]
 fn base_value_in_slot<'a>(s: &'a State, base: Base, any: &'a Val, i: usize) -> &'a Val
     requires place { i < 27 }

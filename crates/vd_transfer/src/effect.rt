@@ -84,8 +84,8 @@ pub(crate) fn write_scaled_address_change(
     );
 }
 
-/// Writes into `c` the change of a state by post-increment of a load or store: the offset is added
-/// to its base. Without post-increment nothing changes.
+/// Writes into `c` the change of a state by the post-increment of a load or store: the base
+/// register grows by the offset. Without post-increment nothing changes.
 pub(crate) fn write_post_increment_change(b: &Bounds, plan: &Plan, s: &State, at: Addressing, c: &mut Change)
     requires base { IsArgInBounds at.base }
     requires values { AreInLattice b.now s.now.regs }
@@ -109,8 +109,8 @@ pub(crate) fn write_post_increment_change(b: &Bounds, plan: &Plan, s: &State, at
     }
 }
 
-/// Writes into `c` the change of a state by a load: the value of its third write goes to the
-/// register `dst`, after any post-increment.
+/// Writes into `c` the change of a state by a load: the loaded value, already in `c.third`, goes to
+/// the register `dst` after any post-increment.
 pub(crate) fn write_load_change(
     b: &Bounds,
     plan: &Plan,
@@ -143,8 +143,8 @@ pub(crate) fn write_unknown_result_change(b: &Bounds, s: &State, dst: u8, c: &mu
     write_any(&mut c.second.value);
 }
 
-/// Writes into `c` the change of a state by SVLCX: the state's flag `lower` is added to those of
-/// its saved lower contexts.
+/// Writes into `c` the change of a state by SVLCX: one more saved lower context, marked whether its
+/// registers are those of the frame's entry.
 pub(crate) fn write_lower_save_change(s: &State, c: &mut Change)
     requires { length s.now.locals.items < 8 }
     ensures { state_after s.now c.new ≡ state_after_lower_save s.now }
@@ -153,7 +153,7 @@ pub(crate) fn write_lower_save_change(s: &State, c: &mut Change)
     c.locals.push(s.lower);
 }
 
-/// Writes into `c` the change by BISR: a saved lower context, IE on, and `number` as CCPN.
+/// Writes into `c` the change of a state by BISR: a saved lower context, IE on, CCPN `number`.
 pub(crate) fn write_bisr_change(s: &State, number: u8, c: &mut Change)
     requires { length s.now.locals.items < 8 }
     ensures { state_after s.now c.new
@@ -188,8 +188,8 @@ pub(crate) fn write_ie_change(s: &State, ie: bool, c: &mut Change)
     c.ie = ie;
 }
 
-/// Writes into `c` what an instruction that isn't a branch and goes on to the next one changes. A
-/// load writes the value of the third write in `c` to its register.
+/// Writes into `c` how an instruction that isn't a branch and goes on to the next one changes the
+/// state `s`. A load takes the loaded value from the third write in `c`.
 #[tactic(auto, unfolding(crate::specs::EffectsOnStates::transfer_of))]
 pub fn write_instruction_change(b: &Bounds, plan: &Plan, shape: Shape, s: &State, c: &mut Change)
     requires shape { IsShapeInBounds shape }

@@ -3,21 +3,21 @@ ghost use Rattle.vd_transfer.specs.Soundness.{AddressIsSound, BranchIsSound, Res
 ghost use Rattle.vd_transfer.specs.OperationLaws.{OperationsAreSound, OperationsAreMonotone};
 ghost use Rattle.vd_transfer.specs.Refinement.{RefinementIsSoundAndMonotone};
 
-/// The laws of operations on abstract values: they are sound, so each result is a member, and
-/// monotone, so smaller operands give a smaller value.
+/// Laws of operations on abstract values. Sound: each result on members is a member of the
+/// operation's value. Monotone: smaller operands give a smaller value.
 pub fn operation_laws()
     ensures sound { OperationsAreSound }
     ensures monotone { OperationsAreMonotone }
 {}
 
-/// The laws of refinement by signed and unsigned comparisons. Sound: each word for which the
-/// relation holds is kept. Monotone: fewer words give fewer.
+/// Laws of refinement by signed and unsigned comparisons. Sound: each word for which the relation
+/// holds is kept. Monotone: fewer words before give fewer after.
 pub fn refinement_laws()
     ensures { RefinementIsSoundAndMonotone }
 {}
 
-/// The laws of soundness: if a state holds the machine's registers, the state after an instruction,
-/// or on a branch's side, holds them afterwards.
+/// Laws of soundness: if a state holds the machine's registers, so does the state after an
+/// instruction or on a branch's taken side. Addresses of accesses are members of their values.
 pub fn soundness_laws()
     ensures transfer { TransferIsSound }
     ensures restore { RestoreIsSound }

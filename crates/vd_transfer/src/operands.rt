@@ -75,8 +75,8 @@ pub(crate) fn constant_value(b: &Bounds, w: u32) -> Val
     Val::one(w)
 }
 
-/// Returns the abstract value of an instruction's operand. A function of its own, so that a caller
-/// that needs none built needs no stack for one.
+/// Returns the abstract value of an instruction's operand, newly built. Never inlined, so that
+/// callers that need no such value reserve no stack for one.
 #[inline(never)]
 pub(crate) fn build_arg(b: &Bounds, plan: &Plan, s: &State, a: Arg) -> Val
     requires operand { IsArgInBounds a }
@@ -123,8 +123,8 @@ pub(crate) fn write_constant(b: &Bounds, x: u32, out: &mut Val)
     set_word(out, x);
 }
 
-/// Overwrites `out` with the value of an operand that isn't in the state. A function of its own, so
-/// that its callers need no stack for a value.
+/// Overwrites `out` with the abstract value of an operand that has no slot in the state, newly
+/// built. Never inlined, so that callers reserve no stack for a value.
 #[inline(never)]
 fn write_built_arg(b: &Bounds, plan: &Plan, s: &State, a: Arg, out: &mut Val)
     requires operand { IsArgInBounds a }

@@ -18,7 +18,7 @@ use value_domain::{
 };
 
 /// Overwrites `out` with the abstract value of an operation on `v` and `w`: the cover of all
-/// results for two Sets, else of an interval.
+/// results for two Sets, else of a superset.
 pub fn write_operation_value(b: &Bounds, op: Op, v: &Val, w: &Val, out: &mut Val)
     requires left { IsInLattice b.now v.now }
     requires right { IsInLattice b.now w.now }
@@ -34,8 +34,8 @@ pub fn write_operation_value(b: &Bounds, op: Op, v: &Val, w: &Val, out: &mut Val
     }
 }
 
-/// Overwrites `out` with the abstract value of an operation on a state's operands. Single words are
-/// computed directly; a value that the state has isn't copied.
+/// Overwrites `out` with the abstract value of the operation `of` on operands in the state `s`.
+/// Single words are computed directly; values that the state has aren't copied.
 pub(crate) fn evaluate_operation(b: &Bounds, plan: &Plan, s: &State, of: Operation, out: &mut Val)
     requires operands { IsArgInBounds of.x × IsArgInBounds of.y }
     requires values { AreInLattice b.now s.now.regs }
@@ -84,8 +84,8 @@ fn write_results_of_pairs(b: &Bounds, op: Op, xs: &[u32], ys: &[u32], out: &mut 
     write_results_of_many_pairs(b, op, xs, ys, out);
 }
 
-/// Overwrites `out` with an operation's value if an operand is a Span: `w` for a move, else the
-/// cover of 0, 1 or an interval.
+/// Overwrites `out` with an operation's value if an operand is a Span: `w` for a move, 0 and 1 for
+/// comparisons, else an interval's cover.
 fn write_results_by_extents(b: &Bounds, op: Op, v: &Val, w: &Val, out: &mut Val)
     requires left { IsInLattice b.now v.now }
     requires right { IsInLattice b.now w.now }
@@ -122,7 +122,7 @@ fn write_results_of_few_pairs(b: &Bounds, op: Op, xs: &[u32], ys: &[u32], out: &
 }
 
 /// Overwrites `out` with the abstract value of an operation on two large Sets. Results are joined
-/// while `out` is a Set; of the others only the extent is.
+/// one by one while `out` is a Set; of later results only the extent is joined.
 #[inline(never)]
 fn write_results_of_many_pairs(b: &Bounds, op: Op, xs: &[u32], ys: &[u32], out: &mut Val)
     requires left { 1 ≤ length xs.now }
@@ -189,8 +189,8 @@ fn fill_result_row(op: Op, x: u32, ys: &[u32], row: &mut [u32])
     }
 }
 
-/// Joins results of an operation into a value by eights, except those in the tables of recent
-/// results: `eights` of eights, `met` of single words.
+/// Joins the results `words` of an operation into `v`. Words found in a table of recent results are
+/// skipped: eight in a row in `eights`, single ones in `met`.
 fn join_result_row(
     b: &Bounds,
     v: &mut Val,
@@ -224,7 +224,7 @@ fn join_result_row(
     }
 }
 
-/// Joins the results of an operation on all pairs of words into a Span, by the extent of all
+/// Joins the results of an operation on all pairs of words into the Span `v`, by the extent of all
 /// results. `row` is scratch space.
 fn join_results_into_span(b: &Bounds, v: &mut Val, op: Op, xs: &[u32], ys: &[u32], row: &mut [u32])
     requires span { IsNone (words_of v.old) }
@@ -254,16 +254,16 @@ fn fill_result_row_inlined(op: Op, x: u32, ys: &[u32], row: &mut [u32])
     }
 }
 
-/// Returns the slot, below 512, of an operation's result in the table of results that were added
-/// lately: a hash of the word.
+/// Returns the slot, below 512, of an operation's result in the table of recent results: a hash of
+/// the word.
 fn recent_result_slot(z: u32) -> usize
     ensures { result < 512 }
 {
     (z.wrapping_mul(0x9683_8B77) >> 23) as usize
 }
 
-/// Joins eight results of an operation into an abstract value, and keeps them in `eights` from `k`
-/// on. A function of its own, so that callers need no stack.
+/// Joins eight results of an operation into an abstract value and into both tables of recent
+/// results: `met`, and `eights` from `k` on. Never inlined, so that callers need no stack.
 #[inline(never)]
 fn join_eight_results(
     b: &Bounds,
@@ -307,8 +307,8 @@ fn join_result(b: &Bounds, v: &mut Val, met: &mut [u32; 512], z: u32)
     met[k] = z;
 }
 
-/// Evaluates an operation as `evaluate_operation` does, from abstract values. One that the state
-/// has isn't copied; any other is built first.
+/// Evaluates an operation as `evaluate_operation` does, from its operands' abstract values. Those
+/// in the state are borrowed; that of a constant or of a register without a slot is built first.
 fn evaluate_on_state_values(b: &Bounds, plan: &Plan, s: &State, of: Operation, out: &mut Val)
     requires operands { IsArgInBounds of.x × IsArgInBounds of.y }
     requires values { AreInLattice b.now s.now.regs }
@@ -324,8 +324,8 @@ fn evaluate_on_state_values(b: &Bounds, plan: &Plan, s: &State, of: Operation, o
     }
 }
 
-/// Evaluates an operation as `evaluate_operation` does, on the left value `v`, if the state doesn't
-/// have the value of the right operand.
+/// Evaluates an operation as `evaluate_operation` does, on the left operand's value `v` and the
+/// right operand's value, which is built first.
 #[inline(never)]
 fn evaluate_built_right(b: &Bounds, plan: &Plan, s: &State, of: Operation, v: &Val, out: &mut Val)
     requires operand { IsArgInBounds of.y }
@@ -337,8 +337,8 @@ fn evaluate_built_right(b: &Bounds, plan: &Plan, s: &State, of: Operation, v: &V
     write_operation_value(b, of.op, v, &build_arg(b, plan, s, of.y), out);
 }
 
-/// Evaluates an operation as `evaluate_operation` does, if the state doesn't have the value of the
-/// left operand.
+/// Evaluates an operation as `evaluate_operation` does, if the left operand, such as a constant,
+/// has no value in the state. Both values are built first.
 #[inline(never)]
 fn evaluate_built_both(b: &Bounds, plan: &Plan, s: &State, of: Operation, out: &mut Val)
     requires operands { IsArgInBounds of.x × IsArgInBounds of.y }

@@ -39,8 +39,8 @@ pub struct Interval {
 
 pub(crate) const NONE: Interval = Interval { lo: 1, last: 0 };
 
-/// Returns two intervals that hold the words in a relation to some word from `low` to `high`. Only
-/// for Same do they hold others too.
+/// Returns two intervals, perhaps empty, of the words in the relation to some word in `low..=high`.
+/// For `Same`, which callers treat apart, they hold others too.
 #[tactic(auto, unfolding(crate::specs::Relations::MayBeRelated))]
 pub(crate) fn related_intervals(rel: Relation, low: u32, high: u32) -> (Interval, Interval)
     ensures { (x : ℕ) → x < 2 ^ 32 → (IsInInterval result.0 x ⊎ IsInInterval result.1 x)
@@ -57,7 +57,7 @@ pub(crate) fn related_intervals(rel: Relation, low: u32, high: u32) -> (Interval
 }
 
 /// Overwrites `out` with the cover of the members of `v` that are in a relation to some member of
-/// `w`. Returns false if there are none; then `out` may be any value.
+/// `w` in the unsigned order. Returns false if there are none; then `out` may be any value.
 pub fn refine_by_relation(b: &Bounds, rel: Relation, v: &Val, w: &Val, out: &mut Val) -> bool
     requires left { IsInLattice b.now v.now }
     requires right { IsInLattice b.now w.now }
@@ -71,8 +71,8 @@ pub fn refine_by_relation(b: &Bounds, rel: Relation, v: &Val, w: &Val, out: &mut
     }
 }
 
-/// Joins the members of `v` in an interval into `out`, or if `found` is false overwrites `out` with
-/// their cover. Returns false if there are none, before or now.
+/// Joins the members of `v` in the interval `i` into `out`, which has none yet if `found` is false.
+/// Returns true if `out` has members afterwards.
 pub(crate) fn join_members_in_interval(
     b: &Bounds,
     v: &Val,
@@ -97,8 +97,8 @@ pub(crate) fn join_members_in_interval(
     }
 }
 
-/// Overwrites `out` with a branch's left operand, refined: the cover of the members of `v` with
-/// which the branch may go to the side. Returns false if there are none.
+/// Refines a branch's left operand: overwrites `out` with the cover of those members of `v` that
+/// lead to the side for some member of `w`. Returns false if there are none.
 pub(crate) fn refine_left_operand(
     b: &Bounds,
     test: Comparison,
@@ -120,8 +120,8 @@ pub(crate) fn refine_left_operand(
     }
 }
 
-/// Writes into `c` the values of a branch's operands on a side, `v` and `w` without the members
-/// impossible there. Returns false if one has no others.
+/// Writes into `c` how a side of a branch refines its operands: their values `v` and `w` lose their
+/// impossible members. Returns false if one has none left.
 pub(crate) fn refine_both_operands(
     b: &Bounds,
     test: Comparison,
@@ -201,8 +201,8 @@ fn refine_to_common_members(b: &Bounds, v: &Val, w: &Val, out: &mut Val) -> bool
     }
 }
 
-/// Refines as `refine_by_relation` does, for a relation other than Same, by the intervals of words
-/// that are in the relation.
+/// Refines `v` as `refine_by_relation` does, for a relation other than `Same`, by the intervals of
+/// words that are in the relation.
 fn refine_by_intervals(b: &Bounds, rel: Relation, v: &Val, w: &Val, out: &mut Val) -> bool
     requires left { IsInLattice b.now v.now }
     requires right { IsInLattice b.now w.now }
@@ -217,8 +217,8 @@ fn refine_by_intervals(b: &Bounds, rel: Relation, v: &Val, w: &Val, out: &mut Va
     join_members_in_interval(b, v, second, found, out)
 }
 
-/// Joins the members of `v` in an interval into `out`, which is a value already. A function of its
-/// own, so that its callers need no stack.
+/// Joins the members of `v` in the interval `i` into the value `out`. Never inlined, so that
+/// callers reserve no stack for a value.
 #[inline(never)]
 fn join_meet_with_interval(b: &Bounds, v: &Val, i: Interval, out: &mut Val)
     requires value { IsInLattice b.now v.now }
@@ -234,8 +234,8 @@ fn join_meet_with_interval(b: &Bounds, v: &Val, i: Interval, out: &mut Val)
     join_into(b, out, &others);
 }
 
-/// Overwrites `out` with a branch's right operand, refined: the cover of the members of `w` with
-/// which the branch may go to the side. Returns false if there are none.
+/// Refines a branch's right operand: overwrites `out` with the cover of those members of `w` that
+/// lead to the side for some member of `v`. Returns false if there are none.
 fn refine_right_operand(b: &Bounds, test: Comparison, v: &Val, w: &Val, out: &mut Val) -> bool
     requires left { IsInLattice b.now v.now }
     requires right { IsInLattice b.now w.now }
@@ -251,8 +251,8 @@ fn refine_right_operand(b: &Bounds, test: Comparison, v: &Val, w: &Val, out: &mu
     }
 }
 
-/// Returns the relation with its operands exchanged. So refinement can narrow the right operand
-/// like the left one.
+/// Returns the relation with its operands exchanged, by which refinement narrows the right operand
+/// as it does the left one.
 #[tactic(auto, unfolding(crate::specs::Relations::converse))]
 fn converse(rel: Relation) -> Relation
     ensures { result ≡ converse rel }

@@ -84,7 +84,7 @@ pub(crate) fn fixed_register_value(plan: &Plan, r: u8) -> Val
 }
 
 /// Returns a register's abstract value, as `reg` does, and promises that the value is in the
-/// lattice.
+/// lattice of the limits `b`.
 #[inline(always)]
 pub(crate) fn reg_in_lattice(b: &Bounds, plan: &Plan, s: &State, r: u8) -> Val
     requires register { r < 32 }

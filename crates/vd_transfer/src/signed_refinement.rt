@@ -63,8 +63,8 @@ fn signed_range(v: &Val) -> (u32, u32)
     }
 }
 
-/// Returns two intervals of the words whose ranks in the signed order are in `i`: of negative
-/// words, and of others. Either may be empty.
+/// Returns the words whose ranks in the signed order are in `i`, as two intervals: the negative
+/// words, and the others. Either may be empty.
 fn words_in_signed_interval(i: Interval) -> (Interval, Interval)
     ensures { (x : ℕ) → x < 2 ^ 32 → (IsInInterval result.0 x ⊎ IsInInterval result.1 x)
         ↔ IsInInterval i (signed_rank x) }

@@ -22,8 +22,8 @@ const ANY: StridedInterval = StridedInterval {
     step: 0,
 };
 
-/// Returns the strided interval that covers an operation's results, by the extents `e` and `f` of
-/// its operands. A shift counts by the right operand `w`.
+/// Returns the strided interval that covers an operation's results, by its operands' extents
+/// (least, greatest, step) `e` and `f`. Shifts take their count from the right operand `w`.
 #[tactic(auto, unfolding(crate::specs::Intervals::result_interval))]
 pub(crate) fn result_interval(op: Op, e: &Extent, f: &Extent, w: &Val) -> StridedInterval
     requires left { e.now.least ≤ e.now.greatest }

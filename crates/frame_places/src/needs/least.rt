@@ -6,8 +6,8 @@ ghost use Rattle.frame_places.specs.declared.needs.row.NeedRow.{NeedRow};
 use crate::needs::row::{NeedRow, need_by_row};
 use std::alloc::{AllocError, Global};
 
-/// Makes one pass over the rows, the last one first: raises the needs of frames that are too low.
-/// Returns whether any need changed.
+/// Makes one pass over the rows, last to first: raises each frame's need of areas to what the rows
+/// demand, at most `cap + 1`. Returns whether any need changed.
 fn raise_needs_by_rows(needs: &mut [u32], rows: &[NeedRow], cap: u32) -> bool
     requires cap { cap < 2 ^ 16 }
     requires nodes { length needs.old < 2 ^ 16 }
@@ -38,8 +38,8 @@ fn raise_needs_until_met(needs: &mut [u32], rows: &[NeedRow], cap: u32)
     while raise_needs_by_rows(needs, rows, cap) {}
 }
 
-/// Raises the need of a row's frame to what the row asks for, at most `cap + 1`. Returns whether
-/// the need changed.
+/// Raises `needs[row.node]`, the areas that a frame needs, to what one of its points demands by
+/// `row`, at most `cap + 1`. Returns whether the need changed.
 fn raise_need_by_row(needs: &mut [u32], row: &NeedRow, cap: u32) -> bool
     requires cap { cap < 2 ^ 16 }
     requires nodes { length needs.old < 2 ^ 16 }
@@ -61,8 +61,8 @@ fn raise_need_by_row(needs: &mut [u32], row: &NeedRow, cap: u32) -> bool
 /// that they enter.
 const FEW: u32 = 4;
 
-/// Returns the least needs of `nodes` frames, by their numbers, that meet all rows, or `None` if
-/// some need has to be above the cap.
+/// Returns the least needs of `nodes` frames in areas, by frame number, that meet the demands of
+/// all rows. `None` if one of them would be above the cap.
 pub fn least_needs(
     alloc: Global,
     nodes: usize,
@@ -82,8 +82,8 @@ pub fn least_needs(
     }
 }
 
-/// Returns the least needs if four passes over the rows find them within the cap, else `None`, as
-/// mostly with a recursive frame.
+/// Returns the least needs of `nodes` frames, by their numbers, if four passes over the rows find
+/// them within the cap. Otherwise `None`, as mostly with a recursive frame.
 pub fn needs_in_few_passes(
     alloc: Global,
     nodes: usize,

@@ -6,7 +6,7 @@ use crate::needs::reach::{FrameEdge, predecessors};
 use indexmap::IndexMap;
 use std::alloc::{AllocError, Global};
 
-/// Returns a topological rank for each node of the graph of entries: less than those of nodes
+/// Returns a topological rank for each node of the call graph: less than the ranks of the nodes
 /// entered, or 0 if a cycle is reached.
 pub fn topological_ranks(
     alloc: Global,
@@ -49,8 +49,8 @@ pub fn get_or_zero(numbers: &[usize], node: usize) -> usize
     }
 }
 
-/// Returns true only if each edge leads to a node of higher rank: then the graph of entries is
-/// acyclic, and no frame recursive.
+/// Returns true only if each edge of the call graph leads to a node of higher rank. Then the graph
+/// is acyclic, and no frame is recursive.
 pub(crate) fn are_ranks_rising(ranks: &[usize], edges: &[FrameEdge]) -> bool
     ensures { IsTrue result → (k : ℕ) → IsRecursiveNode edges.now k → ⊥ }
 {
@@ -62,8 +62,8 @@ pub(crate) fn are_ranks_rising(ranks: &[usize], edges: &[FrameEdge]) -> bool
     true
 }
 
-/// Counts a ranked node off the unranked nodes that each predecessor enters (`left`), and queues
-/// predecessors with none left: a step of topological sorting.
+/// After `node` got its rank, lowers in `left` each predecessor's count of unranked successors, and
+/// queues predecessors with none left: a step of topological sorting.
 fn queue_freed_predecessors(
     sources: &IndexMap<usize, Vec<usize>>,
     node: usize,

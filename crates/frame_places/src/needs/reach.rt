@@ -15,8 +15,8 @@ pub struct FrameEdge {
     pub into: usize,
 }
 
-/// Returns the edges of the graph of entries, each once: from a row's frame to each frame that its
-/// point enters.
+/// Returns the edges of the call graph of frames, each once: from a row's frame to each frame that
+/// its point enters by a call, an interrupt or a trap.
 pub fn frame_edges(
     alloc: Global,
     rows: &[NeedRow],
@@ -30,8 +30,8 @@ pub fn frame_edges(
     Ok(edges)
 }
 
-/// Returns a mark for each node of the graph of entries: true for the nodes from which `node` is
-/// reached.
+/// Returns a mark for each of the `nodes` frames of the call graph with these edges: true for the
+/// frames from which `node` is reached.
 pub fn reaching_marks(
     alloc: Global,
     nodes: usize,
@@ -46,7 +46,8 @@ pub fn reaching_marks(
     reaching_marks_by_predecessors(alloc, nodes, &sources, node)
 }
 
-/// Returns whether one of these nodes of the graph of entries is marked.
+/// Returns whether one of these nodes of the call graph is marked; a number past the end of `marks`
+/// isn't.
 pub fn has_marked_node(marks: &[bool], nodes: &[usize]) -> bool
     ensures { IsTrue result ↔ ((t : ℕ) × Contains nodes.now t × IsNodeMarked marks.now t) }
 {
@@ -58,8 +59,8 @@ pub fn has_marked_node(marks: &[bool], nodes: &[usize]) -> bool
     false
 }
 
-/// Returns the first node, by the numbers `orders`, on a cycle of the graph of entries. `None` if
-/// no node is, as when ranks rise along all edges.
+/// Returns the node on a cycle of the call graph with the least number in `orders`, or `None`
+/// without a cycle. If the topological `ranks` rise along all edges, there is none.
 pub fn first_recursive_node(
     alloc: Global,
     orders: &[u64],
@@ -80,7 +81,8 @@ pub fn first_recursive_node(
     Ok(first)
 }
 
-/// Adds to the graph of entries an edge from a node to each node that its row enters.
+/// Adds to the call graph of frames an edge from `node` to each frame in `into`, which a point of
+/// that node enters.
 fn add_edges(
     edges: &mut IndexSet<FrameEdge>,
     node: usize,
@@ -94,7 +96,8 @@ fn add_edges(
     Ok(())
 }
 
-/// Returns a map from each node of the graph of entries to the nodes that enter the node.
+/// Returns a map from each node of the call graph that is entered to its predecessors, the nodes
+/// with an edge to that node.
 pub(crate) fn predecessors(
     alloc: Global,
     edges: &[FrameEdge],
@@ -108,8 +111,8 @@ pub(crate) fn predecessors(
     Ok(sources)
 }
 
-/// Returns true marks for the nodes from which `node` is reached, found backwards by the
-/// predecessors of each node.
+/// Returns true marks for the nodes of the call graph from which `node` is reached, by a backward
+/// search. `sources` has the predecessors of each node.
 fn reaching_marks_by_predecessors(
     alloc: Global,
     nodes: usize,
@@ -128,7 +131,7 @@ fn reaching_marks_by_predecessors(
     Ok(marks)
 }
 
-/// Adds the source of an edge of the graph of entries to the predecessors of its target.
+/// Adds the source of an edge of the call graph to the predecessors of its target in `sources`.
 fn add_predecessor(
     alloc: Global,
     sources: &mut IndexMap<usize, Vec<usize>>,
@@ -146,8 +149,8 @@ fn add_predecessor(
     Ok(())
 }
 
-/// Marks all nodes of the graph of entries from which a node of the queue `work` is reached, and
-/// empties the queue.
+/// Marks all nodes of the call graph from which a node of the queue `work` is reached, and empties
+/// the queue. `sources` has the predecessors of each node.
 fn mark_reaching_nodes(
     marks: &mut [bool],
     work: &mut Vec<usize>,
@@ -164,7 +167,8 @@ fn mark_reaching_nodes(
     Ok(())
 }
 
-/// Marks these nodes of the graph of entries, and queues those that weren't marked before.
+/// Marks these nodes of the call graph, and appends those that weren't marked before to the queue
+/// `work` of the backward search.
 fn mark_and_queue_nodes(
     marks: &mut [bool],
     work: &mut Vec<usize>,
@@ -180,7 +184,8 @@ fn mark_and_queue_nodes(
     Ok(())
 }
 
-/// Marks a node of the graph of entries, and queues the node unless marked before.
+/// Marks a node of the call graph, and appends the node to the queue `work` of the backward search
+/// unless marked before.
 fn mark_and_queue_node(
     marks: &mut [bool],
     work: &mut Vec<usize>,
@@ -197,7 +202,7 @@ fn mark_and_queue_node(
     Ok(())
 }
 
-/// Returns whether a node of the graph of entries is marked; false for a number without a node.
+/// Returns whether a node of the call graph is marked; false for a number without a node.
 fn is_marked_node(marks: &[bool], node: usize) -> bool
     ensures { result ≡ slice_index_or marks.now node false }
 {
@@ -207,8 +212,8 @@ fn is_marked_node(marks: &[bool], node: usize) -> bool
     }
 }
 
-/// Returns the first recursive node, by the numbers `orders`, among the nodes up to `node`. `first`
-/// is the first of the nodes before.
+/// Returns the recursive node of the call graph with the least number in `orders`, among the nodes
+/// up to `node`. `first` is that of the nodes before; `sources` has the predecessors of each node.
 fn first_recursive_node_up_to(
     alloc: Global,
     orders: &[u64],
@@ -235,7 +240,8 @@ fn first_recursive_node_up_to(
     }
 }
 
-/// Returns whether a node lies on a cycle of the graph of entries, so that its frame is recursive.
+/// Returns whether a node lies on a cycle of the call graph, so that its frame is recursive.
+/// `sources` has the predecessors of each node.
 fn is_recursive_node(
     alloc: Global,
     nodes: usize,
@@ -252,7 +258,7 @@ fn is_recursive_node(
     Ok(has_marked_successor(marks.as_slice(), edges, node))
 }
 
-/// Returns whether a node of the graph of entries has an edge to a marked node.
+/// Returns whether a node of the call graph has an edge to a marked node.
 fn has_marked_successor(marks: &[bool], edges: &[FrameEdge], node: usize) -> bool
     requires { AreEdgesBelow edges.now (length marks.now) }
     ensures { IsTrue result ↔ HasMarkedSuccessor marks.now edges.now node }

@@ -14,8 +14,8 @@ pub struct NeedRow {
     pub into: Vec<usize>,
 }
 
-/// Returns the need that a row asks for, at most `cap + 1`: the row's locals; or these, one area
-/// and the greatest need entered.
+/// Returns how many areas a point demands of its frame, at most `cap + 1`. These are its saved
+/// lower contexts, plus 1 and the greatest need if the point enters frames.
 pub(crate) fn need_by_row(needs: &[u32], row: &NeedRow, cap: u32) -> u32
     requires cap { cap < 2 ^ 16 }
     requires held { row.now.held < 2 ^ 8 }

@@ -8,7 +8,8 @@ use tcd_base::Files;
 use tcd_forms::{SourceFile, assembled_object_line};
 use tcd_reading::{Outcome, Stop, read_input, report_with_file};
 
-/// The command `asm`: reads a source file, and returns the outcome with its object to write.
+/// The command `asm`: assembles the file named `source`, and returns the outcome, with the object
+/// to write under the name `object`.
 #[inline(never)]
 pub(crate) fn assemble_file<F: Files>(
     alloc: Global,

@@ -14,7 +14,7 @@ use tcd_plan::Plan;
 use tcd_reading::{Outcome, Report, Status, read_input};
 
 /// The command `boot`: reads three files, and reports whether the certificate is accepted and the
-/// boot sequence is at the address.
+/// boot sequence is at address `at`.
 #[inline(never)]
 pub(crate) fn check_boot_files<F: Files>(
     alloc: Global,
@@ -34,7 +34,7 @@ pub(crate) fn check_boot_files<F: Files>(
     boot_verdict(alloc, &image, &board, &proof, at)
 }
 
-// Checks the certificate and the boot sequence at an address, and reports the verdict.
+// Checks the certificate and the boot sequence at address `at`, and reports the verdict.
 fn boot_verdict(alloc: Global, image: &Image, plan: &Plan, cert: &Cert, at: u32) -> Outcome
     ensures { IsReportOrNoMemory (IsBootVerdict image.now plan.now cert.now at) result }
 {

@@ -13,8 +13,8 @@ use tcd_plan::Plan;
 use tcd_reading::{Outcome, Report, Status, read_input, report_with_file};
 use value_cells::{CELLS_RULE, Cells, cells_fault, with_cells};
 
-/// The command `cellcert`: reads an executable, a plan and its cells, and returns the outcome with
-/// their certificate to write.
+/// The command `cellcert`: reads an executable, a plan and its cells, words of RAM with bounds.
+/// Returns the outcome, with a certificate to write that keeps the bounds.
 #[inline(never)]
 pub(crate) fn certify_cells<F: Files>(
     alloc: Global,
@@ -39,8 +39,8 @@ pub(crate) fn certify_cells<F: Files>(
     make_cells_cert(alloc, cert, &image, &board, &words)
 }
 
-// Makes the least certificate of format 2 under the plan with cells. Reports the file of this name
-// to write, or the rule that fails.
+// Makes the least certificate of format 2 under the plan with cells, words of RAM with bounds.
+// Reports the certificate, to write as the file `name`, or the rule that fails.
 fn make_cells_cert(alloc: Global, name: &str, image: &Image, plan: &Plan, cells: &Cells) -> Outcome
     requires { AreCells plan.now cells.now }
     ensures { IsReportOrNoMemory (IsCellcertReport name.now image.now plan.now cells.now) result }

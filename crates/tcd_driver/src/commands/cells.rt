@@ -14,8 +14,8 @@ use tcd_plan::Plan;
 use tcd_reading::{Outcome, Report, Status, read_input};
 use value_cells::{CELLS_RULE, Cells, cells_fault, with_cells};
 
-/// The command `cells`: reads four files, and reports whether the certificate is accepted under the
-/// plan with cells and keeps their bounds.
+/// The command `cells`: reads four files. Reports whether the certificate is accepted and keeps the
+/// cells, words of RAM that one file lists, in their bounds.
 #[inline(never)]
 pub(crate) fn check_cells<F: Files>(
     alloc: Global,
@@ -41,8 +41,8 @@ pub(crate) fn check_cells<F: Files>(
     cells_verdict(alloc, &image, &board, &words, &proof)
 }
 
-// Checks a certificate under the plan with cells, and whether stores keep the cells in their bounds
-// (K16). Reports the verdict.
+// Checks a certificate under the plan with cells, words of RAM with bounds. Then checks K16, that
+// stores keep the bounds, and reports the verdict.
 fn cells_verdict(alloc: Global, image: &Image, plan: &Plan, cells: &Cells, cert: &Cert) -> Outcome
     requires { AreCells plan.now cells.now }
     ensures { IsReportOrNoMemory (IsCellsVerdict image.now plan.now cells.now cert.now) result }

@@ -29,8 +29,8 @@ pub(crate) fn certify_executable<F: Files>(
     certify_image(alloc, cert, &image, &board)
 }
 
-/// Makes the best certificate of an image under a plan. Reports the file of this name to write, or
-/// why none is accepted.
+/// Makes the best certificate of an image under a plan. Reports the certificate, to write as the
+/// file `name`, or why none is accepted.
 fn certify_image(alloc: Global, name: &str, image: &Image, plan: &Plan) -> Outcome
     ensures { IsReportOrNoMemory (IsCertReport name.now image.now plan.now) result }
 {

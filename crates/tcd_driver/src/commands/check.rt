@@ -31,8 +31,8 @@ pub(crate) fn check_files<F: Files>(
     check_verdict(alloc, &image, &board, &proof)
 }
 
-// Checks a certificate for an image and a plan. Reports the certified need, or the first rule that
-// fails.
+// Checks a certificate for an image and a plan. Reports how many CSAs are proved enough, or the
+// first rule that fails.
 fn check_verdict(alloc: Global, image: &Image, plan: &Plan, cert: &Cert) -> Outcome
     ensures { IsReportOrNoMemory (IsCheckVerdict image.now plan.now cert.now) result }
 {

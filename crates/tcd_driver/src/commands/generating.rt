@@ -13,8 +13,8 @@ use tcd_plan::{Plan, PlanErr};
 use tcd_reading::{Outcome, Report, Status, Stop};
 use tcd_report::{generated_plan_text, generated_image};
 
-/// The command `gen`: generates the image with this number of functions and its plan, and reports
-/// their certificate's size and need.
+/// The command `gen`: generates the image with this number of functions and its plan. Reports the
+/// size of their certificate, and the CSAs needed.
 #[inline(never)]
 pub(crate) fn certify_generated_image(alloc: Global, functions: u32) -> Outcome
     requires { (1 ≤ functions) × (functions ≤ 500) }
@@ -32,7 +32,7 @@ pub(crate) fn certify_generated_image(alloc: Global, functions: u32) -> Outcome
 }
 
 /// Makes the least certificate of format 1 of the generated image with this number of functions.
-/// Reports its nodes, points and need, or why none is accepted.
+/// Reports its nodes and points and the CSAs needed, or why none is accepted.
 fn report_generated_image(alloc: Global, functions: u32, image: &Image, plan: &Plan) -> Outcome
     ensures { IsReportOrNoMemory (IsGenReport functions image.now plan.now) result }
 {

@@ -12,8 +12,8 @@ use tcd_base::Files;
 use tcd_forms::{LayoutFile, ObjectFile, bad_link_line, linked_image_line};
 use tcd_reading::{Outcome, Report, Status, Stop, read_input, report_with_file};
 
-/// The command `link`: reads a layout and objects, and returns the outcome with the linked
-/// executable to write.
+/// The command `link`: reads a layout and objects, and returns the outcome, with the linked
+/// executable to write under the name `image`.
 #[inline(never)]
 pub(crate) fn link_files<F: Files>(
     alloc: Global,

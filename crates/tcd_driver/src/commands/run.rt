@@ -33,8 +33,8 @@ pub(crate) fn run_script_file<F: Files>(
     run_script(alloc, &image, &board, &turns)
 }
 
-// Starts the machine, runs it by a turn script, and reports its events, its peak of areas, and its
-// end.
+// Runs the reference machine by a turn script, which says when interrupts come and what peripherals
+// answer. Reports the events, the most CSAs in use, and how the run ended.
 fn run_script(alloc: Global, image: &Image, plan: &Plan, script: &Script) -> Outcome
     requires { FitsPlan plan.now script.now }
     ensures { IsReportOrNoMemory (IsRunReport image.now plan.now script.now) result }

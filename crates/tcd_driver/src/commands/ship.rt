@@ -105,7 +105,8 @@ fn ship_image(alloc: Global, names: &Shipment<'_>, plan: &Plan, image: &Image) -
     }
 }
 
-/// The two files that `ship` writes, in this order: the executable and its certificate.
+/// Returns the two files that `ship` writes, in this order: the executable and its certificate,
+/// with these bytes. An error means that memory ran out.
 fn shipped_files(
     alloc: Global,
     names: &Shipment<'_>,

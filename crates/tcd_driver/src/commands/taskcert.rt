@@ -91,8 +91,8 @@ fn taskcert_report(
     }
 }
 
-// Makes a certificate for each task. Returns their files and the sum of their needs, or the first
-// task without a certificate, and why it has none.
+// Makes a certificate for each task. Returns the files to write under these names and how many CSAs
+// all tasks count for, or the first task without a certificate, and why.
 fn make_each_task_cert(
     alloc: Global,
     image: &Image,
@@ -122,8 +122,8 @@ fn make_each_task_cert(
     Ok((writes, sum))
 }
 
-// Builds task `u`'s view of the image and the plan, and makes its certificate. Returns the
-// certificate with its need, or why there is none.
+// Makes the certificate of task `u`, for the image and the plan as this task sees them. Returns the
+// certificate and the CSAs that it needs, or why there is none.
 fn make_task_cert(
     alloc: Global,
     image: &Image,
@@ -142,7 +142,7 @@ fn make_task_cert(
     make_task_view_cert(alloc, &view, &task_view_plan(plan, tasks, u), tasks)
 }
 
-/// Appends a task's certificate, under its name, to the files that `taskcert` writes.
+/// Appends the certificate of a task, under the name `name`, to the files that `taskcert` writes.
 fn add_task_cert_file(
     alloc: Global,
     writes: &mut Vec<Write>,
@@ -156,8 +156,8 @@ fn add_task_cert_file(
     Ok(())
 }
 
-/// Makes the least certificate of format 2 for a task's view. Returns the certificate with its
-/// need, or why none keeps the tasks apart (K17) or is accepted.
+/// Makes the least certificate of format 2 for image and plan as one task sees them. Returns the
+/// certificate and the CSAs needed, or the rule that fails; K17 keeps tasks apart.
 fn make_task_view_cert(
     alloc: Global,
     view: &Image,

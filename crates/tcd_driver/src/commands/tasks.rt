@@ -60,8 +60,8 @@ pub(crate) fn check_tasks<F: Files>(
     check_task_cert_files(alloc, &image, &board, &list, certs, files)
 }
 
-/// Returns the need of task `u` that counts in the sum of `tasks` and `taskcert`. That is `need`
-/// for the first task, and at least 2 for each other.
+/// Returns how many CSAs task `u` counts for in the sum over all tasks: `need`, but at least 2 for
+/// each task except the first.
 pub(crate) fn counted_task_need(u: usize, need: u32) -> u32
     ensures { result ≡ (if u == 0 then need else max need 2) }
 {
@@ -76,8 +76,8 @@ pub(crate) fn report_wrong_cert_count(alloc: Global) -> Outcome
     Ok(Report::of(alloc, Status::BadInput, line))
 }
 
-// Reports bad input if there are more or fewer names than tasks. Else reads each task's certificate
-// and reports the verdict of `tasks`.
+// Reports bad input if there are more or fewer names of certificates than tasks. Else reads each
+// task's certificate, and reports the verdict of the command `tasks`.
 fn check_task_cert_files<F: Files>(
     alloc: Global,
     image: &Image,
@@ -98,7 +98,7 @@ fn check_task_cert_files<F: Files>(
     }
 }
 
-/// Reads the certificates of these names, one for each task, and reports the verdict of `tasks`.
+/// Reads these certificates, one for each task, and reports the verdict of the command `tasks`.
 fn verdict_on_cert_files<F: Files>(
     alloc: Global,
     image: &Image,
@@ -124,8 +124,8 @@ fn verdict_on_cert_files<F: Files>(
     tasks_verdict(alloc, image, plan, tasks, &certs)
 }
 
-// Reports the verdict of `tasks`: on the switch routine, on each task's certificate, and on the sum
-// of the needs.
+// Reports the verdict of the command `tasks`: on the code that switches tasks, on each task's
+// certificate, and on the sum of the CSAs needed.
 fn tasks_verdict(
     alloc: Global,
     image: &Image,
@@ -163,8 +163,8 @@ fn tasks_verdict(
     }
 }
 
-// Checks each task's certificate. Returns the sum of the needs that count, or the first task whose
-// certificate is refused.
+// Checks each task's certificate. Returns how many CSAs all tasks count for, or the first task
+// whose certificate is refused, and why.
 fn check_each_task_cert(
     alloc: Global,
     image: &Image,
@@ -195,8 +195,8 @@ fn check_each_task_cert(
     Ok(Tally::Sum(sum))
 }
 
-// Checks a certificate for task `u`'s view, and whether the tasks are kept apart (K17). Returns its
-// need, or the first rule that fails.
+// Checks a certificate for the image and the plan as task `u` sees them, and K17, the rule that
+// keeps tasks apart. Returns the CSAs needed, or the first rule that fails.
 fn check_task_cert(
     alloc: Global,
     image: &Image,

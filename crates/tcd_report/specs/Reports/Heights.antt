@@ -63,6 +63,7 @@ HasHeightOfEachNode nodes heights = (n : NodeData) → Contains nodes n → (h :
 abbrev pub HasHeights : {S : Type 0} → HashMap Key ℕ S → List (ℕ × Key) → Type 0
 HasHeights heights ranks = (r : ℕ × Key) → Contains ranks r → (h : ℕ) × (get key_eq heights r.1 ≡ Some h)
 
--- a node's need, and its key, by which the nodes are ordered to find their heights
+-- a node's need with its key; sorted by these pairs, the nodes of an accepted certificate have
+-- callees before callers
 abbrev pub need_with_key : NodeData → ℕ × Key
 need_with_key n = (n.need, n.key)

@@ -6,7 +6,8 @@ use crate::generating::appending::{append_call, append_segment_bytes, append_zer
 use std::alloc::Global;
 use tcd_base::NoMemory;
 
-/// Returns the bytes of all n functions, each but the last with zeros up to the next one.
+/// Returns the bytes of all n functions of a generated image, each but the last with zeros up to
+/// the next one.
 pub(crate) fn generated_functions(alloc: Global, n: u32) -> Result<Vec<u8>, NoMemory>
     requires some { 1 ≤ n }
     requires few { n ≤ 500 }

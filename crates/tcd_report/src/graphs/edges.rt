@@ -33,8 +33,8 @@ pub(crate) struct Edges {
     pub(crate) keys: Vec<Key>,
 }
 
-/// Sets `ways` to the edges of a point in the graph: the addresses where its instruction goes on,
-/// by the words of their lines.
+/// Sets `ways` to the edges from the point at `addr` with abstract state `s`, grouped by the
+/// graph's words for edges, as `to` or `call`. `found` is the point's decoded instruction.
 pub(crate) fn find_edges(
     ways: &mut Edges,
     judged: &Judged,

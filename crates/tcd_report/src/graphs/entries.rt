@@ -12,7 +12,8 @@ use tc_isa::Shape;
 use tcd_base::NoMemory;
 use value_domain::State;
 
-/// Replaces what the list held by the entries of the frames of this kind, for the graph's lines.
+/// Sets `all` to the entry addresses of the frames among `keys` that have this kind, as `CALL`, for
+/// the graph's lines.
 pub(crate) fn set_kind_entries(all: &mut Vec<u32>, keys: &[Key], kind: u8) -> Result<(), NoMemory>
     ensures { OnOk result (all.new.items ≡ entries_of_kind kind keys.now) }
 {
@@ -25,8 +26,8 @@ pub(crate) fn set_kind_entries(all: &mut Vec<u32>, keys: &[Key], kind: u8) -> Re
     Ok(())
 }
 
-/// Replaces what the list held by the entry of the handler of misaligned accesses, if the
-/// instruction's access may be misaligned, else by nothing.
+/// Sets `all` to the entry of the handler of misaligned accesses, for the graph's `aln` line.
+/// Empties `all` if the instruction has no access that may be misaligned.
 pub(crate) fn set_misaligned_entry(
     all: &mut Vec<u32>,
     judged: &Judged,

@@ -56,7 +56,8 @@ pub(crate) fn empty_drawing(alloc: Global) -> Drawing
     }
 }
 
-/// Appends a node to the text of the graph: the lines of its points, one point after another.
+/// Appends the lines of a certificate's node, a kind of frame, to the text of the graph. `codes`
+/// caches decoded instructions, and `walk` is scratch space.
 pub(crate) fn append_node_lines<'a>(
     graph: &mut Drawing,
     judged: &Judged,
@@ -80,7 +81,8 @@ pub(crate) fn append_node_lines<'a>(
     Ok(())
 }
 
-// Appends the lines of the point at `addr` with state `s` to the text of the graph.
+// Appends the lines of the point at `addr` with state `s` in the frame of `key` to the text of the
+// graph. `codes` caches decoded instructions.
 fn append_point_lines(
     graph: &mut Drawing,
     judged: &Judged,

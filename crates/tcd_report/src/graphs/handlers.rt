@@ -45,7 +45,7 @@ pub(crate) fn no_handlers(alloc: Global) -> Handlers
 }
 
 /// Sets `known` to the handlers of the interrupts that may come in a state, for the graph's `irq`
-/// lines, each entry once. `room` may be overwritten.
+/// lines, each entry address once. `room` is scratch space.
 pub(crate) fn find_handlers(
     known: &mut Handlers,
     room: &mut Vec<u32>,
@@ -71,7 +71,7 @@ pub(crate) fn find_handlers(
     Ok(())
 }
 
-// Replaces what the list held by the entries of the handlers of these interrupts.
+// Sets `all` to the entry addresses of the handlers of these interrupts.
 fn set_handler_entries(all: &mut Vec<u32>, plan: &Plan, irqs: &[u8]) -> Result<(), NoMemory>
     ensures { OnOk result (all.new.items ≡ irq_handler_entries plan.now irqs.now) }
 {
@@ -82,8 +82,8 @@ fn set_handler_entries(all: &mut Vec<u32>, plan: &Plan, irqs: &[u8]) -> Result<(
     Ok(())
 }
 
-/// Sets the front of the graph's `irq` lines of known handlers. A front as long as the one before
-/// is written over that one.
+/// Sets the prefix of the graph's `irq` lines of known handlers to `front`. A prefix of the same
+/// length is written over the old one.
 pub(crate) fn set_handler_line_prefix(known: &mut Handlers, front: &str) -> Result<(), NoMemory>
     requires { AreHandlerLines known.old.front known.old.entries.items known.old.lines.items }
     ensures lines { OnOk result
@@ -100,7 +100,8 @@ pub(crate) fn set_handler_line_prefix(known: &mut Handlers, front: &str) -> Resu
     make_handler_lines(&mut known.lines, front, &known.entries)
 }
 
-// Makes the graph's `irq` lines, one for each of these handlers' entries, with this front.
+// Sets `lines` to the graph's `irq` lines for handlers with these entries, each with the prefix
+// `front`.
 fn make_handler_lines(lines: &mut Vec<u8>, front: &str, entries: &[u32]) -> Result<(), NoMemory>
     ensures { OnOk result (lines.new.items ≡ irq_lines front.now entries.now) }
 {
@@ -112,7 +113,8 @@ fn make_handler_lines(lines: &mut Vec<u8>, front: &str, entries: &[u32]) -> Resu
     Ok(())
 }
 
-// Writes a front over the old one, of the same length, in each of the graph's `irq` lines.
+// Writes the prefix `front` over the old one, of the same length, in each of the graph's `irq`
+// lines.
 fn write_handler_prefixes(lines: &mut [u8], front: &[u8], entries: &[u32])
     requires { AreHandlerLines (length front.now) entries.now lines.old }
     ensures { lines.new ≡ irq_lines front.now entries.now }
@@ -124,7 +126,7 @@ fn write_handler_prefixes(lines: &mut [u8], front: &[u8], entries: &[u32])
     }
 }
 
-/// Writes a front into the graph's `irq` lines at index `at`, where a line begins.
+/// Writes the prefix `front` into the graph's `irq` lines at index `at`, where a line begins.
 fn write_handler_prefix(lines: &mut [u8], at: usize, front: &[u8])
     requires { at + length front.now ≤ length lines.old }
     ensures { lines.new ≡ with_line_prefix lines.old at front.now }
@@ -142,7 +144,8 @@ fn irq_line_end(entry: u32) -> [u8; IRQ_END]
     ]
 }
 
-/// Appends the lines of the handlers of interrupts, which are made already, to the graph's text.
+/// Appends the `irq` lines of known handlers, which were made with the prefix `front`, to the
+/// graph's text.
 pub(crate) fn append_handler_lines(
     text: &mut String,
     front: &str,

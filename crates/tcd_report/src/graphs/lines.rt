@@ -12,7 +12,7 @@ use tc_isa::Shape;
 use tcd_base::NoMemory;
 use tcd_text::{append_ascii, append_hex_word, append_str, hex_word};
 
-/// Sets the front of all lines of a node in the graph: its key, a colon and a blank.
+/// Sets `front` to the prefix of all lines of a node in the graph: its key, a colon and a blank.
 pub(crate) fn set_node_line_prefix(front: &mut String, key: &Key) -> Result<(), NoMemory>
     ensures front { OnOk result (string_bytes front.new ≡ node_line_prefix key.now) }
     ensures ascii { OnOk result (IsAscii (node_line_prefix key.now)) }
@@ -25,7 +25,8 @@ pub(crate) fn set_node_line_prefix(front: &mut String, key: &Key) -> Result<(), 
     append_str(front, ": ")
 }
 
-/// Sets the front of all lines of a point in the graph: that of its node, and the address.
+/// Sets `front` to the prefix of all lines of a point: `key_front`, the prefix of its node's lines,
+/// then the address and a blank.
 pub(crate) fn set_point_line_prefix(
     front: &mut String,
     key_front: &str,
@@ -40,7 +41,8 @@ pub(crate) fn set_point_line_prefix(
     append_str(front, " ")
 }
 
-/// Appends the lines of a point to the graph, except the one that ends with `ret` or `rfe`.
+/// Appends a line with the prefix `front` to the graph's text for each edge of a point. The line of
+/// `ret` or `rfe` isn't among them.
 pub(crate) fn append_edges(text: &mut String, front: &str, ways: &Edges) -> Result<(), NoMemory>
     requires ascii { IsAscii front.now }
     requires handlers { let irq = ways.now.irq in
@@ -56,8 +58,8 @@ pub(crate) fn append_edges(text: &mut String, front: &str, ways: &Edges) -> Resu
     append_handler_lines(text, front, &ways.irq)
 }
 
-/// Appends to the graph the line of a point that ends with `ret` or `rfe`, if the point's
-/// instruction is a return.
+/// Appends the graph's line of a return, `front` and `ret` or `rfe`, if the point's instruction is
+/// one. Else appends nothing.
 pub(crate) fn append_ret_line(text: &mut String, front: &str, shape: Shape) -> Result<(), NoMemory>
     ensures { OnOk result (string_bytes text.new
         ≡ string_bytes text.old ++ return_line_text front.now shape) }
@@ -75,7 +77,8 @@ pub(crate) fn append_ret_line(text: &mut String, front: &str, shape: Shape) -> R
     }
 }
 
-// Appends a line to the graph for each of these addresses, with a front, a word, and the address.
+// Appends a line to the graph for each of these addresses: the prefix `front`, a word, as `to `,
+// and the address.
 fn append_lines(text: &mut String, front: &str, word: &str, targets: &[u32]) -> Result<(), NoMemory>
     ensures { OnOk result (string_bytes text.new
         ≡ string_bytes text.old ++ lines_to front.now word.now targets.now) }
@@ -88,7 +91,7 @@ fn append_lines(text: &mut String, front: &str, word: &str, targets: &[u32]) -> 
     Ok(())
 }
 
-// Appends the address at which a line of the graph ends, and a line feed.
+// Appends the end of a graph's line: the target address as eight hex digits, and a line feed.
 fn append_target_address(text: &mut String, to: u32) -> Result<(), NoMemory>
     ensures { OnOk result
         (string_bytes text.new ≡ string_bytes text.old ++ (hex_word to ++ 10 ∷ [])) }

@@ -18,8 +18,9 @@ use tcd_plan::Plan;
 use value_domain::State;
 use vd_transfer::{identity_change, write_branch_change};
 
-/// Appends the addresses where a point goes on in its frame by a jump, a branch or the next
-/// instruction. After a call, a system call or a return there are none.
+/// Appends the next addresses in the same frame: jump targets, feasible sides of a branch, or the
+/// next instruction. Calls, system calls, returns and `mtcr` have none. `found` is the decoded
+/// instruction.
 pub(crate) fn push_successors(
     all: &mut Vec<u32>,
     judged: &Judged,
@@ -67,8 +68,8 @@ fn push_jump_targets(
     Ok(())
 }
 
-/// Replaces what the list held by address `back`, after a call or a system call, once for each
-/// entered frame whose node has an exit.
+/// Sets `all` to the return address `back` of a call or system call, once for each frame of `keys`
+/// that may return. The nodes of such frames have an exit.
 pub(crate) fn set_return_addresses(
     all: &mut Vec<u32>,
     cert: &Cert,
@@ -84,7 +85,8 @@ pub(crate) fn set_return_addresses(
     Ok(())
 }
 
-// Appends `to`, the successor on one side of a branch in the graph, if that side is possible.
+// Appends `to`, the target of a branch's taken edge or, if `taken` is false, of its fall-through
+// edge, if that edge is feasible.
 fn push_branch_successor(
     all: &mut Vec<u32>,
     judged: &Judged,
@@ -104,7 +106,8 @@ fn push_branch_successor(
     Ok(())
 }
 
-// Returns true if a branch may go this way. Not inlined, so that a change takes stack only here.
+// Returns true if a branch's taken edge or, if `taken` is false, its fall-through edge is feasible
+// in state `s`. Not inlined, so that the state's change takes stack only here.
 #[inline(never)]
 fn is_branch_edge_feasible(judged: &Judged, shape: Shape, s: &State, taken: bool) -> bool
     requires shape { IsShapeInBounds shape }
@@ -116,8 +119,8 @@ fn is_branch_edge_feasible(judged: &Judged, shape: Shape, s: &State, taken: bool
     write_branch_change(judged.bounds, judged.plan, shape, s, taken, &mut c)
 }
 
-// Appends address `back`, where a caller goes on in the graph, if the node of the entered frame's
-// key has an exit.
+// Appends the return address `back` if the entered frame with this key may return: its node has an
+// exit.
 fn push_return_addr(all: &mut Vec<u32>, cert: &Cert, key: &Key, back: u32) -> Result<(), NoMemory>
     ensures { OnOk result
         (all.new.items ≡ all.old.items ++ return_address_of_duty cert.now (resume key.now back)) }

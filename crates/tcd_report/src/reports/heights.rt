@@ -19,7 +19,7 @@ use tcd_plan::Plan;
 use value_domain::State;
 
 /// Returns the height of each node: the length of the longest call chain that begins there. Nodes
-/// come by ascending need, so callees before callers.
+/// are visited by ascending need, so callees before callers.
 pub(crate) fn node_heights(alloc: Global, judged: &Judged) -> Result<HashMap<Key, u32>, NoMemory>
     requires { IsAcceptedWithLimits judged.now }
     ensures tells { let j = judged.now in
@@ -45,6 +45,7 @@ pub(crate) fn node_heights(alloc: Global, judged: &Judged) -> Result<HashMap<Key
 }
 
 // Returns the height of a node: 0, or the greatest height of a function that it calls, plus 1.
+// `heights` has those of callees, `codes` caches decoded instructions, and `walk` is scratch space.
 fn height_of_node<'a>(
     judged: &Judged,
     heights: &HashMap<Key, u32>,
@@ -68,7 +69,8 @@ fn height_of_node<'a>(
     most
 }
 
-// Returns the length of the longest call chain that begins at a point, or 0 without a call.
+// Returns the length of the longest call chain that begins at the point at `addr` with state `s`,
+// or 0 without a call. `heights` has the heights of callees.
 fn height_at_point(
     judged: &Judged,
     heights: &HashMap<Key, u32>,
@@ -94,7 +96,8 @@ fn height_at_point(
     }
 }
 
-// Returns the need and the key of each node, by which nodes are sorted to find their heights.
+// Returns each node's need, a number of CSAs, with its key. Sorted by these pairs, the nodes of an
+// accepted certificate have callees before callers.
 fn needs_with_keys(alloc: Global, cert: &Cert) -> Result<Vec<(u16, Key)>, NoMemory>
     ensures { IfOk result (λ v. v.items ≡ map need_with_key cert.now.nodes) }
 {
@@ -132,7 +135,8 @@ fn height_of_call(
     most
 }
 
-// Returns the height of a called function plus 1, or 0 if the map has no height for it.
+// Returns the height of the function at `target` that a frame with this key calls, plus 1, or 0 if
+// `heights` has none.
 fn height_of_callee(heights: &HashMap<Key, u32>, key: &Key, target: u32) -> u32
     requires { AreHeightsBounded heights.now }
     ensures { IsGreatestHeight (IsHeightThroughTarget heights.now key.now target) result }

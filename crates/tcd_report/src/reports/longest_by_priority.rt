@@ -18,8 +18,8 @@ pub(crate) struct LongestCalls {
     pub(crate) prio: u16,
 }
 
-/// Returns the length of the longest call chain of each interrupt priority that has nodes, by the
-/// heights of the nodes.
+/// Returns the length of the longest call chain of each interrupt priority that has nodes.
+/// `heights` has for each node the length of the longest chain from there.
 pub(crate) fn longest_calls_by_priority(
     alloc: Global,
     cert: &Cert,
@@ -58,7 +58,8 @@ pub(crate) fn longest_calls_below(
     Ok(rows)
 }
 
-// Returns the greater of the longest call chain so far, if there is one, and a node's height.
+// Returns the greater of a node's height and `known`, the length of the longest call chain so far,
+// if there is one.
 fn longest_so_far(known: Option<&u32>, height: u32) -> u32
     ensures { result ≡ longest_so_far (option_copied known.entry) height }
 {
@@ -68,7 +69,8 @@ fn longest_so_far(known: Option<&u32>, height: u32) -> u32
     }
 }
 
-// Appends the longest call chain of a priority to those of the report, if the priority has nodes.
+// Appends a priority with `row`, the length of its longest call chain, to the rows of the report.
+// Appends nothing if `row` is None, for a priority without nodes.
 fn push_longest(rows: &mut Vec<LongestCalls>, prio: u16, row: Option<&u32>) -> Result<(), NoMemory>
     ensures { OnOk result
         (rows.new.items ≡ rows.old.items ++ longest_calls_of prio (option_copied row.entry)) }

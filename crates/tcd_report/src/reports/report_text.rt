@@ -14,8 +14,8 @@ use std::alloc::Global;
 use tcd_base::NoMemory;
 use tcd_plan::Plan;
 
-/// Returns the certified need for the text of the report: the need of the start node, or 0 if there
-/// is none.
+/// Returns how many CSAs the certificate proves enough, for the report: the need of the start node,
+/// or 0 if there is none.
 pub(crate) fn certified_need(image: &Image, plan: &Plan, cert: &Cert) -> u32
     ensures { result ≡ certified_need image.now plan.now cert.now }
 {
@@ -73,8 +73,8 @@ pub(crate) fn longest_calls_value(alloc: Global, rows: &[LongestCalls]) -> Resul
     Ok(Value::Array(values))
 }
 
-/// Returns a node as the text of the report has it: an object with its key, its need, and the
-/// number of its points.
+/// Returns a node for the report's JSON: an object with its key as text, its need, and the number
+/// of its points.
 fn node_value(alloc: Global, node: &Node<'_>) -> Result<Value, NoMemory>
     ensures { IfOk result (λ v. view v ≡ reported_node node.now) }
 {
