@@ -53,7 +53,7 @@ OTHER_FIELDS = "  -- the fields of other commands are left out here"
 LATER = (
     "image_of_file", "GivesPlan",
     "Accepts", "IsAcceptedWithNeed", "IsAcceptedForTask", "IsLeastOfItsFormat", "IsNoCertAccepted",
-    "CertKeepsCells", "KeepsRule17", "CertData", "certificate_of", "bytes_of_object",
+    "CertKeepsCellBounds", "KeepsRule17", "CertData", "certificate_of", "bytes_of_object",
     "bytes_of_cert", "bytes_of_instructions", "assembled_code", "CallCannotFail", "MayPrintText",
     "IsDecidedStatus", "refusal_of", "plan_refusal", "image_refusal", "reloc_value_refusal",
     "ImageErr", "PlanErr",
@@ -87,10 +87,10 @@ TABLES = (
         ("row", "line"),
     ),
     Table(
-        ("word_by_form", "field_bounds"),
-        (r"word_by_form (\w+) op1 op2 f = (.*)", r"field_bounds (\w+) = fields (.*)"),
+        ("word_of_fields", "field_bounds"),
+        (r"word_of_fields (\w+) op1 op2 f = (.*)", r"field_bounds (\w+) = fields (.*)"),
         "{0[1]:4} {1[2]:22} {0[2]}",
-        "form; field_bounds: c, s1, s2, n, k; word_by_form: the number of op1, op2 and f",
+        "form; field_bounds: c, s1, s2, n, k; word_of_fields: the number of op1, op2 and f",
     ),
 )
 

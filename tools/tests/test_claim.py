@@ -365,7 +365,7 @@ class Repository(unittest.TestCase):
         self.assertIn(row, shown["meanings"])
         self.assertEqual(len(shown["field_bounds"]), 2 + 18)
         self.assertIn("Sc   1 1 1 1 256            f.k * 2 ^ 8 + op1", shown["field_bounds"])
-        for name, first in (("table_rows", "meanings"), ("word_by_form", "field_bounds")):
+        for name, first in (("table_rows", "meanings"), ("word_of_fields", "field_bounds")):
             self.assertIn(f"{name} : ", shown[name][0])
             self.assertEqual(shown[name][1:], [f"  -- in the rows of {first}"])
 
@@ -382,7 +382,7 @@ class Repository(unittest.TestCase):
             self.assertIn(built.key, shown)
 
     def test_a_table_has_all_lines(self):
-        names = ("word_by_form", "field_bounds")
+        names = ("word_of_fields", "field_bounds")
         items = [it for it in self.parts[0][1].items if it.name in names]
         table = next(it for it in claim.TABLES if it.names == names)
         self.assertEqual(len(claim.rows_beside(table, items)), 2)

@@ -31,7 +31,7 @@ pub use flow_successors::write_successor_change;
 pub use flow_targets::{direct_target, targets};
 pub use flow_types::{Enter, Flow, Jump, Leave};
 pub use keys::{aln_key, entered_key, irq_key, sys_key};
-pub use laws::{fault_laws, edge_and_frame_laws, duty_soundness_laws, refusal_laws};
+pub use laws::{duty_soundness_laws, edge_and_frame_laws, fault_laws, refusal_laws};
 pub use local_rules::{Located, broken_rule_unless, check_decoded_instruction, check_local_rules};
 pub use operation_cache::OperationCache;
 pub use rom_code::{are_bytes_in_rom, code_at};

@@ -163,7 +163,10 @@ pub(crate) fn local_fault_of_shape(
     ensures { (p : ℕ) → IsLeastLocalFault b.now plan.now key.now p s.now shape.now result }
 {
     match *shape {
-        Shape::Compute { dst, .. } => broken_rule_unless(is_not_fixed_register(dst), FIXED_REGISTER),
+        Shape::Compute { dst, .. } => broken_rule_unless(
+            is_not_fixed_register(dst),
+            FIXED_REGISTER,
+        ),
         Shape::Scaled { dst, .. } => broken_rule_unless(is_not_fixed_register(dst), FIXED_REGISTER),
         Shape::Load {
             dst,
@@ -399,7 +402,8 @@ fn single_address_by_base(
 ) -> Option<u32>
     requires base { IsArgInBounds base }
     requires values { AreInLattice b.now s.now.regs }
-    ensures { IfSome result (λ x. address_by_mode b.now plan.now s.now base offset after ≡ word_val x) }
+    ensures { IfSome result (λ x. address_by_mode b.now plan.now s.now base offset after
+        ≡ word_val x) }
 {
     let _most_words = b.most_words();
     let Some(x) = arg_word(b, plan, s, base) else {
@@ -492,8 +496,8 @@ pub(crate) fn keeps_fixed_base_register(base: Arg, after: bool) -> bool
     }
 }
 
-/// Returns true unless register `r` is one of the fixed A0, A1, A8, A9 and A11, which K13 forbids
-/// to write. D0 to D15 are 0 to 15, and A0 to A15 are 16 to 31.
+/// Returns true if `r` is a register, 0 to 15 for D0 to D15 and 16 to 31 for A0 to A15, but none of
+/// the fixed A0, A1, A8, A9 and A11, which K13 forbids to write.
 #[tactic(auto, unfolding(vd_transfer::specs::Registers::register_slot))]
 pub(crate) fn is_not_fixed_register(r: u8) -> bool
     ensures { IsTrue result ↔ IsNotFixedRegister r }

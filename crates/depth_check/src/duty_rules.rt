@@ -14,7 +14,7 @@ ghost use Rattle.cfg_recover.specs.SetOperations.{IsCorrectCache};
 ghost use Rattle.depth_check.specs.CheckedRegisters.{CallHolds, RegisterCallsHoldAt, CheckedRegistersHoldAt};
 ghost use Rattle.cfg_recover.specs.FlowDuties as flows;
 
-use crate::node_covers::{has_point_covering_change, has_covering_exit, is_return_covered};
+use crate::node_covers::{has_covering_exit, has_point_covering_change, is_return_covered};
 use crate::points::{PointCheck, PointScratch};
 use crate::rules::{
     NO_EXCEPTION_RETURN, NO_FUNCTION, NO_INTERRUPT, NO_MISALIGNED, NO_POINT, NO_RETURN,
@@ -313,7 +313,10 @@ fn rule_broken_by_entry(
     let Some(entered) = cert.node(key) else {
         return Some(rule);
     };
-    let into = broken_rule_unless(has_point_covering_change(&entered, key.entry, s, entry), rule);
+    let into = broken_rule_unless(
+        has_point_covering_change(&entered, key.entry, s, entry),
+        rule,
+    );
     let need = broken_rule_unless(is_need_sufficient_for_entry(node, s, &entered), SMALL_NEED);
     let on = broken_rule_unless(is_return_met(node, s, &entered, key.kind, back), NO_POINT);
     lesser_broken_rule(lesser_broken_rule(into, need), on)

@@ -78,7 +78,8 @@ pub(crate) fn is_changed_state_covered(at: &PointCheck<'_, '_>, addr: u32, c: &C
     ensures { IsTrue result
         ↔ HasCoveringPoint at.now.node addr (state_after at.now.point.state c.now) }
 {
-    at.point.walk.is_covered_by_next(addr, c) || has_point_covering_change(at.node, addr, at.point.state, c)
+    at.point.walk.is_covered_by_next(addr, c)
+        || has_point_covering_change(at.node, addr, at.point.state, c)
 }
 
 /// Returns true if the node's point at `at` covers `s` after a return of the entered frame, a call

@@ -9,7 +9,9 @@ ghost use Rattle.depth_check.specs.NodeFaults as nodes;
 
 use crate::fast_paths::NO_REGISTERS;
 use crate::last_interrupts::LastInterrupts;
-use crate::points::{PointCheck, PointScratch, has_values_in_lattice, point_of_walk, rule_broken_at};
+use crate::points::{
+    PointCheck, PointScratch, has_values_in_lattice, point_of_walk, rule_broken_at,
+};
 use crate::rules::BAD_VALUES;
 use elf_image::Image;
 use packed_cert::{Cert, Node, PointWalk};

@@ -22,7 +22,8 @@ use crate::last_interrupts::LastInterrupts;
 use crate::rules::{SMALL_NEED, is_need_sufficient, lesser_broken_rule};
 use arrayvec::ArrayVec;
 use cfg_recover::{
-    KnownCodes, Located, OperationCache, broken_rule_unless, check_decoded_instruction, write_successor_change,
+    KnownCodes, Located, OperationCache, broken_rule_unless, check_decoded_instruction,
+    write_successor_change,
 };
 use elf_image::Image;
 use packed_cert::{Cert, Node, PointWalk};
@@ -227,7 +228,9 @@ fn rule_broken_by_decoded_point(at: &PointCheck<'_, '_>, scratch: &mut PointScra
 {
     let node = at.node;
     let s = at.point.state;
-    let located = scratch.codes.decode_cached(at.image, at.plan, at.point.addr);
+    let located = scratch
+        .codes
+        .decode_cached(at.image, at.plan, at.point.addr);
     match check_decoded_instruction(at.bounds, at.plan, &node.key, s, &located) {
         Err(rule) => Some(rule),
         Ok(found) => {

@@ -9,7 +9,9 @@ ghost use Rattle.depth_check.specs.CheckedRegisters.{CheckedRegistersHoldAt, Reg
 ghost use Rattle.tc_isa.specs.declared.shapes.Target.TheVariants.{Reg};
 
 use crate::fast_paths::{may_skip_change, may_skip_refinement, rule_broken_by_kept_state};
-use crate::node_covers::{has_covering_points, is_changed_state_covered, is_unrefined_state_covered};
+use crate::node_covers::{
+    has_covering_points, is_changed_state_covered, is_unrefined_state_covered,
+};
 use crate::points::{PointCheck, PointScratch, write_change_at};
 use crate::rules::{NO_POINT, lesser_broken_rule};
 use cfg_recover::{Located, broken_rule_unless, targets};

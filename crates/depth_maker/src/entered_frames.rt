@@ -55,7 +55,8 @@ pub(crate) fn enters_no_frame(plan: &Plan, shape: Shape) -> bool
 pub(crate) fn may_enter_misaligned_handler(v: &Visit, found: &Located) -> bool
     requires well_formed { IsWellFormedState v.now.ground.now.bounds.now v.now.state.now }
     requires stands { IsFaultlessInstruction v.now found.now }
-    ensures { misaligned_duties v.now found.now ≡ (if result then misaligned_duty v.now ∷ [] else []) }
+    ensures { misaligned_duties v.now found.now
+        ≡ (if result then misaligned_duty v.now ∷ [] else []) }
 {
     let plan = v.ground.plan;
     plan.aln && may_be_misaligned(v.ground.bounds, plan, v.state, found.shape)

@@ -46,7 +46,8 @@ pub(crate) fn append_handlers_if_enabled(
     ccpn: u8,
     handlers: &[Handler],
 ) -> Result<(), AllocError>
-    ensures { OnOk result (into.new.items ≡ into.old.items ++ handler_nodes_if_enabled ie ccpn handlers.now) }
+    ensures { OnOk result (into.new.items ≡ into.old.items
+        ++ handler_nodes_if_enabled ie ccpn handlers.now) }
 {
     if !ie {
         return Ok(());

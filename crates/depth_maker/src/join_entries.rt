@@ -14,7 +14,7 @@ ghost use Rattle.depth_cert.specs.Known.{state};
 use crate::calls::join_call_duties;
 use crate::entered_frames::may_enter_misaligned_handler;
 use crate::inputs_and_limits::Visit;
-use crate::interrupt_contexts::{has_covering_context, cache_interrupt_context};
+use crate::interrupt_contexts::{cache_interrupt_context, has_covering_context};
 use crate::join_place::join_at_place;
 use crate::join_successors::join_return;
 use crate::table::Table;
@@ -42,7 +42,8 @@ pub(crate) fn join_entry_duties(
     requires visited { VisitInvariantHolds v.now table.old }
     requires shape { IsShapeInBounds shape }
     requires owes { OwesDuties v.now (entry_duties v.now shape size) }
-    ensures ok { OnOk result (JoinsDuties v.now table.old table.new (entry_duties v.now shape size)) }
+    ensures ok { OnOk result (JoinsDuties v.now table.old table.new
+        (entry_duties v.now shape size)) }
     ensures err { IfErr result (NamesDerivedFault v.now.ground.now) }
 {
     let back = v.addr.wrapping_add(size);
@@ -64,7 +65,8 @@ pub(crate) fn join_misaligned_duties(
     requires visited { VisitInvariantHolds v.now table.old }
     requires found { IsFaultlessInstruction v.now found.now }
     requires owes { OwesDuties v.now (misaligned_duties v.now found.now) }
-    ensures ok { OnOk result (JoinsDuties v.now table.old table.new (misaligned_duties v.now found.now)) }
+    ensures ok { OnOk result (JoinsDuties v.now table.old table.new
+        (misaligned_duties v.now found.now)) }
     ensures err { IfErr result (NamesDerivedFault v.now.ground.now) }
 {
     if !may_enter_misaligned_handler(v, found) {
@@ -108,7 +110,8 @@ pub(crate) fn join_call_entries(
     requires visited { VisitInvariantHolds v.now table.old }
     requires entry { state_after v.now.state.now entry.now ≡ call_entry v.now.state.now }
     requires owes { OwesDuties v.now (enter_duties v.now targets.now) }
-    ensures ok { OnOk result (JoinsDuties v.now table.old table.new (enter_duties v.now targets.now)) }
+    ensures ok { OnOk result (JoinsDuties v.now table.old table.new
+        (enter_duties v.now targets.now)) }
     ensures err { IfErr result (NamesDerivedFault v.now.ground.now) }
 {
     for t in targets {

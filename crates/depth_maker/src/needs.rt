@@ -11,7 +11,8 @@ use crate::rows::{Source, need_rows};
 use cfg_recover::start_key;
 use depth_cert::Key;
 use frame_places::{
-    NEEDS_RULE, NeedRow, frame_edges, get_or_zero, least_needs, needs_in_few_passes, topological_ranks,
+    NEEDS_RULE, NeedRow, frame_edges, get_or_zero, least_needs, needs_in_few_passes,
+    topological_ranks,
 };
 use std::alloc::{AllocError, Global};
 use tcd_plan::Plan;

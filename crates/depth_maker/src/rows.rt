@@ -113,7 +113,8 @@ pub(crate) struct RowsDraft {
 /// frames entered. A row equal to an earlier one may be left out.
 pub(crate) fn need_rows(alloc: Global, source: &Source) -> Result<Vec<NeedRow>, AllocError>
     requires { HasFinishedTable source.now }
-    ensures { IfOk result (λ rows. AreRowsOfTable source.now.ground.now source.now.table.now rows.items) }
+    ensures { IfOk result (λ rows. AreRowsOfTable source.now.ground.now source.now.table.now
+        rows.items) }
 {
     let mut draft = RowsDraft {
         rows: Vec::new(alloc),

@@ -17,7 +17,7 @@ ghost use Rattle.vd_transfer.specs.EffectsOnStates.{LocalsFitInstruction};
 use crate::entered_frames::enters_no_frame;
 use crate::fixpoint::VisitScratch;
 use crate::inputs_and_limits::{Ground, Site, Visit};
-use crate::join_entries::{join_misaligned_duties, join_entry_duties, join_irq_duties};
+use crate::join_entries::{join_entry_duties, join_irq_duties, join_misaligned_duties};
 use crate::join_successors::{join_exit_if_leaving, join_successors};
 use crate::passing::share_state;
 use crate::table::Table;
@@ -98,7 +98,8 @@ fn join_visit_duties(
     requires at { IsVisitStateCurrent v.now table.old }
     requires found { IsFaultlessInstruction v.now found.now }
     requires results { IsCorrectCache v.now.ground.now.bounds.now cache.old }
-    ensures ok { OnOk result (JoinsDuties v.now table.old table.new (visit_duties v.now found.now)) }
+    ensures ok { OnOk result (JoinsDuties v.now table.old table.new
+        (visit_duties v.now found.now)) }
     ensures err { IfErr result (NamesDerivedFault v.now.ground.now) }
     ensures results { IsCorrectCache v.now.ground.now.bounds.now cache.new }
 {

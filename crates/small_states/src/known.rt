@@ -97,7 +97,11 @@ impl SmallKnown {
 
     /// Returns a compact copy of the state or exit that flows out of the point with this known
     /// state. An unchanged list of values is shared, not copied.
-    pub fn copy_incoming(&self, alloc: Global, incoming: &Incoming) -> Result<SmallKnown, AllocError>
+    pub fn copy_incoming(
+        &self,
+        alloc: Global,
+        incoming: &Incoming,
+    ) -> Result<SmallKnown, AllocError>
         requires { self.now ≡ state (sender_state incoming.now) }
         ensures { IfOk result (λ c. c ≡ incoming_known incoming.now) }
     {

@@ -14,7 +14,8 @@ mod views;
 
 pub use faults::task_fault;
 pub use laws::{
-    safe_tasks_definition_guard_laws, safe_tasks_law, task_fault_laws, task_premise_guard_laws, task_view_laws,
+    safe_tasks_definition_guard_laws, safe_tasks_law, task_fault_laws, task_premise_guard_laws,
+    task_view_laws,
 };
 pub use routine::routine_fault;
 pub use rule_17::TASKS_RULE;

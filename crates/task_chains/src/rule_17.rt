@@ -71,7 +71,13 @@ pub(crate) fn are_accesses_outside(at: &Val, size: u8, from: u32, len: u32) -> b
 
 /// Returns whether an instruction of this shape keeps K17 (what a task must leave alone) at address
 /// `addr` of the frame `key` with state `s`.
-pub(crate) fn keeps_rule_17_by_shape(rule: &TasksRule, key: &Key, addr: u32, s: &State, shape: Shape) -> bool
+pub(crate) fn keeps_rule_17_by_shape(
+    rule: &TasksRule,
+    key: &Key,
+    addr: u32,
+    s: &State,
+    shape: Shape,
+) -> bool
     requires shape { IsShapeInBounds shape }
     requires values { AreInLattice rule.now.bounds.now s.now.regs }
     ensures { let r = rule.now in
@@ -147,7 +153,13 @@ fn may_have_point_at(tasks: &Tasks, key: &Key, addr: u32) -> bool
 
 /// Returns whether the instruction is no load, or all its possible accesses in state `s` miss the
 /// save areas and the switch routine.
-fn load_misses_areas_and_routine(b: &Bounds, plan: &Plan, tasks: &Tasks, s: &State, shape: Shape) -> bool
+fn load_misses_areas_and_routine(
+    b: &Bounds,
+    plan: &Plan,
+    tasks: &Tasks,
+    s: &State,
+    shape: Shape,
+) -> bool
     requires shape { IsShapeInBounds shape }
     requires values { AreInLattice b.now s.now.regs }
     ensures { IsTrue result ↔ LoadMissesAreasAndRoutine b.now plan.now tasks.now s.now shape }

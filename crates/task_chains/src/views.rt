@@ -15,7 +15,12 @@ use tcd_plan::Plan;
 
 /// Returns the image of task `u`'s view, for analysing this task alone, with the task's entry
 /// address. In the switch routine there, reads of its data and of PCXI give any word.
-pub fn task_view_image(alloc: Global, image: &Image, tasks: &Tasks, u: usize) -> Result<Image, NoMemory>
+pub fn task_view_image(
+    alloc: Global,
+    image: &Image,
+    tasks: &Tasks,
+    u: usize,
+) -> Result<Image, NoMemory>
     requires { u < count tasks.now }
     ensures { IfOk result (λ i. i ≡ view_image_of image.now tasks.now u) }
 {

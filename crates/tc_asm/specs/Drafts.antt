@@ -114,7 +114,7 @@ with_reference d size None = d
 with_reference d size (Some r) = if is_source_name r.name then with_reloc_use (record d { symbols = with_name d.symbols r.name }) size r else d
 
 -- the draft of the first pass with the symbol of a reference, if there is one, in its table: a use
--- by no bytes isn't noted
+-- by no bytes isn't noted, and a bad name changes nothing
 abbrev pub with_symbol_of_reference : DraftData → Option ReferenceData → DraftData
 with_symbol_of_reference d r = with_reference d 0 r
 

@@ -30,7 +30,7 @@ pub record IsDataOfSomeLine (bs : List ℕ) (o : Option ReferenceData) : Type 0 
   pub kind : (r : ReferenceData) → o ≡ Some r → r.kind ≡ 7
   pub zero : (r : ReferenceData) → o ≡ Some r → bs ≡ 0 ∷ 0 ∷ 0 ∷ 0 ∷ []
 
--- the symbol of an item has a name
+-- the symbol of an item, if it has one, has a name that a source may use
 abbrev pub SymbolIsNamedIfAny : Option ReferenceData → Type 0
 SymbolIsNamedIfAny o = (r : ReferenceData) → o ≡ Some r → is_source_name r.name ≡ true
 

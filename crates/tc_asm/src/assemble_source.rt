@@ -50,10 +50,11 @@ fn draft_of_lines<'a>(
     requires labels { labels.now ≡ symbols_of_lines (source_lines source.now) }
     requires known { known ≡ true
         → are_new_with_room labels.now empty_draft (items_in (source_lines source.now)) ≡ true }
-    ensures ok { IfOk result
-        (λ d. without_symbols_if known d ≡ without_symbols_if known (draft_from_lines labels.now (source_lines source.now))) }
+    ensures ok { IfOk result (λ d. without_symbols_if known d
+        ≡ without_symbols_if known (draft_from_lines labels.now (source_lines source.now))) }
     ensures rules { OnOk result (AllLinesKeepRules (source_lines source.now)) }
-    ensures whole { OnOk result (IsWellFormedDraft (draft_from_lines labels.now (source_lines source.now))) }
+    ensures whole { OnOk result
+        (IsWellFormedDraft (draft_from_lines labels.now (source_lines source.now))) }
     ensures bad { IfErr result (IfBadLine (IsFirstBadLine (source_lines source.now))) }
 {
     let mut draft = Draft::new(alloc);
@@ -107,7 +108,8 @@ fn scan_items<'a>(
     ensures symbols { OnOk result
         (draft.new.symbols ≡ (fold (draft_after_item []) draft.old
         (map item_of items.now)).symbols) }
-    ensures new { IfOk result (λ new. new ≡ are_new_with_room [] draft.old (map item_of items.now)) }
+    ensures new { IfOk result
+        (λ new. new ≡ are_new_with_room [] draft.old (map item_of items.now)) }
 {
     let none = Symbols::new(alloc);
     let mut all_new = true;

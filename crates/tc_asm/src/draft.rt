@@ -184,7 +184,8 @@ impl<'a> Draft<'a> {
         requires none { none.now ≡ [] }
         requires added { IsItemOfSomeLine (item_of item.now) }
         ensures alike { OnOk result (TracksSizesAndSymbols (item_of item.now) self.old self.new) }
-        ensures new { IfOk result (λ new. new ≡ is_new_if_label self.old.symbols (item_of item.now)) }
+        ensures new { IfOk result
+            (λ new. new ≡ is_new_if_label self.old.symbols (item_of item.now)) }
     {
         match item {
             Item::Label(name) => return self.scan_label(*name),
@@ -238,7 +239,8 @@ impl<'a> Draft<'a> {
     #[tactic(auto, unfolding(crate::specs::Drafts::with_label))]
     fn add_label(&mut self, name: &'a [u8]) -> Result<bool, AllocError>
         ensures draft { OnOk result (self.new ≡ with_label self.old name.entry.now) }
-        ensures new { IfOk result (λ new. new ≡ is_new_if_label self.old.symbols (label name.entry.now)) }
+        ensures new { IfOk result
+            (λ new. new ≡ is_new_if_label self.old.symbols (label name.entry.now)) }
     {
         if !is_source_name(name) {
             return Ok(self.symbols.place(name).is_none());
@@ -329,7 +331,8 @@ impl<'a> Draft<'a> {
     fn scan_label(&mut self, name: &'a [u8]) -> Result<bool, AllocError>
         ensures alike { OnOk result
             (TracksSizesAndSymbols (label name.entry.now) self.old self.new) }
-        ensures new { IfOk result (λ new. new ≡ is_new_if_label self.old.symbols (label name.entry.now)) }
+        ensures new { IfOk result
+            (λ new. new ≡ is_new_if_label self.old.symbols (label name.entry.now)) }
     {
         let new = self.add_label(name)?;
         Ok(new)

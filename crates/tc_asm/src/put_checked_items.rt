@@ -30,8 +30,8 @@ impl<'a> Draft<'a> {
     ) -> Result<u8, AllocError>
         ensures draft { OnOk result (without_symbols_if known self.new
             ≡ without_symbols_if known (draft_after_item labels.now self.old (item_of item.now))) }
-        ensures rule { IfOk result
-            (λ rule. rule ≡ rule_broken_by_item labels.now (without_symbols_if known self.old) (item_of item.now)) }
+        ensures rule { IfOk result (λ rule. rule ≡ rule_broken_by_item labels.now
+            (without_symbols_if known self.old) (item_of item.now)) }
     {
         if known {
             self.check_and_add_item_without_symbol(alloc, labels, item)
@@ -51,8 +51,8 @@ impl<'a> Draft<'a> {
         ensures draft { OnOk result
             (without_symbols self.new ≡ without_symbols
             (draft_after_item labels.now self.old (item_of item.now))) }
-        ensures rule { IfOk result
-            (λ rule. rule ≡ rule_broken_by_item labels.now (without_symbols self.old) (item_of item.now)) }
+        ensures rule { IfOk result (λ rule. rule
+            ≡ rule_broken_by_item labels.now (without_symbols self.old) (item_of item.now)) }
     {
         match item {
             Item::Label(name) => Ok(self.rule_broken_by_known_label(labels, *name)),
@@ -75,7 +75,8 @@ impl<'a> Draft<'a> {
     /// Checks a label in the second pass, when only its section and its name can be wrong: the
     /// first pass checked the symbols. Returns the lowest-numbered rule broken, or `NO_RULE`.
     fn rule_broken_by_known_label(&self, labels: &Symbols<'a>, name: &[u8]) -> u8
-        ensures { result ≡ rule_broken_by_item labels.now (without_symbols self.now) (label name.now) }
+        ensures { result ≡ rule_broken_by_item labels.now (without_symbols self.now)
+            (label name.now) }
     {
         let section = NO_RULE.min(self.rule_broken_before_section());
         section.min(Self::rule_broken_by_name(name).min(NO_RULE))
@@ -84,7 +85,8 @@ impl<'a> Draft<'a> {
     /// Checks a name in `.global` in the second pass, when the symbols are known to fit: the name
     /// may be bad or undefined. Returns the lowest-numbered rule broken, or `NO_RULE`.
     fn rule_broken_by_known_global(&self, labels: &Symbols<'a>, name: &[u8]) -> u8
-        ensures { result ≡ rule_broken_by_item labels.now (without_symbols self.now) (global name.now) }
+        ensures { result ≡ rule_broken_by_item labels.now (without_symbols self.now)
+            (global name.now) }
     {
         let room = NO_RULE.min(Self::rule_broken_by_undefined_global(labels, name));
         Self::rule_broken_by_name(name).min(room)
@@ -123,8 +125,8 @@ impl<'a> Draft<'a> {
         ensures draft { OnOk result (without_symbols self.new ≡ without_symbols
             (draft_after_item labels.now self.old
             (code row fields.now (Some (reference_of r.entry))))) }
-        ensures rule { IfOk result (λ rule. rule ≡ rule_broken_by_item labels.now (without_symbols self.old)
-            (code row fields.now (Some (reference_of r.entry)))) }
+        ensures rule { IfOk result (λ rule. rule ≡ rule_broken_by_item labels.now
+            (without_symbols self.old) (code row fields.now (Some (reference_of r.entry)))) }
     {
         let found = self.resolve_instruction(labels, row, fields, &Some(r));
         let code = assembled_code(row, &found.fields);
@@ -207,14 +209,16 @@ pub(crate) fn check_and_add_items<'a>(
     known: bool,
     items: &[Item<'a>],
 ) -> Result<u8, AllocError>
-    ensures draft { OnOk result (without_symbols_if known draft.new
-        ≡ without_symbols_if known (fold (draft_after_item labels.now) draft.old (map item_of items.now))) }
-    ensures rule { IfOk result
-        (λ rule. rule ≡ rule_broken_in_second_pass known labels.now draft.old (map item_of items.now)) }
+    ensures draft { OnOk result (without_symbols_if known draft.new ≡ without_symbols_if known
+        (fold (draft_after_item labels.now) draft.old (map item_of items.now))) }
+    ensures rule { IfOk result (λ rule. rule
+        ≡ rule_broken_in_second_pass known labels.now draft.old (map item_of items.now)) }
 {
     let mut rule = NO_RULE;
     for item in items {
-        rule = draft.check_and_add_item(alloc, labels, known, item)?.min(rule);
+        rule = draft
+            .check_and_add_item(alloc, labels, known, item)?
+            .min(rule);
     }
     Ok(rule)
 }

@@ -86,7 +86,9 @@ impl<'a> Draft<'a> {
     pub(crate) fn rule_broken_by_content(&self, size: usize, r: &Option<Reference<'a>>) -> u8
         ensures { result ≡ rule_broken_by_content self.now size (reference_if_any r.now) }
     {
-        let room = self.rule_broken_by_byte_count(size).min(self.rule_broken_by_reference(r));
+        let room = self
+            .rule_broken_by_byte_count(size)
+            .min(self.rule_broken_by_reference(r));
         self.rule_broken_before_section().min(room)
     }
 
@@ -120,10 +122,16 @@ impl<'a> Draft<'a> {
     {
         match item {
             Item::Label(name) => {
-                let stands = self.rule_broken_by_label(*name).min(self.rule_broken_before_section());
-                stands.min(Self::rule_broken_by_name(*name).min(self.rule_broken_by_symbol_count(*name)))
+                let stands = self
+                    .rule_broken_by_label(*name)
+                    .min(self.rule_broken_before_section());
+                stands.min(Self::rule_broken_by_name(*name).min(self.rule_broken_by_symbol_count(
+                    *name,
+                )))
             }
-            Item::Section(name) => Self::rule_broken_by_name(*name).min(self.rule_broken_by_section_count(*name)),
+            Item::Section(name) => Self::rule_broken_by_name(*name).min(
+                self.rule_broken_by_section_count(*name),
+            ),
             Item::Global(name) => {
                 let room = self
                     .rule_broken_by_symbol_count(*name)
@@ -143,7 +151,9 @@ impl<'a> Draft<'a> {
                 let r = Some(reference_to(WORD32, *name, *minus, *size));
                 self.rule_broken_by_content(first_assembled_bytes(&[0; 4], *len).len(), &r)
             }
-            Item::Zeros(n) => self.rule_broken_before_section().min(self.rule_broken_by_byte_count(*n as usize)),
+            Item::Zeros(n) => self
+                .rule_broken_before_section()
+                .min(self.rule_broken_by_byte_count(*n as usize)),
         }
     }
 
@@ -194,8 +204,8 @@ impl<'a> Draft<'a> {
         fields: &Fields,
         r: &Option<Reference<'a>>,
     ) -> u8
-        ensures { result
-            ≡ rule_broken_by_item labels.now self.now (code row fields.now (reference_if_any r.now)) }
+        ensures { result ≡ rule_broken_by_item labels.now self.now
+            (code row fields.now (reference_if_any r.now)) }
     {
         let target = self.resolve_instruction(labels, row, fields, r).rule;
         let code = self.code_bytes(labels, row, fields, r);

@@ -218,7 +218,12 @@ fn append_further_operands(
 
 // Appends a comma, a blank and the text of an operand after the first one to a listing. `want` is
 // the kind of operand.
-fn append_further_operand(text: &mut String, form: Form, f: &Fields, want: Want) -> Result<(), NoMemory>
+fn append_further_operand(
+    text: &mut String,
+    form: Form,
+    f: &Fields,
+    want: Want,
+) -> Result<(), NoMemory>
     requires { AreFieldsBelow f.now (field_bounds form) }
     ensures { OnOk result
         (string_bytes text.new

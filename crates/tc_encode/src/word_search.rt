@@ -7,7 +7,9 @@ ghost use Rattle.tc_isa.specs.ValidRowFields.{used_fields, are_unused_fields_zer
 ghost use Rattle.tc_encode.specs.WordSearch.{EvenWordHas16Bits, IsWordOf, NoInstructionHasWord, RowLacksWord, are_unused_bits_zero};
 
 use crate::forms::{fields_of_word, second_opcode};
-use crate::index::{form_of_first_byte, has_all_fields_by_row, index_by_opcodes, row_number_by_opcodes};
+use crate::index::{
+    form_of_first_byte, has_all_fields_by_row, index_by_opcodes, row_number_by_opcodes,
+};
 use tc_isa::{
     Fields, Form, Inst, ROW_COUNT, Row, are_registers_allowed, are_unused_fields_zero, rows,
     used_fields_by_row,

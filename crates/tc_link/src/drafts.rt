@@ -93,7 +93,8 @@ impl Draft {
     pub(crate) fn finish(self, count: u32) -> Result<Layout, LayoutErr>
         requires { count < 2 ^ 31 }
         ensures ok { IfOk result (λ l. finished_layout count self.entries self.places ≡ Ok l) }
-        ensures err { IfErr result (IsLayoutFaultOf (finished_layout count self.entries self.places)) }
+        ensures err { IfErr result
+            (IsLayoutFaultOf (finished_layout count self.entries self.places)) }
     {
         let Draft { entry, places } = self;
         match entry {

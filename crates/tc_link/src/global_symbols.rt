@@ -89,10 +89,9 @@ fn add_symbol_if_global<'a>(
     ensures counts { OnOk result ((q : List ℕ) (n : ℕ) → HasCountedDefinitions names.old q n
         → HasCountedDefinitions names.new q
         (n + (if has_global_name q symbol.now then 1 else 0))) }
-    ensures globals { OnOk result ((placed : List PlacedData) (p : PlacedData)
-        (before : List GlobalData) → slice_get placed object ≡ Some p
-        → ResolvesGlobals names.old placed before
-        → ResolvesGlobals names.new placed (before ++ globals_of_symbols p.bases (symbol.now ∷ []))) }
+    ensures globals { OnOk result ((placed : List PlacedData) (p : PlacedData) (before : List
+        GlobalData) → slice_get placed object ≡ Some p → ResolvesGlobals names.old placed before →
+        ResolvesGlobals names.new placed (before ++ globals_of_symbols p.bases (symbol.now ∷ []))) }
     ensures err { IfErr result (λ e. e ≡ NoMemory) }
 {
     let is_global = symbol.kind == GLOBAL_SYMBOL;

@@ -12,7 +12,7 @@ use crate::placed::place_objects;
 use crate::relocated_sections::all_relocated_sections;
 use crate::section_checks::check_section_places;
 use crate::segments::segments_of;
-use crate::symbol_checks::{check_missing_symbols, check_duplicate_symbols};
+use crate::symbol_checks::{check_duplicate_symbols, check_missing_symbols};
 use crate::{Layout, LinkErr};
 use elf_image::{Image, establish_segment_bytes};
 use std::alloc::Global;

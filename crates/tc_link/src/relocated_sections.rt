@@ -64,8 +64,8 @@ fn relocate_object<'a>(
         → ResolvesGlobals names.now placed.now all → ss.items ≡ relocated_sections all each.now) }
     ensures none { OnOk result ((all : List GlobalData) → ResolvesGlobals names.now placed.now all
         → first_reloc_refusal_in all number each.now ≡ None) }
-    ensures err { IfErr result (λ e. (all : List GlobalData) → ResolvesGlobals names.now placed.now all
-        → IsRefusal (first_reloc_refusal_in all number each.now) e) }
+    ensures err { IfErr result (λ e. (all : List GlobalData) → ResolvesGlobals names.now placed.now
+        all → IsRefusal (first_reloc_refusal_in all number each.now) e) }
 {
     let object = each.object;
     let addresses = symbol_addresses(alloc, names, placed, each)?;

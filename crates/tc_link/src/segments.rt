@@ -55,8 +55,13 @@ fn join_sections(
 
 /// Appends a section to the bytes of a segment, at the next multiple of 4, if the section's name is
 /// `name`. Otherwise nothing changes.
-fn append_section_of_name(bytes: &mut Vec<u8>, name: &str, section: &WrittenSection<'_>) -> Result<(), LinkErr>
-    ensures ok { OnOk result (bytes.new.items ≡ with_section_of_name name.now bytes.old.items section.now) }
+fn append_section_of_name(
+    bytes: &mut Vec<u8>,
+    name: &str,
+    section: &WrittenSection<'_>,
+) -> Result<(), LinkErr>
+    ensures ok { OnOk result (bytes.new.items
+        ≡ with_section_of_name name.now bytes.old.items section.now) }
     ensures err { IfErr result (λ e. e ≡ NoMemory) }
 {
     if name != section.name {

@@ -10,7 +10,7 @@ ghost use Rattle.tc_link.specs.declared.errors.LinkErr.TheVariants.{NoMemory};
 
 use crate::LinkErr;
 use crate::definitions::Definition;
-use crate::global_symbols::{has_no_definition, has_multiple_definitions};
+use crate::global_symbols::{has_multiple_definitions, has_no_definition};
 use std::alloc::Global;
 use std::collections::HashMap;
 use tc_object::{GLOBAL_SYMBOL, ObjectRef, SymbolRef, UNDEFINED_SYMBOL};

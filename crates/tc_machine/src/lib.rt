@@ -20,5 +20,5 @@ mod stepping;
 
 pub use accesses::is_trapping_access;
 pub use events::{Cause, End, Event};
-pub use laws::{safety_definition_laws, machine_laws};
+pub use laws::{machine_laws, safety_definition_laws};
 pub use state::Machine;

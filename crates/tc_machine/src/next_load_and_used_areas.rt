@@ -113,7 +113,6 @@ impl Machine {
             (if is_area_mapped self.now.mem (link_in word)
             then Some (area_word self.now.mem (link_in word) 0) else None) }
     {
-        self.mem
-            .area_first_word(address_of(link_in(word)), near)
+        self.mem.area_first_word(address_of(link_in(word)), near)
     }
 }

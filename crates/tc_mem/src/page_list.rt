@@ -10,9 +10,9 @@ ghost use Rattle.tc_mem.specs.PlanMemory.{IsMemoryOfZeros};
 ghost use Rattle.tc_mem.specs.Written.{IsMemoryWritten};
 
 use crate::page::{
-    Page, mapped_page_half, mapped_page_word, new_page, area_in_page, area_first_word_in_page,
-    page_byte_at, write_mapped_page_half, write_mapped_page_word, write_area_in_page, write_page_byte,
-    write_page_bytes,
+    Page, area_first_word_in_page, area_in_page, mapped_page_half, mapped_page_word, new_page,
+    page_byte_at, write_area_in_page, write_mapped_page_half, write_mapped_page_word,
+    write_page_byte, write_page_bytes,
 };
 use crate::page_numbers::{find_page, find_page_near, page_numbers};
 use std::alloc::Global;

@@ -10,7 +10,7 @@ ghost use Rattle.tc_stmt.specs.SourceRules.{no_rule, wrong_operands};
 use crate::item::Item;
 use crate::shape_numbers::{HIGH, HUGE, LOW, NUMBER, SUM, WORD};
 use crate::source_rules::{MISPLACED_SYMBOL, NO_RULE, PAST_LIMITS, WIDE_NUMBER, WRONG_OPERANDS};
-use crate::{shape_index, rule_broken_by_symbol};
+use crate::{rule_broken_by_symbol, shape_index};
 use std::alloc::AllocError;
 use tc_lex::Operand;
 
@@ -124,7 +124,8 @@ pub(crate) fn add_values<'a>(
     items: &mut Vec<Item<'a>>,
 ) -> Result<u8, AllocError>
     requires { IsDataWidth width }
-    ensures rule { IfOk result (λ rule. rule ≡ rule_broken_by_values width (map operand_of os.now)) }
+    ensures rule { IfOk result
+        (λ rule. rule ≡ rule_broken_by_values width (map operand_of os.now)) }
     ensures items { OnOk result (map item_of items.new.items
         ≡ map item_of items.old.items ++ map (value_item width) (map operand_of os.now)) }
 {

@@ -42,7 +42,12 @@ pub fn with_displacement<'a>(
 /// Fills `acc`, an instruction's fields so far, from the operand `o`. Returns false if the operand
 /// isn't of the kind `want` that the instruction takes.
 #[tactic(auto, unfolding(crate::specs::Filling::fill_operand, crate::specs::Filling::fill_plain_operand))]
-pub(crate) fn fill_operand<'a>(row: &Row, want: Want, o: &Operand<'a>, acc: &mut RowFields<'a>) -> bool
+pub(crate) fn fill_operand<'a>(
+    row: &Row,
+    want: Want,
+    o: &Operand<'a>,
+    acc: &mut RowFields<'a>,
+) -> bool
     ensures { GivesFieldsOrFalse result acc.new
         (fill_operand (row_of row.now) want (operand_of o.now) (row_fields_of acc.old)) }
 {
@@ -219,7 +224,8 @@ fn fill_register(bank: bool, field: Field, v: &Value<'_>, acc: &mut RowFields<'_
 /// wrong register (rule 4); false means that the operand is no name.
 #[tactic(auto, unfolding(crate::specs::Filling::check_a10))]
 fn check_a10(v: &Value<'_>, acc: &mut RowFields<'_>) -> bool
-    ensures { GivesFieldsOrFalse result acc.new (check_a10 (value_of v.now) (row_fields_of acc.old)) }
+    ensures { GivesFieldsOrFalse result acc.new
+        (check_a10 (value_of v.now) (row_fields_of acc.old)) }
 {
     if shape_index(v.shape) == WORD {
         if !is_same_text(v.name, "a10") {

@@ -11,17 +11,17 @@ ghost use Rattle.tc_stmt.specs.Lines.{line_data, named_line, is_unbracketed_name
 ghost use Rattle.tc_stmt.specs.SourceRules.{bad_token};
 ghost use Rattle.tc_stmt.specs.SourceViews.{GivesRuleAndAddsItems};
 
-use crate::data_values::{add_values, space_item, rule_broken_by_space};
+use crate::data_values::{add_values, rule_broken_by_space, space_item};
 use crate::item::Item;
 use crate::row_index::row_of_name;
 use crate::shape_numbers::WORD;
 use crate::source::Line;
 use crate::source_rules::{BAD_TOKEN, NO_RULE, WRONG_OPERANDS};
-use crate::{RowFields, shape_index, row_of_statement};
+use crate::{RowFields, row_of_statement, shape_index};
 use std::alloc::AllocError;
 use tc_lex::{
-    Operand, Piece, Scratch, TokenKind, tokenize_line, is_same_text, is_token_kind, operands_into,
-    token_text,
+    Operand, Piece, Scratch, TokenKind, is_same_text, is_token_kind, operands_into, token_text,
+    tokenize_line,
 };
 
 /// Parses a line of a source and adds its items: a label, a directive, an instruction or data.
@@ -35,8 +35,8 @@ pub(crate) fn read_line<'a>(
 ) -> Result<Line, AllocError>
     ensures rule { IfOk result (λ l. l.rule ≡ (line_of_text line.now).rule) }
     ensures count { IfOk result (λ l. l.count ≡ length (line_of_text line.now).items) }
-    ensures items { OnOk result
-        (map item_of items.new.items ≡ map item_of items.old.items ++ (line_of_text line.now).items) }
+    ensures items { OnOk result (map item_of items.new.items ≡ map item_of items.old.items
+        ++ (line_of_text line.now).items) }
 {
     if line.is_empty() {
         return Ok(Line {
@@ -77,7 +77,8 @@ fn read_line_of_tokens<'a>(
     items: &mut Vec<Item<'a>>,
 ) -> Result<u8, AllocError>
     requires { length ps.now ≤ 64 }
-    ensures { GivesRuleAndAddsItems (tokens_line (map piece_of ps.now)) result items.old.items items.new.items }
+    ensures { GivesRuleAndAddsItems
+        (tokens_line (map piece_of ps.now)) result items.old.items items.new.items }
 {
     if has_label(ps) {
         read_labelled_line(ps, operands, items)
@@ -138,7 +139,8 @@ fn read_line_from<'a>(
 ) -> Result<u8, AllocError>
     requires few { length ps.now ≤ 64 }
     requires place { at ≤ length ps.now }
-    ensures { GivesRuleAndAddsItems (line_from (map piece_of ps.now) at) result items.old.items items.new.items }
+    ensures { GivesRuleAndAddsItems
+        (line_from (map piece_of ps.now) at) result items.old.items items.new.items }
 {
     if ps.len() == at {
         rule_without_items(NO_RULE, items)
@@ -269,7 +271,8 @@ fn read_values_line<'a>(
 /// Reads a line that is `.space`, with the operands `os`. Adds the item of its zeros, and returns
 /// the rule that the line breaks, or `NO_RULE`.
 fn read_space_line<'a>(os: &[Operand<'a>], items: &mut Vec<Item<'a>>) -> Result<u8, AllocError>
-    ensures { GivesRuleAndAddsItems (space_line (map operand_of os.now)) result items.old.items items.new.items }
+    ensures { GivesRuleAndAddsItems
+        (space_line (map operand_of os.now)) result items.old.items items.new.items }
 {
     if os.len() != 1 {
         return add_item(WRONG_OPERANDS, Item::Zeros(0), items);
@@ -284,8 +287,8 @@ fn read_code_line<'a>(
     os: &[Operand<'a>],
     items: &mut Vec<Item<'a>>,
 ) -> Result<u8, AllocError>
-    ensures { GivesRuleAndAddsItems (code_line name.now
-        (row_of_statement name.now (map operand_of os.now))) result items.old.items items.new.items }
+    ensures { GivesRuleAndAddsItems (code_line name.now (row_of_statement name.now
+        (map operand_of os.now))) result items.old.items items.new.items }
 {
     match row_of_statement(name, os) {
         Ok((row, found)) => add_item(NO_RULE, code_item(row, &found), items),

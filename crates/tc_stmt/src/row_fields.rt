@@ -136,7 +136,8 @@ pub(crate) fn note_symbol<'a>(kind: u8, v: &Value<'a>, acc: &mut RowFields<'a>)
 
 /// Notes in `acc` that an operand's value `v` has a symbol in a place that takes none.
 pub(crate) fn note_misplaced_symbol(v: &Value<'_>, acc: &mut RowFields<'_>)
-    ensures { row_fields_of acc.new ≡ with_misplaced_symbol (value_of v.now) (row_fields_of acc.old) }
+    ensures { row_fields_of acc.new
+        ≡ with_misplaced_symbol (value_of v.now) (row_fields_of acc.old) }
 {
     note_broken_rule(MISPLACED_SYMBOL.min(rule_broken_by_symbol(v)), acc);
 }

@@ -24,7 +24,14 @@ use tc_lex::{Operand, are_same_bytes};
 pub fn row_of_statement<'a>(name: &[u8], os: &[Operand<'a>]) -> Result<(u8, RowFields<'a>), u8>
     ensures { GivesStatementOutcome result (row_of_statement name.now (map operand_of os.now)) }
 {
-    search_statement_row(rows(), wants(), first_rows_by_key(), next_rows_by_key(), name, os)
+    search_statement_row(
+        rows(),
+        wants(),
+        first_rows_by_key(),
+        next_rows_by_key(),
+        name,
+        os,
+    )
 }
 
 /// Finds the first row that the statement `name` with operands `os` fits, by the index `first` and

@@ -27,4 +27,4 @@
 
 mod laws;
 
-pub use laws::{build_laws, edge_law, read_back_laws, kept_limit_laws, sequence_law};
+pub use laws::{build_laws, edge_law, kept_limit_laws, read_back_laws, sequence_law};

@@ -43,8 +43,9 @@ pub fn has_value_form(form: ValueForm, name: &str, object: &Value) -> bool
             json_number_or_zero(object, "at"),
             len,
         )),
-        ValueForm::Hi => json_number_at(object, name).is_some_and(|hi| json_number_or_zero(object, "lo")
-            <= hi),
+        ValueForm::Hi => json_number_at(object, name).is_some_and(|hi| json_number_or_zero(
+            object, "lo",
+        ) <= hi),
         ValueForm::Word => json_number_at(object, name).is_some(),
         ValueForm::Byte => json_number_at(object, name).is_some_and(|byte| byte < 256),
         ValueForm::Truth => json_number_at(object, name).is_some_and(|truth| truth < 2),

@@ -5,13 +5,20 @@ ghost use Rattle.serde_json.specs.View.{view};
 ghost use Rattle.tcd_plan.specs.PlanReader.{IsPlanResult, HasPrintedKey, plan_of, plan_refusal, unchecked_plan_of};
 
 use crate::json_values::{
-    has_json_string, json_elements_or_empty, json_nested_byte, json_nested_number, json_number_or_zero,
+    has_json_string, json_elements_or_empty, json_nested_byte, json_nested_number,
+    json_number_or_zero,
 };
-use crate::key_refusals::{first_key_with_bad_value, first_missing_key, first_object_with_unknown_key};
+use crate::key_refusals::{
+    first_key_with_bad_value, first_missing_key, first_object_with_unknown_key,
+};
 use crate::key_table::KeyParent;
-use crate::limits::{first_oversized_array, has_even_vector_bases, has_valid_areas, plan_range_overlap};
+use crate::limits::{
+    first_oversized_array, has_even_vector_bases, has_valid_areas, plan_range_overlap,
+};
 use crate::object_forms::plan_objects_of;
-use crate::plan_parts::{plan_core_of, plan_devices_of, plan_irqs_of, plan_globals_of, plan_ranges_of};
+use crate::plan_parts::{
+    plan_core_of, plan_devices_of, plan_globals_of, plan_irqs_of, plan_ranges_of,
+};
 use crate::{Plan, PlanErr};
 use serde_json::{Error, Value};
 use std::alloc::Global;

@@ -9,9 +9,7 @@ mod laws;
 mod reports;
 mod texts;
 
-pub use generating::generated_files::{
-    Generated, generate, generated_plan_text, generated_image,
-};
+pub use generating::generated_files::{Generated, generate, generated_image, generated_plan_text};
 pub use graphs::graph;
 pub use laws::graph_law;
 pub use reports::report;

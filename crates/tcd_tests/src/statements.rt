@@ -2,9 +2,10 @@
 use crate::asserts::{is_so, same};
 use tc_isa::rows;
 use tc_lex::{
-    Piece, Scratch, Shape, Token, TokenKind, Value, is_token_kind, operands_into, token_text, tokens,
+    Piece, Scratch, Shape, Token, TokenKind, Value, is_token_kind, operands_into, token_text,
+    tokens,
 };
-use tc_stmt::{is_source_name, shape_index, row_of_statement, rule_broken_by_symbol, wants};
+use tc_stmt::{is_source_name, row_of_statement, rule_broken_by_symbol, shape_index, wants};
 
 static TOKENS: [Token; 13] = [
     Token {

@@ -13,6 +13,6 @@ mod rule_16;
 pub use cells::{Cell, Cells};
 pub use errors::CellsErr;
 pub use faults::cells_fault;
-pub use laws::{cell_fault_laws, cell_definition_laws, cells_keep_their_bounds};
+pub use laws::{cell_definition_laws, cell_fault_laws, cells_keep_their_bounds};
 pub use plans::with_cells;
 pub use rule_16::CELLS_RULE;

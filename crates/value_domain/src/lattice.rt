@@ -9,7 +9,7 @@ ghost use Rattle.value_domain.specs.declared.values.Val.TheVariants.{Set, Span};
 
 use crate::merged_lists::set_union;
 use crate::values::{
-    alignment_log2, is_word_of_set, is_set, is_span_of_all_words, member, set_span, set_word,
+    alignment_log2, is_set, is_span_of_all_words, is_word_of_set, member, set_span, set_word,
     set_words, span_len,
 };
 use crate::{Bounds, Val, Words};
@@ -358,7 +358,11 @@ fn join_set_with_set(b: &Bounds, v: &mut Val, words: &Words)
     ensures { v.new ≡ cover b.now (members v.old ++ words.now) }
 {
     match v {
-        Val::Set(own) => write_value_of_words(b, set_union(own.as_slice(), words.as_slice()).as_slice(), v),
+        Val::Set(own) => write_value_of_words(
+            b,
+            set_union(own.as_slice(), words.as_slice()).as_slice(),
+            v,
+        ),
         Val::Span { .. } => unreachable!(),
     }
 }

@@ -9,7 +9,14 @@ use crate::{Bounds, Val};
 
 /// Overwrites `out` with the meet of a value and a Span: the cover of their common members. Returns
 /// false if there are none; then `out` may be any value.
-pub fn write_meet_with_span(b: &Bounds, v: &Val, lo: u32, last: u32, step: u8, out: &mut Val) -> bool
+pub fn write_meet_with_span(
+    b: &Bounds,
+    v: &Val,
+    lo: u32,
+    last: u32,
+    step: u8,
+    out: &mut Val,
+) -> bool
     requires value { IsInLattice b.now v.now }
     requires step { step ≤ 2 }
     ensures meet { value_if_found result out.new
@@ -46,7 +53,14 @@ pub fn write_meet_with_set(b: &Bounds, words: &[u32], v: &Val, out: &mut Val) ->
 
 /// Overwrites `out` with the cover of those of a Set's words that are members of a Span. Returns
 /// false if there are none; then `out` may be any value.
-fn write_meet_of_set_and_span(b: &Bounds, words: &[u32], lo: u32, last: u32, step: u8, out: &mut Val) -> bool
+fn write_meet_of_set_and_span(
+    b: &Bounds,
+    words: &[u32],
+    lo: u32,
+    last: u32,
+    step: u8,
+    out: &mut Val,
+) -> bool
     ensures meet { value_if_found result out.new
         ≡ cover_if_any b.now (filter (is_in_span lo last step) words.now) }
     ensures value { IfSome (value_if_found result out.new) (IsInLattice b.now) }

@@ -57,7 +57,8 @@ is_lower_register r = nat_lt r 8 || (nat_le 18 r && nat_le r 23)
 abbrev pub state_after_reg_write : State → ℕ → Val → State
 state_after_reg_write s r v = record (with_reg_value s r v) { lower = s.lower && not (is_lower_register r) }
 
--- states have a value for the register: the number is none of A0, A1, A8, A9 and A11
+-- r, 0 to 15 for D and 16 to 31 for A, is none of the fixed A0, A1, A8, A9 and A11: states have a
+-- value for the register
 abbrev pub IsNotFixedRegister : ℕ → Type 0
 IsNotFixedRegister r = IsSome (register_slot r)
 

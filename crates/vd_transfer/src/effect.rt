@@ -86,7 +86,13 @@ pub(crate) fn write_scaled_address_change(
 
 /// Writes into `c` the change of a state by the post-increment of a load or store: the base
 /// register grows by the offset. Without post-increment nothing changes.
-pub(crate) fn write_post_increment_change(b: &Bounds, plan: &Plan, s: &State, at: Addressing, c: &mut Change)
+pub(crate) fn write_post_increment_change(
+    b: &Bounds,
+    plan: &Plan,
+    s: &State,
+    at: Addressing,
+    c: &mut Change,
+)
     requires base { IsArgInBounds at.base }
     requires values { AreInLattice b.now s.now.regs }
     ensures base { state_after s.now c.new

@@ -11,7 +11,7 @@ use std::alloc::Global;
 use tcd_forms::gen_line;
 use tcd_plan::{Plan, PlanErr};
 use tcd_reading::{Outcome, Report, Status, Stop};
-use tcd_report::{generated_plan_text, generated_image};
+use tcd_report::{generated_image, generated_plan_text};
 
 /// The command `gen`: generates the image with this number of functions and its plan. Reports the
 /// size of their certificate, and the CSAs needed.

@@ -12,7 +12,9 @@ use depth_check::{Verdict, check};
 use elf_image::Image;
 use packed_cert::Cert;
 use std::alloc::Global;
-use task_chains::{TASKS_RULE, Tasks, TasksErr, routine_fault, task_fault, task_view_image, task_view_plan};
+use task_chains::{
+    TASKS_RULE, Tasks, TasksErr, routine_fault, task_fault, task_view_image, task_view_plan,
+};
 use tcd_base::{Files, NoMemory};
 use tcd_forms::{
     CertFile, ElfFile, PlanFile, certified_tasks_line, refused_sum_line, refused_switch_line,

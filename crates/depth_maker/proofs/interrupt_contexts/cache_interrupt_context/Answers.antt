@@ -6,7 +6,7 @@ use Rattle.depth_maker.specs.declared.interrupt_contexts.InterruptContext.{Inter
 use Rattle.depth_maker.specs.declared.table.Table as made
 use Rattle.depth_maker.proofs.Lawful.{lawful}
 use Rattle.depth_maker.proofs.NotedInterrupts.{joined_and_noted, joined_with_last}
-use Rattle.depth_maker.proofs.interrupt_contexts.cache_interrupt_context.Goals.{in-Some+else-is_equal_except_stack, in_default}
+use Rattle.depth_maker.proofs.interrupt_contexts.cache_interrupt_context.Goals.{in-Some+else-is_equal_except_sp, in_default}
 use Rattle.depth_maker.proofs.interrupt_contexts.cache_interrupt_context.Goals as goal
 
 pub returns-then-is_place_queued : goal.returns-then-is_place_queued

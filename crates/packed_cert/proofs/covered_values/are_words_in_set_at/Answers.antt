@@ -7,7 +7,7 @@ use Rattle.value_domain.proofs.WordLaws.{among_place}
 use Rattle.packed_cert.specs.ValuesInBytes.{words_in_bytes}
 use Rattle.packed_cert.proofs.BelowLaws.{passed_more, not_among, among_here, rising_places}
 use Rattle.packed_cert.proofs.covered_values.are_words_in_set_at.Goals as goal
-use Rattle.packed_cert.proofs.covered_values.are_words_in_set_at.Goals.{then-k-n-via-then-k-n, then-k-n-via-else-k-n+then-word_at_place-x}
+use Rattle.packed_cert.proofs.covered_values.are_words_in_set_at.Goals.{then-k-n-via-then-k-n, then-k-n-via-else-k-n+then-word_at_offset-x}
 
 pub returns-then-k-n : goal.returns-then-k-n
 returns-then-k-n c = (

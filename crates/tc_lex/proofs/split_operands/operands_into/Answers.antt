@@ -11,15 +11,15 @@ use Rattle.tc_lex.proofs.split_operands.operands_into.Goals as goal
 pub returns-then-is_empty : goal.returns-then-is_empty
 returns-then-is_empty c =
     let empty : length c.args.ps.now ≡ 0 = grind (arith, nat_tests) in
-    ap (map operand_of) c.clear.ensures ∙ operands_into-none c.args.ps.now empty
+    ap (map operand_of) c.clear.ensures ∙ operands-none c.args.ps.now empty
 
 pub returns : goal.returns
 returns c =
     let some : 0 < length c.args.ps.now = grind (arith, nat_tests) in
-    c.read_operand_into.ensures.operands_into
+    c.read_operand_into.ensures.operands
     ∙ parted_end (map operand_of c.parts.out.items) c.parts.rest.now (sym c.find_comma.ensures.value ∙ c.in_default.is)
     ∙ c.parts.invariant.parts
-    ∙ operands_into-some c.args.ps.now some
+    ∙ operands-some c.args.ps.now some
 
 pub parts-preserved : goal.parts-preserved
 parts-preserved c =
@@ -28,7 +28,7 @@ parts-preserved c =
     let found : c.find_comma.result ≡ Some i = c.in-Some.is in
     record {
       parts =
-          ap (λ os. os ++ map operand_of_tokens (slice_split is_comma (map piece_of c.tokens_after_comma-rest.result.now))) c.read_operand_before.ensures.operands_into
+          ap (λ os. os ++ map operand_of_tokens (slice_split is_comma (map piece_of c.tokens_after_comma-rest.result.now))) c.read_operand_before.ensures.operands
           ∙ ap (λ (ps : List Piece). (out ++ operand_of_tokens (take i (map piece_of c.parts.rest.now)) ∷ []) ++ map operand_of_tokens (slice_split is_comma (map piece_of ps))) c.tokens_after_comma-rest.ensures
           ∙ parted_more out c.parts.rest.now i (sym c.find_comma.ensures.value ∙ found)
           ∙ c.parts.invariant.parts;

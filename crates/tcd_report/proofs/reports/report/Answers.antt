@@ -19,7 +19,7 @@ returns c =
     let plan = c.args.plan.now in
     let cert : CertData = c.args.cert.now in
     let is : IsCert cert = c.version.ensures.limits in
-    let heights = c.in_ok-node_heights.node_heights in
+    let heights = c.in_ok-heights.heights in
     let row : ℕ → Option ℕ = get nat_eq c.in_ok-known.known in
     let rows : List LongestCalls = longest_calls_below row priority_count in
     let greatest : (p : ℕ) → IsLongestIfAny (IsHeightAtPriority heights cert.nodes p) (row p) = c.in_ok-known.ensures in
@@ -34,7 +34,7 @@ returns c =
     let plain : has_float (view c.in_ok-value.value) ≡ false = ap has_float value_is ∙ report_plain plan.areas (certified_need image plan cert) plan.reserve rows cert.nodes in
     record {
       rows = rows;
-      prios = prios_are image plan cert is heights c.in_ok-node_heights.ensures.tells c.in_ok-node_heights.ensures.all row greatest priority_count;
-      longest = rows_longest image plan cert is heights c.in_ok-node_heights.ensures.tells c.in_ok-node_heights.ensures.all row greatest priority_count;
+      prios = prios_are image plan cert is heights c.in_ok-heights.ensures.tells c.in_ok-heights.ensures.all row greatest priority_count;
+      longest = rows_longest image plan cert is heights c.in_ok-heights.ensures.tells c.in_ok-heights.ensures.all row greatest priority_count;
       is = c.in_ok-append_str.ensures ∙ ap (λ l. l ++ 10 ∷ []) (c.in_ok-text.ensures.text plain ∙ ap compact_text value_is);
     }

@@ -19,7 +19,7 @@ returns-in-Global-clause-draft c =
 
 pub returns-in-Code-clause-rule : goal.returns-in-Code-clause-rule
 returns-in-Code-clause-rule c =
-    if_ok c.add_checked_code.result _ _ c.add_checked_code.ensures.rule
+    if_ok c.check_and_add_code.result _ _ c.check_and_add_code.ensures.rule
     (λ rule h.
     h
     ∙ plain_rule c.args.labels.now c.args.self.now c.in-Code.row c.in-Code.fields
@@ -28,7 +28,7 @@ returns-in-Code-clause-rule c =
 pub returns-in-Data-clause-draft : goal.returns-in-Data-clause-draft
 unfolding with_bytes_if_room with_reference
 returns-in-Data-clause-draft c =
-    on_ok c.add_checked_bytes.result _ _ c.add_checked_bytes.ensures.draft
+    on_ok c.check_and_add_bytes.result _ _ c.check_and_add_bytes.ensures.draft
     (λ h.
     ap without_symbols h
     ∙ ap without_symbols (data_step c.args.labels.now c.args.self.now c.first_assembled_bytes.result.now None)
@@ -37,7 +37,7 @@ returns-in-Data-clause-draft c =
 
 pub returns-in-Data-clause-rule : goal.returns-in-Data-clause-rule
 returns-in-Data-clause-rule c =
-    if_ok c.add_checked_bytes.result _ _ c.add_checked_bytes.ensures.rule
+    if_ok c.check_and_add_bytes.result _ _ c.check_and_add_bytes.ensures.rule
     (λ rule h.
     h
     ∙ plain_data_rule c.args.labels.now c.args.self.now c.first_assembled_bytes.result.now
@@ -46,7 +46,7 @@ returns-in-Data-clause-rule c =
 
 pub returns-in-Word-clause-draft : goal.returns-in-Word-clause-draft
 returns-in-Word-clause-draft c =
-    on_ok c.add_checked_symbol_bytes.result _ _ c.add_checked_symbol_bytes.ensures.draft
+    on_ok c.check_and_add_reference.result _ _ c.check_and_add_reference.ensures.draft
     (λ h.
     h
     ∙ ap without_symbols (data_step c.args.labels.now c.args.self.now c.first_assembled_bytes-in-Word.result.now (Some (reference_of c.reference_to-r-in-Word.result)))
@@ -56,7 +56,7 @@ returns-in-Word-clause-draft c =
 
 pub returns-in-Word-clause-rule : goal.returns-in-Word-clause-rule
 returns-in-Word-clause-rule c =
-    if_ok c.add_checked_symbol_bytes.result _ _ c.add_checked_symbol_bytes.ensures.rule
+    if_ok c.check_and_add_reference.result _ _ c.check_and_add_reference.ensures.rule
     (λ rule h.
     h
     ∙ data_rule c.args.labels.now c.args.self.now c.first_assembled_bytes-in-Word.result.now (Some (reference_of c.reference_to-r-in-Word.result))
@@ -66,7 +66,7 @@ returns-in-Word-clause-rule c =
 
 pub returns-in-Section-clause-rule : goal.returns-in-Section-clause-rule
 returns-in-Section-clause-rule c =
-    if_ok c.add_checked_item_with_symbol.result _ _ c.add_checked_item_with_symbol.ensures.rule
+    if_ok c.check_and_add_item_with_symbol.result _ _ c.check_and_add_item_with_symbol.ensures.rule
     (λ rule h.
     h
     ∙ ap (λ (i : Item). rule_broken_by_item c.args.labels.now c.args.self.now (item_of i)) c.in-Section.is
@@ -75,7 +75,7 @@ returns-in-Section-clause-rule c =
 
 pub returns-in-Zeros-clause-rule : goal.returns-in-Zeros-clause-rule
 returns-in-Zeros-clause-rule c =
-    if_ok c.add_checked_item_with_symbol-in-Zeros.result _ _ c.add_checked_item_with_symbol-in-Zeros.ensures.rule
+    if_ok c.check_and_add_item_with_symbol-in-Zeros.result _ _ c.check_and_add_item_with_symbol-in-Zeros.ensures.rule
     (λ rule h.
     h
     ∙ ap (λ (i : Item). rule_broken_by_item c.args.labels.now c.args.self.now (item_of i)) c.in-Zeros.is

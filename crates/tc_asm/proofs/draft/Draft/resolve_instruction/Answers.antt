@@ -17,6 +17,6 @@ returns-then-place-rows c =
 
 pub returns-else-place-rows : goal.returns-else-place-rows
 returns-else-place-rows c =
-    c.unbroken_fields.ensures
+    c.bare_row_fields.ensures
     ∙ ap (λ o. option_map_or (λ row. fields_with_target c.args.labels.now c.args.self.now row c.args.fields.now (option_map reference_of c.args.r.now)) o (bare_row_fields c.args.fields.now))
     (sym (row_unlisted c.rows-rows.result.now c.args.row c.rows-rows.ensures.rows (omega arith)))

@@ -6,6 +6,6 @@ use Rattle.tc_asm.proofs.draft.Draft.rule_broken_by_known_global.Goals as goal
 pub returns : goal.returns
 returns c =
     c.min.ensures
-    ∙ ap (λ a. min a c.min-room.result) c.name_rule.ensures
-    ∙ ap (min (rule_broken_by_name c.args.name.now)) (c.min-room.ensures ∙ ap (min 15) c.undefined_global_rule.ensures)
+    ∙ ap (λ a. min a c.min-room.result) c.rule_broken_by_name.ensures
+    ∙ ap (min (rule_broken_by_name c.args.name.now)) (c.min-room.ensures ∙ ap (min 15) c.rule_broken_by_undefined_global.ensures)
     ∙ global_rule_known c.args.labels.now c.args.self.now c.args.name.now

@@ -11,4 +11,4 @@ returns-in-Ok-clause-kept c =
       | else-self-via-then-self+else-self-event w ↦ none_when_low c.args.self.now c.args.event.now w.if-self-event.false
       | else-self-via-else-self w ↦ none_when_off c.args.self.now c.args.event.now w.if-self.false
     ] in
-    kept_where c.args.self.now c.args.event.now c.in-Ok.shape c.in-Ok.field-0-1 c.is_area_keeping_shape.result free (sym c.in-Ok.is ∙ c.requires) c.is_area_keeping_shape.ensures
+    kept_where c.args.self.now c.args.event.now c.in-Ok.shape c.in-Ok.field-0-1 c.is_area_preserving_shape.result free (sym c.in-Ok.is ∙ c.requires) c.is_area_preserving_shape.ensures

@@ -14,6 +14,6 @@ pub returns : goal.returns
 returns c =
     let filled : IsFilledStartMemory c.args.image.now c.plan.inside.rom.items c.plan.inside.ram.items c.plan.inside.csa_at c.plan.inside.areas c.in_ok-mem.mem =
     rw (c.as_slice.ensures.value, c.as_slice-2.ensures.value) at c.in_ok-mem.ensures in
-    subst (λ p. IsZeroFilledStart c.args.image.now p (state_of (plan_data c.plan.inside) c.image.inside.entry c.start_psw.result c.start_area_link-first.result c.in_ok-mem.mem)) c.plan.view_is
-    (starts_in_zeros c.args.image.now (plan_data c.plan.inside) c.in_ok-mem.mem c.image.inside.entry c.start_psw.result c.start_area_link-first.result c.plan.invariant
-    (filled_memory c.args.image.now (plan_data c.plan.inside) c.in_ok-mem.mem c.plan.invariant filled) c.image.invariant.entry (ap (λ i. i.entry) c.image.view_is) c.start_psw.ensures c.start_area_link-first.ensures)
+    subst (λ p. IsZeroFilledStart c.args.image.now p (state_of (plan_data c.plan.inside) c.image.inside.entry c.psw_at_start.result c.link_of_area_at-first.result c.in_ok-mem.mem)) c.plan.view_is
+    (starts_in_zeros c.args.image.now (plan_data c.plan.inside) c.in_ok-mem.mem c.image.inside.entry c.psw_at_start.result c.link_of_area_at-first.result c.plan.invariant
+    (filled_memory c.args.image.now (plan_data c.plan.inside) c.in_ok-mem.mem c.plan.invariant filled) c.image.invariant.entry (ap (λ i. i.entry) c.image.view_is) c.psw_at_start.ensures c.link_of_area_at-first.ensures)

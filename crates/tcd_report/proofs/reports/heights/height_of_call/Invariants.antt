@@ -5,4 +5,4 @@ use Rattle.tcd_report.specs.Reports.Heights.{IsGreatestHeightInList, IsHeightThr
 use Rattle.tcd_report.proofs.reports.heights.height_of_call.Given as goal
 
 abbrev pub invariant-loop-target : goal.invariant-loop-target
-invariant-loop-target l = IsGreatestHeightInList (λ t. IsHeightThroughCallee l.node_heights (entered_key l.key call_kind t)) (take l.target-index l.target-items) l.most
+invariant-loop-target l = IsGreatestHeightInList (λ t. IsHeightThroughCallee l.heights (entered_key l.key call_kind t)) (take l.target-index l.target-items) l.most

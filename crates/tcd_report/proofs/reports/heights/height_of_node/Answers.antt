@@ -26,17 +26,17 @@ loop-addr-preserved c =
     let inv = c.loop-addr.invariant in
     let p : Point = point_of c.in-Some.addr c.advance.new.self.current in
     let row =
-    subst (λ (s : State). IsGreatestHeight (IsHeightThroughCall j.image.now j.plan.now j.cert.now c.args.node_heights.now (c.args.node.now).key (point_of c.in-Some.addr s)) c.height_at_point.result) c.state.ensures
-    (subst (λ (k : Key). IsGreatestHeight (IsHeightThroughCall j.image.now j.plan.now j.cert.now c.args.node_heights.now k (point_of c.in-Some.addr c.state.result.now)) c.height_at_point.result) (ap (λ (n : NodeData). n.key) c.node.view_is) c.height_at_point.ensures) in
+    subst (λ (s : State). IsGreatestHeight (IsHeightThroughCall j.image.now j.plan.now j.cert.now c.args.heights.now (c.args.node.now).key (point_of c.in-Some.addr s)) c.height_at_point.result) c.state.ensures
+    (subst (λ (k : Key). IsGreatestHeight (IsHeightThroughCall j.image.now j.plan.now j.cert.now c.args.heights.now k (point_of c.in-Some.addr c.state.result.now)) c.height_at_point.result) (ap (λ (n : NodeData). n.key) c.node.view_is) c.height_at_point.ensures) in
     record {
       done = inv.done ++ p ∷ [];
       split = split_more (c.args.node.now).points inv.done (c.loop-addr.walk).left c.advance.new.self.left p inv.split c.in-Some.ensures.0;
-      most = most_with (IsHeightThroughCall j.image.now j.plan.now j.cert.now c.args.node_heights.now (c.args.node.now).key) inv.done p c.loop-addr.most c.height_at_point.result c.max-most.result inv.most row c.max-most.ensures;
+      most = most_with (IsHeightThroughCall j.image.now j.plan.now j.cert.now c.args.heights.now (c.args.node.now).key) inv.done p c.loop-addr.most c.height_at_point.result c.max-most.result inv.most row c.max-most.ensures;
     }
 
 pub returns : goal.returns
 returns c =
     let j = c.args.judged.now in
     let inv = c.loop-addr.invariant in
-    subst (λ (l : List Point). IsGreatestHeightInList (IsHeightThroughCall j.image.now j.plan.now j.cert.now c.args.node_heights.now (c.args.node.now).key) l c.loop-addr.most)
+    subst (λ (l : List Point). IsGreatestHeightInList (IsHeightThroughCall j.image.now j.plan.now j.cert.now c.args.heights.now (c.args.node.now).key) l c.loop-addr.most)
     (sym (walked_all (c.args.node.now).points inv.done (c.loop-addr.walk).left inv.split c.in_default.ensures.0)) inv.most

@@ -7,7 +7,7 @@ abbrev pub invariant-loop-addr : goal.invariant-loop-addr
 invariant-loop-addr l = record {
   done : List Point;
   split : (l.node).points ≡ done ++ (l.walk).left;
-  most : IsGreatestHeightInList (IsHeightThroughCall l.judged.image.now l.judged.plan.now l.judged.cert.now l.node_heights (l.node).key) done l.most;
+  most : IsGreatestHeightInList (IsHeightThroughCall l.judged.image.now l.judged.plan.now l.judged.cert.now l.heights (l.node).key) done l.most;
 }
 
 abbrev pub decreases-loop-addr : goal.decreases-loop-addr

@@ -25,7 +25,7 @@ unreachable-requires c =
 pub height_of_node-rows-requires-clause-low : goal.height_of_node-rows-requires-clause-low
 height_of_node-rows-requires-clause-low c =
     let j = c.args.judged.now in
-    tells_low j.image.now j.plan.now j.cert.now (c.version-version.ensures.limits) c.requires.accepted c.loop-key.node_heights c.loop-key.invariant.tells
+    tells_low j.image.now j.plan.now j.cert.now (c.version-version.ensures.limits) c.requires.accepted c.loop-key.heights c.loop-key.invariant.tells
 
 pub height_of_node-rows-requires-clause-stands : goal.height_of_node-rows-requires-clause-stands
 height_of_node-rows-requires-clause-stands c =
@@ -58,7 +58,7 @@ loop-key-preserved c =
     let at : x ≡ get_or order i x = get_or_default order i none x lt in
     let sorted : IsSortedBy (λ x y. is_lt (ordering_then (nat_cmp x.0 y.0) (key_cmp x.1 y.1))) order =
     subst (λ (l : List (ℕ × Key)). IsSortedBy (λ x y. is_lt (ordering_then (nat_cmp x.0 y.0) (key_cmp x.1 y.1))) l) (sym c.deref-key-items.ensures.value) c.in_ok-sort.ensures.sorted in
-    let heights = c.loop-key.node_heights in
+    let heights = c.loop-key.heights in
     let rows : ℕ = c.height_of_node-rows.result in
     let most : IsGreatestHeightInList (IsHeightThroughCall j.image.now j.plan.now cert heights (r.0).key) (r.0).points rows =
     subst (λ (n : NodeData). IsGreatestHeightInList (IsHeightThroughCall j.image.now j.plan.now cert heights n.key) n.points rows) node_is c.height_of_node-rows.ensures in
@@ -83,4 +83,4 @@ returns-clause-all c =
     let moved : IsPermutation (map need_with_key cert.nodes) order =
     subst (λ (l : List (ℕ × Key)). IsPermutation (map need_with_key cert.nodes) l) (sym c.deref-key-items.ensures.value)
     (subst (λ (l : List (ℕ × Key)). IsPermutation l c.sort.new.self.items) c.in_ok-order.ensures c.in_ok-sort.ensures.permutation) in
-    all_known cert c.loop-key.node_heights order c.loop-key.key-index moved c.loop-key-test.false c.loop-key.invariant.all
+    all_known cert c.loop-key.heights order c.loop-key.key-index moved c.loop-key-test.false c.loop-key.invariant.all

@@ -16,11 +16,11 @@ unreachable-requires c = never_none (c.args.cert.now).nodes c.loop-i.i (omega (a
 pub unreachable-requires-in_default-get : goal.unreachable-requires-in_default-get
 unreachable-requires-in_default-get c =
     let known = c.requires c.in-Some.node (got (c.args.cert.now).nodes c.loop-i.i c.in-Some.node c.in-Some.ensures).2 in
-    cc (c.in_default-get.ensures.value ∙ ap (get key_eq c.args.node_heights.now) (ap (λ (n : NodeData). n.key) c.node.view_is) ∙ known.1)
+    cc (c.in_default-get.ensures.value ∙ ap (get key_eq c.args.heights.now) (ap (λ (n : NodeData). n.key) c.node.view_is) ∙ known.1)
 
 pub loop-i-preserved : goal.loop-i-preserved
 loop-i-preserved c =
-    let heights = c.args.node_heights.now in
+    let heights = c.args.heights.now in
     let nodes = (c.args.cert.now).nodes in
     let node = c.in-Some.node in
     let found = sym c.in-Some.ensures in
@@ -36,4 +36,4 @@ loop-i-preserved c =
     (λ q. c.in_ok-insert.ensures.updates.0 q ∙ ap (λ p. cond (nat_eq p q) (Some n) (get nat_eq rows q)) prio_is) c.loop-i.invariant
 
 pub returns : goal.returns
-returns c = longest_all c.args.node_heights.now c.loop-i.rows (c.args.cert.now).nodes c.loop-i.i (omega (arith, c.loop-i-test.false, c.len-i-end.ensures)) c.loop-i.invariant
+returns c = longest_all c.args.heights.now c.loop-i.rows (c.args.cert.now).nodes c.loop-i.i (omega (arith, c.loop-i-test.false, c.len-i-end.ensures)) c.loop-i.invariant
