@@ -1,6 +1,7 @@
 // The type `Cert`: a certificate that stays on the bytes of its file.
 ghost use Rattle.std.specs.Prelude.{◌≡◌, ◌≤◌, ◌<◌, ◌^◌, ℕ, nat_lt, length, slice_index, Ok, IfOk, IfErr, IfSome, IsTrue};
 ghost use Rattle.std.specs.List.{All, slice_get};
+ghost use Rattle.depth_cert.specs.declared.errors.CertErr.TheVariants.{NoMemory};
 ghost use Rattle.depth_cert.specs.Answers.{IsFaultOf};
 ghost use Rattle.packed_cert.specs.NodesInBytes.{AreNodePlaces, AscendByKey, IsCountOfNodesBelow, count_node_points};
 ghost use Rattle.packed_cert.specs.EnteredAlike.{HasEntryAndExitAt};
@@ -56,6 +57,21 @@ impl Cert {
             version,
             nodes,
         })
+    }
+
+    /// Returns the bytes that spell the certificate: at most 1,073,741,824, or `NoMemory`.
+    pub fn write(&self, alloc: Global) -> Result<Vec<u8>, CertErr>
+        ensures ok { IfOk result (λ out. out.items ≡ bytes_of_cert self.now) }
+        ensures small { IfOk result (λ out. length out.items ≤ 2 ^ 30) }
+        ensures err { IfErr result (λ e. e ≡ NoMemory) }
+
+        // These bytes are read back as this certificate.
+        ensures back { IfOk result (λ out. certificate_of out.items ≡ Ok self.now) }
+    {
+        match Vec::from_slice(alloc, self.bytes.as_slice()) {
+            Ok(out) => Ok(out),
+            Err(_) => Err(CertErr::NoMemory),
+        }
     }
 
     /// Consumes the certificate and returns the bytes that spell it.

@@ -54,8 +54,8 @@ fn reads_and_writes(rt: HostRuntime) -> Result<(), Fail> {
         let cert = read(&rt, &bytes).map_err(|_| "no certificate")?;
         same(&rt, &cert.version(), &version);
         same(&rt, &cert.len(), &2);
-        let out = cert.into_bytes();
-        same(&rt, &out.as_slice(), &bytes.as_slice());
+        same(&rt, &cert.write(rt.alloc())?.as_slice(), &bytes.as_slice());
+        same(&rt, &cert.into_bytes().as_slice(), &bytes.as_slice());
     }
     Ok(())
 }
