@@ -20,4 +20,4 @@ pub use laws::{
 pub use routine::routine_fault;
 pub use rule_17::TASKS_RULE;
 pub use task_lists::{Task, Tasks, TasksErr};
-pub use views::{task_view_image, task_view_plan};
+pub use views::{view_image, view_plan};

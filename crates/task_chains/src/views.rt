@@ -15,12 +15,7 @@ use tcd_plan::Plan;
 
 /// Returns the image of task `u`'s view, for analysing this task alone, with the task's entry
 /// address. In the switch routine there, reads of its data and of PCXI give any word.
-pub fn task_view_image(
-    alloc: Global,
-    image: &Image,
-    tasks: &Tasks,
-    u: usize,
-) -> Result<Image, NoMemory>
+pub fn view_image(alloc: Global, image: &Image, tasks: &Tasks, u: usize) -> Result<Image, NoMemory>
     requires { u < count tasks.now }
     ensures { IfOk result (λ i. i ≡ view_image_of image.now tasks.now u) }
 {
@@ -38,7 +33,7 @@ pub fn task_view_image(
 /// Returns the plan of task `u`'s view, for analysing this task alone, with the task's stack
 /// pointer. Ram outside the switch routine's data becomes peripherals that answer any word, and
 /// tasks after the first start with interrupts disabled.
-pub fn task_view_plan(plan: &Plan, tasks: &Tasks, u: usize) -> Plan
+pub fn view_plan(plan: &Plan, tasks: &Tasks, u: usize) -> Plan
     requires task { u < count tasks.now }
     requires fit { TasksFitPlan plan.now tasks.now }
     ensures { result ≡ view_plan_of plan.now tasks.now u }

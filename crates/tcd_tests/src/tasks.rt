@@ -3,7 +3,7 @@ use crate::asserts::same;
 use crate::boards::{EIGHT_AREAS, board};
 use crate::programs::{Program, image};
 use std::test::Fail;
-use task_chains::{Tasks, routine_fault, task_view_image, task_view_plan};
+use task_chains::{Tasks, routine_fault, view_image, view_plan};
 
 const TWO_TASKS: &str =
     "switch 80000020 D0008100\ntask 80000000 D0009000\ntask 80000010 D0008C00\n";
@@ -54,14 +54,14 @@ fn a_task_has_a_view(rt: HostRuntime) -> Result<(), Fail> {
     );
     assert!(rt; tasks.list.len() == 2);
     same(&rt, &routine_fault(&image, &plan, &tasks), &None);
-    let view = task_view_image(alloc, &image, &tasks, 1)?;
+    let view = view_image(alloc, &image, &tasks, 1)?;
     same(&rt, &view.entry, &0x8000_0010);
     same(
         &rt,
         &(view.byte(0x8000_0030), view.byte(0x8000_0033)),
         &(Some(0x4d), Some(0)),
     );
-    let other = task_view_plan(&plan, &tasks, 1);
+    let other = view_plan(&plan, &tasks, 1);
     same(
         &rt,
         &(other.ram.len(), other.devices.len(), other.sp),

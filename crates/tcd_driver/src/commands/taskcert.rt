@@ -12,7 +12,7 @@ use depth_maker::MakeErr;
 use elf_image::Image;
 use packed_cert::Cert;
 use std::alloc::Global;
-use task_chains::{TASKS_RULE, Tasks, routine_fault, task_fault, task_view_image, task_view_plan};
+use task_chains::{TASKS_RULE, Tasks, routine_fault, task_fault, view_image, view_plan};
 use tcd_base::{Files, NoMemory};
 use tcd_forms::{
     ElfFile, PlanFile, certified_tasks_line, refused_sum_line, refused_switch_line,
@@ -138,8 +138,8 @@ fn make_task_cert(
     // What holds of plans and tasks is known after they are read.
     let _areas = plan.areas;
     let _switch = tasks.switch;
-    let view = task_view_image(alloc, image, tasks, u)?;
-    make_task_view_cert(alloc, &view, &task_view_plan(plan, tasks, u), tasks)
+    let view = view_image(alloc, image, tasks, u)?;
+    make_task_view_cert(alloc, &view, &view_plan(plan, tasks, u), tasks)
 }
 
 /// Appends the certificate of a task, under the name `name`, to the files that `taskcert` writes.

@@ -12,9 +12,7 @@ use depth_check::{Verdict, check};
 use elf_image::Image;
 use packed_cert::Cert;
 use std::alloc::Global;
-use task_chains::{
-    TASKS_RULE, Tasks, TasksErr, routine_fault, task_fault, task_view_image, task_view_plan,
-};
+use task_chains::{TASKS_RULE, Tasks, TasksErr, routine_fault, task_fault, view_image, view_plan};
 use tcd_base::{Files, NoMemory};
 use tcd_forms::{
     CertFile, ElfFile, PlanFile, certified_tasks_line, refused_sum_line, refused_switch_line,
@@ -216,8 +214,8 @@ fn check_task_cert(
     let _areas = plan.areas;
     let _switch = tasks.switch;
     let _version = cert.version();
-    let view = task_view_image(alloc, image, tasks, u)?;
-    let board = task_view_plan(plan, tasks, u);
+    let view = view_image(alloc, image, tasks, u)?;
+    let board = view_plan(plan, tasks, u);
     match check(&view, &board, cert) {
         Verdict::Yes(need) => match task_fault(&view, &board, tasks, cert) {
             Some((key, addr)) => Ok(Verdict::No {

@@ -7,7 +7,7 @@ use Rattle.tcd_plan.specs.Cutting.{ranges_outside}
 use Rattle.task_chains.specs.Devices.{any_word_device}
 use Rattle.task_chains.proofs.ViewPlan.{view_is_plan}
 use Rattle.task_chains.proofs.ViewParts.{plan_parts}
-use Rattle.task_chains.proofs.views.task_view_plan.Goals as goal
+use Rattle.task_chains.proofs.views.view_plan.Goals as goal
 
 pub invariant_of-result : goal.invariant_of-result
 invariant_of-result c =

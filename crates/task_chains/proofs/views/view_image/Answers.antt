@@ -5,7 +5,7 @@ use Rattle.task_chains.specs.declared.task_lists.Task.{Task}
 use Rattle.task_chains.specs.Tasks.{TasksData, AreTasks}
 use Rattle.task_chains.proofs.ViewBytes.{view_is_image}
 use Rattle.task_chains.proofs.ViewParts.{image_parts}
-use Rattle.task_chains.proofs.views.task_view_image.Goals as goal
+use Rattle.task_chains.proofs.views.view_image.Goals as goal
 
 pub invariant_of-result : goal.invariant_of-result
 invariant_of-result c =
