@@ -4,17 +4,8 @@ use std::test::Fail;
 
 const CASES: &str = r#"
 case scripts drive the machine
-# A word of a device is loaded.
-bytes DEVICE_LOAD
-    7f454c46 01010100 00000000 00000000 02002c00 01000000 00000080 34000000
-    00000000 00000000 34002000 01000000 00000000 01000000 54000000 00000080
-    00000080 0a000000 0a000000 05000000 01000000 910000ff 19ff0000 3c00
-# A device that answers 3 to 5.
-replace DEVICE BOARD
-    "devices":[]
-    "devices":[{"at":"0xF0000000","len":4,"lo":3,"hi":5}]
 put e DEVICE_LOAD
-put p DEVICE
+put p ANSWERING
 # The script lets the device answer 4 and 5.
 text ANSWERS
     in 0 4 5

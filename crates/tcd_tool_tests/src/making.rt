@@ -3,12 +3,6 @@ use crate::stage::play;
 use std::test::Fail;
 
 const CASES: &str = r#"
-# A main at 80000000 that calls the function at 80000008, which calls itself by `call16`.
-bytes RECURSIVE
-    7f454c46 01010100 00000000 00000000 02002c00 01000000 00000080 34000000
-    00000000 00000000 34002000 01000000 00000000 01000000 54000000 00000080
-    00000080 0c000000 0c000000 05000000 01000000 6d000400 1d000000 5c000090
-
 # Least certificates are written.
 case the least certificate of CALLER is written
 put e CALLER

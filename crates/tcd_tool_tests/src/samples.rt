@@ -25,6 +25,10 @@ replace EIGHT BOARD
 replace INTERRUPTS EIGHT
     "irqs":[],"traps":[],"start":{"ie":0
     "irqs":[10,20],"traps":[],"start":{"ie":1
+# A device that answers 3 to 5.
+replace ANSWERING BOARD
+    "devices":[]
+    "devices":[{"at":"0xF0000000","len":4,"lo":3,"hi":5}]
 # As many devices as a plan may have.
 text CROWDED
     {"rom":[{"at":"0x80000000","len":"0x1000"}],"ram":[{"at":"0xD0008000","len":"0x1000"}],"devices":[{"at":"0xF0000000","len":4,"lo":0,"hi":0},{"at":"0xF0000010","len":4,"lo":0,"hi":0},{"at":"0xF0000020","len":4,"lo":0,"hi":0},{"at":"0xF0000030","len":4,"lo":0,"hi":0},{"at":"0xF0000040","len":4,"lo":0,"hi":0},{"at":"0xF0000050","len":4,"lo":0,"hi":0},{"at":"0xF0000060","len":4,"lo":0,"hi":0},{"at":"0xF0000070","len":4,"lo":0,"hi":0},{"at":"0xF0000080","len":4,"lo":0,"hi":0},{"at":"0xF0000090","len":4,"lo":0,"hi":0},{"at":"0xF00000A0","len":4,"lo":0,"hi":0},{"at":"0xF00000B0","len":4,"lo":0,"hi":0},{"at":"0xF00000C0","len":4,"lo":0,"hi":0},{"at":"0xF00000D0","len":4,"lo":0,"hi":0},{"at":"0xF00000E0","len":4,"lo":0,"hi":0},{"at":"0xF00000F0","len":4,"lo":0,"hi":0}],"csa":{"at":"0xD0000000","areas":4,"reserve":2},"sp":"0xD0009000","isp":"0xD0008800","biv":"0x80000400","btv":"0x80000100","irqs":[],"traps":[],"start":{"ie":0,"ccpn":0,"is":0},"globals":{"a0":0,"a1":0,"a8":0,"a9":0}}
@@ -60,6 +64,18 @@ text CALLER_GRAPH
     start 80000000 prio 0 is 0: 80000000 back 80000004
     start 80000000 prio 0 is 0: 80000004 to 80000004
     call 80000008 prio 0 is 0: 80000008 ret
+
+# A main at 80000000 that calls the function at 80000008, which calls itself by `call16`.
+bytes RECURSIVE
+    7f454c46 01010100 00000000 00000000 02002c00 01000000 00000080 34000000
+    00000000 00000000 34002000 01000000 00000000 01000000 54000000 00000080
+    00000080 0c000000 0c000000 05000000 01000000 6d000400 1d000000 5c000090
+
+# A word of a device is loaded, and then the program jumps to itself.
+bytes DEVICE_LOAD
+    7f454c46 01010100 00000000 00000000 02002c00 01000000 00000080 34000000
+    00000000 00000000 34002000 01000000 00000000 01000000 54000000 00000080
+    00000080 0a000000 0a000000 05000000 01000000 910000ff 19ff0000 3c00
 
 # A main and three functions; handlers for the interrupts 10, which saves the lower context, turns interrupts on and calls the
 # third function, and 20.
@@ -222,6 +238,16 @@ bytes BYTE_STORE
     00000080 12000000 12000000 05000000 01000000 911000fd d9ff0008 3b100000
     89f00008 3c00
 
+# Two tasks at 80000000 and 80000010, each of which calls the switch routine at 80000020 again and again.
+bytes SWITCHES
+    7f454c46 01010100 00000000 00000000 02002c00 01000000 00000080 34000000
+    00000000 00000000 34002000 03000000 00000000 01000000 94000000 00000080
+    00000080 04000000 04000000 05000000 01000000 01000000 98000000 10000080
+    10000080 04000000 04000000 05000000 01000000 01000000 9c000000 20000080
+    20000080 48000000 48000000 05000000 01000000 5c103cff 5c083cff 0d004003
+    0d000002 9110002d d9220048 19200800 01200236 4d00e01f 59310000 1b100000
+    df200480 3b000000 59200800 01200236 19310000 cd01e00f 0d00c004 0d004002
+    0d008001
 # Two tasks, from 80000000 and 80000010 on, and the routine by which they give way, with its block at D0008100.
 text TWO_TASKS
     switch 80000020 D0008100

@@ -92,11 +92,8 @@ run bad-input run e p s
     bad script 1 at 1
 
 case scripts of a plan with a device
-replace DEVICE BOARD
-    "devices":[]
-    "devices":[{"at":"0xF0000000","len":4,"lo":3,"hi":5}]
 put e CALLER
-put p DEVICE
+put p ANSWERING
 text TURNS
     in 0 3 6
 put s TURNS ..8

@@ -15,6 +15,7 @@
 // - `run STATUS WORD..`: runs a command, which must end so and print the lines below. STATUS is
 //   `done`, `refused`, `bad-input`, `fault`, `no-memory` or `bad-words`. In a WORD `_` is a blank,
 //   and `''` is the empty word.
+// - `prints PIECE WORD..`: the same of a command that must end with `done` and print the piece.
 // - `unprinted WORD..`: runs a command with an output that fails, which must end in a fault.
 // - `holds FILE PIECE EDIT..`, `begins FILE PIECE`, `length FILE N`, `none FILE`: checks a file.
 use crate::samples::SAMPLES;
@@ -191,13 +192,19 @@ impl Stage {
     }
 
     // Runs a command, and returns whether it ends with this status and prints this text.
-    fn runs(&mut self, status: &str, words: &[&str], printed: &str) -> Result<bool, Fail> {
+    fn runs(&mut self, status: &str, words: &[&str], printed: &[u8]) -> Result<bool, Fail> {
         self.count = self.count.saturating_add(1);
         let words = command_words(self.alloc, words)?;
         let mut out = MemSink::sure(self.alloc, 40_000)?;
         let ended = tool(self.alloc, &words, &mut self.files, &mut out);
         self.printed = Vec::from_slice(self.alloc, out.text())?;
-        Ok(status_word(ended) == status && out.text() == printed.as_bytes())
+        Ok(status_word(ended) == status && out.text() == printed)
+    }
+
+    // Runs a command, and returns whether it is done and prints this piece.
+    fn prints(&mut self, piece: &str, words: &[&str]) -> Result<bool, Fail> {
+        let printed = Vec::from_slice(self.alloc, self.piece(piece)?)?;
+        self.runs("done", words, &printed)
     }
 
     // Runs a command with an output that fails, and returns whether it ends in a fault.
@@ -259,7 +266,8 @@ impl Stage {
     // Runs a line that checks something, and returns whether the check passes.
     fn check(&mut self, words: &[&str], below: &str) -> Result<bool, Fail> {
         match words {
-            ["run", status, words @ ..] => self.runs(*status, words, below),
+            ["run", status, words @ ..] => self.runs(*status, words, below.as_bytes()),
+            ["prints", piece, words @ ..] => self.prints(*piece, words),
             ["unprinted", words @ ..] => self.faults(words),
             ["holds", file, piece, edits @ ..] => self.holds(*file, *piece, edits),
             ["begins", file, piece] => self.begins(*file, *piece),

@@ -3,16 +3,6 @@ use crate::stage::play;
 use std::test::Fail;
 
 const CASES: &str = r#"
-# Two tasks at 80000000 and 80000010, each of which calls the switch routine at 80000020 again and again.
-bytes TURNS
-    7f454c46 01010100 00000000 00000000 02002c00 01000000 00000080 34000000
-    00000000 00000000 34002000 03000000 00000000 01000000 94000000 00000080
-    00000080 04000000 04000000 05000000 01000000 01000000 98000000 10000080
-    10000080 04000000 04000000 05000000 01000000 01000000 9c000000 20000080
-    20000080 48000000 48000000 05000000 01000000 5c103cff 5c083cff 0d004003
-    0d000002 9110002d d9220048 19200800 01200236 4d00e01f 59310000 1b100000
-    df200480 3b000000 59200800 01200236 19310000 cd01e00f 0d00c004 0d004002
-    0d008001
 bytes FIRST_CERT
     54434443 02000200 00000000 80000002 00000200 00000000 00800000 00000000
     00000000 00000000 00000000 00000000 00000000 01009000 d0000000 00020000
@@ -126,7 +116,7 @@ text OUTSIDE
     task 80000010 D0008C00
 
 case two tasks share the areas
-put e TURNS
+put e SWITCHES
 put p EIGHT
 put t TWO_TASKS
 put c FIRST_CERT
@@ -152,7 +142,7 @@ run refused tasks e p t c d
     refused sum 7 of 6 areas
 
 case what a view hides is refused
-put e TURNS 94=e0 95=00 96=3c 97=00
+put e SWITCHES 94=e0 95=00 96=3c 97=00
 put p EIGHT
 put t TWO_TASKS
 put c LEVEL_CERT
@@ -175,7 +165,7 @@ run refused tasks e p t c d
     refused K17 at 80000004 in start 80000000 prio 0 is 0 of task 0
 
 case the first task that is refused is told
-put e TURNS
+put e SWITCHES
 put p EIGHT
 put t TWO_TASKS
 put c FIRST_CERT
@@ -192,19 +182,19 @@ run refused tasks e p t c d
     refused K14 at 80000010 in start 80000010 prio 0 is 0 of task 1
 
 case the routine stands whole
-put e TURNS e3=00
+put e SWITCHES e3=00
 put p EIGHT
 put t TWO_TASKS
 put c SECOND_CERT
 put d SECOND_CERT
 run refused tasks e p t c d
     refused switch at 80000067
-put e TURNS e3=00 9c=00
+put e SWITCHES e3=00 9c=00
 put p BOARD
 put c FIRST_CERT
 run refused tasks e p t c d
     refused switch at 80000020
-put e TURNS
+put e SWITCHES
 put p EIGHT
 put t OUTSIDE
 run refused tasks e p t c d
@@ -229,13 +219,13 @@ run refused tasks e p t c d
 
 # Texts that are no tasks of a plan. Certificates aren't asked for before.
 case no tasks 1
-put e TURNS
+put e SWITCHES
 put p ON_ISP
 put t NOTHING
 run bad-input tasks e p t x
     bad tasks 1 at 1
 case no tasks 2
-put e TURNS
+put e SWITCHES
 put p EIGHT
 text NO_TASKS
     switch 80000020 D0008102
@@ -245,7 +235,7 @@ put t NO_TASKS
 run bad-input tasks e p t x
     bad tasks 1 at 1
 case no tasks 3
-put e TURNS
+put e SWITCHES
 put p EIGHT
 text NO_TASKS
     .
@@ -256,7 +246,7 @@ put t NO_TASKS
 run bad-input tasks e p t x
     bad tasks 1 at 2
 case no tasks 4
-put e TURNS
+put e SWITCHES
 put p EIGHT
 text NO_TASKS
     switch 80000020 D0008100
@@ -266,7 +256,7 @@ put t NO_TASKS
 run bad-input tasks e p t x
     bad tasks 1 at 3
 case no tasks 5
-put e TURNS
+put e SWITCHES
 put p EIGHT
 text NO_TASKS
     switch 80000020 D0008100
@@ -282,7 +272,7 @@ put t NO_TASKS
 run bad-input tasks e p t x
     bad tasks 2 at 9
 case no tasks 6
-put e TURNS
+put e SWITCHES
 put p EIGHT
 text NO_TASKS
     switch 80000020 D0008100
@@ -299,7 +289,7 @@ put t NO_TASKS
 run bad-input tasks e p t x
     bad tasks 1 at 10
 case no tasks 7
-put e TURNS
+put e SWITCHES
 put p ON_ISP
 text NO_TASKS
     switch 80000020 00000000
@@ -308,7 +298,7 @@ put t NO_TASKS
 run bad-input tasks e p t x
     bad tasks 3
 case no tasks 8
-put e TURNS
+put e SWITCHES
 put p ON_ISP
 text NO_TASKS
     switch 80000020 D0008FF8
@@ -318,7 +308,7 @@ put t NO_TASKS
 run bad-input tasks e p t x
     bad tasks 4
 case no tasks 9
-put e TURNS
+put e SWITCHES
 put p FIFTEEN
 text NO_TASKS
     switch 80000020 D0008FF8
@@ -328,19 +318,19 @@ put t NO_TASKS
 run bad-input tasks e p t x
     bad tasks 4
 case no tasks 10
-put e TURNS
+put e SWITCHES
 put p FIFTEEN
 put t TWO_TASKS
 run bad-input tasks e p t x
     bad tasks 5
 case no tasks 11
-put e TURNS
+put e SWITCHES
 put p ON_ISP
 put t TWO_TASKS
 run bad-input tasks e p t x
     bad tasks 6
 case no tasks 12
-put e TURNS
+put e SWITCHES
 put p ON_ISP
 text NO_TASKS
     switch 80000020 D0008FF4
@@ -360,14 +350,14 @@ text SPACED
     task 00000000 00000000
     .
     task 00000000 00000000
-put e TURNS
+put e SWITCHES
 put p BOARD
 put t SPACED ..74
 run bad-input tasks e p t x
     bad tasks 7
 
 case no text of tasks
-put e TURNS
+put e SWITCHES
 put p BOARD
 text EMPTY_LINES
     .
@@ -411,7 +401,7 @@ run bad-input tasks e p t x
     bad tasks 3
 
 case each task has a certificate
-put e TURNS
+put e SWITCHES
 put p EIGHT
 put t TWO_TASKS
 put c FIRST_CERT
@@ -424,7 +414,7 @@ run bad-input tasks e p t c d d
 put e READS
 run bad-input tasks e p t x
     bad tasks 7
-put e TURNS
+put e SWITCHES
 run fault tasks e p t c x
 run bad-words tasks e p t
     bad words
@@ -432,14 +422,14 @@ run bad-words tasks e p t
 case inputs of tasks are refused in their order
 text CUT
     task
-put e TURNS ..51
+put e SWITCHES ..51
 put p LIST
 put t CUT ..4
 put c FIRST_CERT ..7
 put d SECOND_CERT ..100
 run bad-input tasks e p t c d
     bad elf 1
-put e TURNS
+put e SWITCHES
 run bad-input tasks e p t c d
     bad plan 1
 put p EIGHT
@@ -457,7 +447,7 @@ run refused tasks e p t c d
     refused switch at 80001000
 
 case certificates of tasks are made
-put e TURNS
+put e SWITCHES
 put p EIGHT
 put t TWO_TASKS
 run done taskcert e p t c d
@@ -466,7 +456,7 @@ holds c FIRST_CERT
 holds d SECOND_CERT
 
 case the areas are too few for both tasks
-put e TURNS
+put e SWITCHES
 put p BOARD
 put t TWO_TASKS
 run refused taskcert e p t c d
@@ -478,7 +468,7 @@ none c
 none d
 
 case tasks without certificates are refused
-put e TURNS 94=e0 95=00 96=3c 97=00
+put e SWITCHES 94=e0 95=00 96=3c 97=00
 put p EIGHT
 put t TWO_TASKS
 run refused taskcert e p t c d
@@ -491,11 +481,11 @@ text ODD
     switch 80000020 D0008100
     task 80000000 D0009000
     task 80000011 D0008C00
-put e TURNS
+put e SWITCHES
 put t ODD
 run refused taskcert e p t c d
     refused K3 at 80000011 in start 80000011 prio 0 is 0 of task 1
-put e TURNS e3=00
+put e SWITCHES e3=00
 put p BOARD
 put t TWO_TASKS
 run refused taskcert e p t c d
@@ -602,7 +592,7 @@ run done tasks e p t c0 c1 c2 c3 c4 c5 c6
     certified 14 of 14 areas in 7 tasks
 
 case certificates of tasks have their own names
-put e TURNS
+put e SWITCHES
 put p EIGHT
 put t TWO_TASKS
 put c FIRST_CERT
@@ -624,7 +614,7 @@ run bad-words taskcert e p t n0 n1 n2 n3 n4 n5 n6 n7 n8 n9 n10 n11 n12 n13 n14 n
 
 case certificates before a failing write stand
 failing 4
-put e TURNS
+put e SWITCHES
 put p EIGHT
 put t TWO_TASKS
 run fault taskcert e p t c d
