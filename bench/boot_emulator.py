@@ -1,16 +1,17 @@
 #!/usr/bin/env python3
-"""Runs a boot sequence in QEMU's TriCore board, and compares registers and areas with the start state of the plan.
+"""Runs a boot sequence in QEMU, and compares registers and areas with the plan's start state.
 
     boot_emulator.py PROGRAM [SEED]
 
-PROGRAM is a built tcd; qemu-system-tricore has to be installed (Debian: qemu-system-misc). `bootgen` writes the sequence for a plan, `asm`
-and `link` make an executable that begins at code which puts random words into the areas, the core registers and all others, goes
-through the sequence, and ends in a main that reads BIV, BTV and ISP and then jumps to itself. The same sources with `main` as entry,
-and a sequence at the same address, are what `boot` says yes to. Of PSW, IO and IS are compared; PSW and ICR aren't made random, since
-in the emulator they decide what code may do. Ends with 1 where anything differs.
+PROGRAM is a built tcd; qemu-system-tricore has to be installed (Debian: qemu-system-misc).
+`bootgen` writes the sequence for a plan, `asm` and `link` make an executable that begins at code
+which puts random words into the areas, the core registers and all others, goes through the
+sequence, and ends in a main that reads BIV, BTV and ISP and then jumps to itself. The same sources
+with `main` as entry, and a sequence at the same address, are what `boot` says yes to. Of PSW, IO
+and IS are compared; PSW and ICR aren't made random, since in the emulator they decide what code may
+do. Ends with 1 where anything differs.
 """
 import json
-import os
 import pathlib
 import random
 import re
@@ -22,6 +23,7 @@ import time
 
 from boots import CORE, Bench, board, scrambler, sequence
 from machine import link_of
+from program import of_words
 
 ENTRY, AT, START = 0x80000000, 0x80000800, 0x80001000
 END = ENTRY + 12  # where main goes round
@@ -29,7 +31,7 @@ END = ENTRY + 12  # where main goes round
 PLAN = board(
     rom=[(0x80000000, 0x4000)], ram=[(0xD0000000, 0x4000)], csa=(0xD0004000, 64, 7), sp=0xD0002000, isp=0xD0003FF8, biv=0x80002000, btv=0x80003000,
     start=(0, 5, 1), globals=(0xD0000100, 0xD0008000, 0xFFFF8000, 0x7FFF))
-# The code behind the sequence: an area is free for the call, and what can't be seen from outside is read.
+# The code after the sequence reads what can't be seen from outside.
 MAIN = """\
 .section text
 .global main
@@ -95,7 +97,7 @@ class Emulator:
 
 
 def wanted(plan, end):
-    """Of a start state under the plan, the registers that can be seen; BIV, BTV and ISP are in D8 to D10."""
+    """Of a start state, the registers that can be seen; BIV, BTV and ISP are in D8 to D10."""
     areas, first = plan["csa"], link_of(plan["csa"]["at"])
     out = {"PC": end, "PCXI": 0, "FCX": first, "LCX": first + areas["areas"] - areas["reserve"], "ICR": plan["start"]["ccpn"]}
     out.update({f"A{name[1:]}": value for name, value in plan["globals"].items()})
@@ -103,7 +105,7 @@ def wanted(plan, end):
 
 
 def main():
-    program, seed = os.path.abspath(sys.argv[1]), int(sys.argv[2]) if len(sys.argv) > 2 else 1
+    program, seed = of_words(sys.argv[1:], __doc__), int(sys.argv[2]) if len(sys.argv) > 2 else 1
     draw, areas = random.Random(seed), PLAN["csa"]
     with tempfile.TemporaryDirectory() as name:
         bench = Bench(program, pathlib.Path(name))

@@ -3,22 +3,23 @@
 
     boots.py PROGRAM [SEED]
 
-PROGRAM is a built tcd. For each plan `bootgen` writes the sequence, `asm` and `link` put it beside a small firmware, `cert` certifies that,
-and `boot` says yes. Then
+PROGRAM is a built tcd. For each plan `bootgen` writes the sequence, `asm` and `link` put it beside
+a small firmware, `cert` certifies that, and `boot` says yes. Then
 
-- the machine of tools/machine.py begins at the sequence with random registers, core registers, ram, save areas and bytes of rom that no
-  segment holds, and gets random events: it has to run inside the sequence with interrupts off, one event after another, and to end in
-  a start state of the plan, each field of which is compared. Nothing but word 0 of each area may have been stored.
-- `run` begins at code that puts random words into all of these, goes through the sequence, and ends in code that compares all that the
-  plan says with what is there, and dies at an address that tells what differs. The printed line has to be that of tools/machine.py.
+- the machine of tools/machine.py begins at the sequence with random registers, core registers, ram,
+  save areas and bytes of rom that no segment holds, and gets random events: it has to run inside
+  the sequence with interrupts off, one event after another, and to end in a start state of the
+  plan, each field of which is compared. Nothing but word 0 of each area may have been stored.
+- `run` begins at code that puts random words into all of these, goes through the sequence, and ends
+  in code that compares all that the plan says with what is there, and dies at an address that tells
+  what differs. The printed line has to be that of tools/machine.py.
 
-For the first plan one bit of each byte of the sequence is turned: `boot` has to name that byte, and it is told how many of these the
-machine notices. No plan has areas up to 2^32, since a link names the lowest 4 MB of a segment: `bad plan 6`. Ends with 1 where
-anything was wrong.
+For the first plan one bit of each byte of the sequence is turned: `boot` has to name that byte, and
+it is told how many of these the machine notices. No plan has areas up to 2^32, since a link names
+the lowest 4 MB of a segment: `bad plan 6`. Ends with 1 where anything was wrong.
 """
 import collections
 import json
-import os
 import pathlib
 import random
 import subprocess
@@ -29,6 +30,7 @@ sys.path.insert(0, str(pathlib.Path(__file__).resolve().parent.parent / "tools")
 import hostile_readers as readers
 import machine
 from machine import Event, Machine, link_of
+from program import of_words
 
 RESETS = 5  # states at reset for each plan
 RUNS = 3  # runs of the program's machine for each plan
@@ -140,8 +142,8 @@ def firmware(spare, at):
 
 
 def sequence(bench, entry, at):
-    """The source that `bootgen` writes with a label before the first instruction, and two bytes more where that isn't to lie at a
-    multiple of 4."""
+    """The source that `bootgen` writes with a label before the first instruction, and two bytes
+    more where that isn't to lie at a multiple of 4."""
     bench.says("boot 56 instructions", "bootgen", "board.json", f"{entry:08X}", f"{at:08X}", "boot.s")
     section, rest = (bench.folder / "boot.s").read_text().split("\n", 1)
     return "\n".join([section, ".global boot", *["nop16"] * (at % 4 // 2), "boot:", rest])
@@ -219,7 +221,7 @@ def words(register, x):
 
 
 def scrambler(plan, draw, core=tuple(CORE)):
-    """Code that puts random words into the areas, some of ram, the core registers and all others, and goes to the sequence."""
+    """Code that makes the areas, some ram and all registers random, and goes to the sequence."""
     areas, out = plan["csa"], [".section scramble\n.global scramble\nscramble:\n"]
     small = areas["areas"] <= 64
     places = [(areas["at"], areas["areas"] * (16 if small else 1), 4 if small else 64)] + [(r["at"], min(r["len"] // 4, 64), 4) for r in plan["ram"]]
@@ -236,7 +238,7 @@ def scrambler(plan, draw, core=tuple(CORE)):
 
 
 def comparer(plan, at):
-    """Code that compares what the sequence leaves with the plan. It dies, at the first difference or at its end."""
+    """Compares what the sequence leaves with the plan. It dies at a difference, or at its end."""
     areas, first = plan["csa"], link_of(plan["csa"]["at"])
     core = {
         "psw": 0xB7F if plan["start"]["is"] else 0x97F, "pcxi": 0, "fcx": first, "lcx": first + areas["areas"] - areas["reserve"],
@@ -313,7 +315,7 @@ def tried(bench, name, plan, entry, at, draw):
     return events * (RESETS + RUNS)
 
 
-def turned(bench, plan, entry, at, draw):
+def turned(bench, plan, at, draw):
     """One bit of each byte of the sequence turned."""
     elf, noticed = (bench.folder / "firmware.elf").read_bytes(), 0
     begin = elf.index(readers.elf(elf)[1][1][1])
@@ -331,7 +333,7 @@ def turned(bench, plan, entry, at, draw):
 
 
 def main():
-    program, seed = os.path.abspath(sys.argv[1]), int(sys.argv[2]) if len(sys.argv) > 2 else 1
+    program, seed = of_words(sys.argv[1:], __doc__), int(sys.argv[2]) if len(sys.argv) > 2 else 1
     draw, count, events = random.Random(seed), 0, 0
     with tempfile.TemporaryDirectory() as folder:
         bench = Bench(program, pathlib.Path(folder))
@@ -340,7 +342,7 @@ def main():
         for name, plan, entry, at in plans(draw):
             events += tried(bench, name, plan, entry, at, draw)
             if count == 0:
-                turned(bench, plan, entry, at, draw)
+                turned(bench, plan, at, draw)
             count += 1
     print(f"{count} plans, {count * RESETS} random states at reset and {count * RUNS} runs of the program's machine, {events} events: {bench.wrong} wrong")
     sys.exit(1 if bench.wrong or count < 20 else 0)

@@ -3,8 +3,9 @@
 
     cert.py PROGRAM
 
-PROGRAM is a built tcd. Prints for each shape the machine instructions under callgrind, in all and a point, of `cert` and of `check` of
-what it wrote, and the most memory that `cert` had. Shapes, each one frame that ends in a jump to itself:
+PROGRAM is a built tcd. Prints for each shape the machine instructions under callgrind, in all and a
+point, of `cert` and of `check` of what it wrote, and the most memory that `cert` had. Shapes, each
+one frame that ends in a jump to itself:
 
 line   nop16
 moves  mov16 of another register at each point
@@ -12,13 +13,13 @@ chain  j to the next instruction
 """
 import json
 import os
-import re
-import struct
 import subprocess
 import sys
 import tempfile
 
-ROM = 0x80000000
+import counting
+from check import ROM, executable
+
 PLAN = {
     "rom": [{"at": "0x80000000", "len": "0x100000"}], "ram": [{"at": "0xD0010000", "len": "0x8000"}], "devices": [],
     "csa": {"at": "0xD0000000", "areas": 8, "reserve": 2}, "sp": "0xD0018000", "isp": "0xD0014000",
@@ -32,17 +33,9 @@ CODES = {
 }
 
 
-def executable(code):
-    head = b"\x7fELF\x01\x01\x01" + bytes(9) + struct.pack("<HHIIIIIHHHHHH", 2, 44, 1, ROM, 52, 0, 0, 52, 32, 1, 0, 0, 0)
-    return head + struct.pack("<IIIIIIII", 1, 84, ROM, ROM, len(code), len(code), 5, 1) + code
-
-
 def instructions(words):
-    """Under callgrind; long copies by vectors, as each byte of the one instruction for them would be counted."""
-    done = subprocess.run(
-        ["valgrind", "--tool=callgrind", "--callgrind-out-file=/dev/null", *words], capture_output=True, text=True,
-        env={**os.environ, "GLIBC_TUNABLES": "glibc.cpu.hwcaps=-ERMS"}, check=False)
-    return int(re.search(r"Collected : (\d+)", done.stderr).group(1))
+    """Under callgrind."""
+    return counting.instructions(words, short_copies=True)[0]
 
 
 def most_memory(words):
@@ -52,6 +45,8 @@ def most_memory(words):
 
 
 def main():
+    if sys.argv[1:] in ([], ["-h"], ["--help"]):
+        sys.exit(__doc__)
     program = os.path.abspath(sys.argv[1])
     with tempfile.TemporaryDirectory() as folder:
         os.chdir(folder)
@@ -60,7 +55,8 @@ def main():
         for shape, counts in (("line", (8192, 16384)), ("moves", (8192, 16384)), ("chain", (4096, 8192))):
             for count in counts:
                 with open("image.elf", "wb") as file:
-                    file.write(executable(b"".join(map(CODES[shape], range(count - 1))) + b"\x3c\0"))
+                    code = b"".join(map(CODES[shape], range(count - 1))) + b"\x3c\0"
+                    file.write(executable([(ROM, code)]))
                 words = [program, "cert", "image.elf", "plan.json", "x.cert"]
                 memory, cert = most_memory(words), instructions(words)
                 check = instructions([program, "check", *words[2:]])

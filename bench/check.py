@@ -3,13 +3,14 @@
 
     check.py DIRECTORY SHAPE POINTS [WORDS]
 
-writes image.elf, plan.json, cert.cert into the directory, and other.json, a plan with another stack pointer, under which
-`check` reads all of the certificate and then refuses it at its first rule. Shapes:
+writes image.elf, plan.json, cert.cert into the directory, and other.json, a plan with another stack
+pointer, under which `check` reads all of the certificate and then refuses it at its first rule.
+Shapes:
 
 line        one frame of nop16, ended by a jump to itself; nothing is known but A10
-functions   a main that calls functions of 100 points: nop16, moves, sums, loads, stores, branches, saved and restored lower
-            contexts; D9 and A14 hold sets of WORDS words (8) at all their points
-interrupts  functions, with interrupts on and 16 of them stated, each with a handler of one instruction
+functions   a main that calls functions of 100 points: nop16, moves, sums, loads, stores, branches,
+            saved and restored lower contexts; D9 and A14 hold sets of WORDS words (8) at all points
+interrupts  functions, with interrupts on and 16 stated, each with a handler of one instruction
 """
 import json
 import struct
@@ -17,7 +18,7 @@ import sys
 
 ROM, RAM, AREAS, VECTORS = 0x80000000, 0xD0010000, 0xD0000000, 0x800F0000
 STACK, ISP = 0xD0018000, 0xD0014000
-D9, D15, A10, A14, A15 = 9, 15, 22, 25, 26  # places in a state
+D9, A10, A14, A15 = 9, 22, 25, 26  # places in a state
 PRIORITIES = range(10, 170, 10)
 SVLCX, RSLCX = bytes.fromhex("0D000002"), bytes.fromhex("0D004002")
 NOP, RET, RFE, STAY = (bytes.fromhex(code) for code in ("0000", "0090", "0080", "3C00"))
@@ -185,4 +186,4 @@ def main(directory, shape, points, width=8):
 
 
 if __name__ == "__main__":
-    main(*sys.argv[1:])
+    main(*sys.argv[1:]) if sys.argv[2:] else sys.exit(__doc__)

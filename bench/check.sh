@@ -1,7 +1,7 @@
 #!/bin/sh
-# How many machine instructions `check` executes on certificates of 2,000, 4,000 and 32,000 points, and how much heap it
-# takes; beside it those of plain.c. Run it at the top of the repository: bench/check.sh [PROGRAM]. Without a program it
-# builds crates/tcd. Needs rt (without a program), valgrind, python3, and cc for plain.c.
+# How many machine instructions `check` executes on certificates of 2,000, 4,000 and 32,000 points,
+# and how much heap it takes; beside it those of plain.c: bench/check.sh [PROGRAM]. Without a
+# program it builds crates/tcd. Needs rt (without a program), valgrind, python3, and cc for plain.c.
 set -eu
 . "$(dirname "$0")/program.sh"
 if command -v cc >/dev/null; then cc -O2 -o "$work/plain" "$top/bench/plain.c"; fi

@@ -3,7 +3,7 @@
 
     python3 bench/conform.py [--each N] [--sequences N] [--alone N] [--seed S] [--row NAME]
 
-Run it at the top of the repository. It needs rt and qemu-system-tricore (Debian: qemu-system-misc).
+It needs rt and qemu-system-tricore (Debian: qemu-system-misc).
 
 Three machines do each step from the same state: the proved crate `tc_machine`, in a small program
 that this script writes and builds in a temporary directory; QEMU's TriCore board, over its gdb

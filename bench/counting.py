@@ -4,22 +4,22 @@ import re
 import subprocess
 import tempfile
 
-# Without this the C library copies long ranges by one instruction that callgrind counts once for each byte.
+# Without this, long copies are one instruction that callgrind counts once for each byte.
 SHORT_COPIES = {"GLIBC_TUNABLES": "glibc.cpu.hwcaps=-ERMS"}
 
 
-def run(tool, command, given, environment):
-    """Runs a command under a tool of valgrind: what the command printed, and what the tool wrote."""
+def run(tool, command, environment):
+    """Runs a command under a tool of valgrind: what the command printed and the tool wrote."""
     with tempfile.NamedTemporaryFile() as out:
         done = subprocess.run(
-            ["valgrind", "-q", f"--tool={tool}", f"--{tool}-out-file={out.name}", *command], input=given,
+            ["valgrind", "-q", f"--tool={tool}", f"--{tool}-out-file={out.name}", *command],
             env={**os.environ, **environment}, stdout=subprocess.PIPE, stderr=subprocess.DEVNULL, check=False)
         with open(out.name, encoding="utf-8", errors="replace") as file:
             return done.stdout.decode().strip(), file.read()
 
 
 def own_costs(text):
-    """For each function its own instructions, and for each callee those that its caller passed on to it."""
+    """Each function's own instructions, and of each callee those that its callers passed on."""
     names, own, passed, function, callee = {}, {}, {}, "", ""
 
     def name_of(field):
@@ -48,7 +48,7 @@ def short(name):
 
 
 def tops(text, count):
-    """The functions with the most own instructions; those of copies and fills are told by the functions that asked."""
+    """The functions with the most own instructions; copies and fills are their callers'."""
     own, passed = own_costs(text)
     rows = {}
     for name, cost in own.items():
@@ -64,14 +64,14 @@ def tops(text, count):
     return [f"{100 * cost / total:5.1f} %  {name}" for name, cost in best]
 
 
-def instructions(command, given=None, top=0, short_copies=False):
-    """The instructions, what the command printed, and the functions that took the most of them, with their shares."""
-    printed, text = run("callgrind", command, given, SHORT_COPIES if short_copies else {})
+def instructions(command, top=0, short_copies=False):
+    """The instructions, what the command printed, and the functions that took most, with shares."""
+    printed, text = run("callgrind", command, SHORT_COPIES if short_copies else {})
     total = int(re.search(r"^(?:summary|totals): (\d+)", text, re.M).group(1))
     return total, printed, tops(text, top) if top else []
 
 
-def heap(command, given=None):
+def heap(command):
     """The most bytes of heap at any time."""
-    _, text = run("massif", command, given, {})
+    _, text = run("massif", command, {})
     return max(int(n) for n in re.findall(r"^mem_heap_B=(\d+)", text, re.M))

@@ -1,6 +1,6 @@
 #!/bin/sh
-# How many machine instructions `decode` executes. Builds a program that decodes an image from standard input, runs it
-# under callgrind on images of n and of 2n bytes, and prints the counts. Run it at the top of the repository.
+# How many machine instructions `decode` executes. Builds a program that decodes an image from
+# standard input, runs it under callgrind on images of n and of 2n bytes, and prints the counts.
 # Needs rt, valgrind and python3.
 set -eu
 top=$(cd "$(dirname "$0")/.." && pwd)

@@ -1,7 +1,8 @@
 #!/bin/sh
-# Assembles and links bench/emulator/main.s with tcd, lets readelf read the executable, runs it in the reference machine and in
-# QEMU's TriCore board, and compares all registers at its end. Run it at the top of the repository: bench/emulator.sh [PROGRAM].
-# Without a program it builds crates/tcd. Needs rt, readelf, python3 and qemu-system-tricore.
+# Assembles and links bench/emulator/main.s with tcd, lets readelf read the executable, runs it in
+# the reference machine and in QEMU's TriCore board, and compares all registers at its end:
+# bench/emulator.sh [PROGRAM]. Without a program it builds crates/tcd. Needs rt, readelf, python3
+# and qemu-system-tricore.
 set -eu
 . "$(dirname "$0")/program.sh"
 mkdir -p "$work/crates/registers/src"
@@ -13,8 +14,8 @@ done
 echo "registers: tc_machine tcd_plan elf_image tc_mem csa_chain tc_encode tc_isa tcd_base arrayvec serde_json" >>"$work/crates.txt"
 cp "$top/HANDLES" "$work/"
 cat >"$work/crates/registers/src/main.rt" <<'PROGRAM'
-// Starts the executable on standard input under the plan before it, whose length stands in the first two bytes, does 10,000
-// events, and prints the registers.
+// Starts the executable on standard input under the plan before it, whose length is in the first
+// two bytes, does 10,000 events, and prints the registers.
 #![tactic(auto)]
 
 use elf_image::Image;

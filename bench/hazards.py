@@ -128,10 +128,11 @@ def main():
     words.add_argument("--tries", type=int, default=1)
     words.add_argument("--growth", action="store_true")
     asked = words.parse_intermixed_args()
-    folder = pathlib.Path(asked.folder or tempfile.mkdtemp())
     programs = [str(pathlib.Path(it).resolve()) for it in (asked.program, *asked.beside)]
     measure = grow if asked.growth else compare
-    made = [measure(name, programs, folder, asked) for name in asked.names or SHAPES]
+    with tempfile.TemporaryDirectory() as room:
+        folder = pathlib.Path(asked.folder or room)
+        made = [measure(name, programs, folder, asked) for name in asked.names or SHAPES]
     return 0 if all(made) else 1
 
 

@@ -1,5 +1,5 @@
-# For the other scripts, which read this one: the top of the repository, the program (the first word, or else a built crates/tcd),
-# and a directory for their files.
+# For the other scripts, which read this one: the top of the repository, the program (the first
+# word, or else a built crates/tcd), and a directory for their files.
 set -eu
 top=$(cd "$(dirname "$0")/.." && pwd)
 program=${1:-}

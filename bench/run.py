@@ -3,9 +3,10 @@
 
     run.py DIRECTORY DEPTH [ROM]
 
-writes image.elf, plan.json, and the scripts 50000 and 100000 of so many turns into the directory; the plan's rom has ROM bytes
-(1,048,576). The program calls DEPTH functions, each from the one before, and then goes round without an end: a call, a load of
-a word, a sum, a store of a word, a return and a jump. So DEPTH or DEPTH + 1 areas are in use.
+writes image.elf, plan.json, and the scripts 50000 and 100000 of so many turns into the directory;
+the plan's rom has ROM bytes (1,048,576). The program calls DEPTH functions, each from the one
+before, and then goes round without an end: a call, a load of a word, a sum, a store of a word, a
+return and a jump. So DEPTH or DEPTH + 1 areas are in use.
 """
 import sys
 
@@ -35,4 +36,4 @@ def main(directory, depth, rom=0x100000):
 
 
 if __name__ == "__main__":
-    main(*sys.argv[1:])
+    main(*sys.argv[1:]) if sys.argv[2:] else sys.exit(__doc__)

@@ -1,5 +1,5 @@
 #!/bin/sh
-# How many machine instructions `run` executes for 50,000 and 100,000 events. Run it at the top of the repository:
+# How many machine instructions `run` executes for 50,000 and 100,000 events:
 # bench/run.sh [PROGRAM]. Without a program it builds crates/tcd.
 # Needs rt (without a program), valgrind and python3.
 set -eu

@@ -1,12 +1,13 @@
 #!/usr/bin/env python3
-"""Counts `ship` of sources of so many lines, and beside it `asm`, `link`, `cert` and `check` of the same.
+"""Counts `ship` of sources of so many lines, and `asm`, `link`, `cert` and `check` of the same.
 
     ship.py PROGRAM
 
-PROGRAM is a built tcd. Prints for each shape and size the machine instructions under callgrind, and the most memory that `ship` had.
-Shapes of sources, both of the same functions of 39 lines (sums, loads, stores, branches, a call, data):
+PROGRAM is a built tcd. Prints for each shape and size the machine instructions under callgrind, and
+the most memory that `ship` had. Shapes of sources, both of the same functions of 39 lines (sums,
+loads, stores, branches, a call, data):
 
-idle   main has a nop for each function and calls none: `ship` is assembling and linking, and a certificate of one frame
+idle   main has a nop for each function and calls none: the certificate has one frame
 all    main calls each function, so that each has a frame, and each instruction a point
 """
 import json
@@ -48,7 +49,7 @@ LAYOUT = "entry main\nplace text 80000000 000E0000\nplace data 800E0000 00010000
 
 
 def source(lines, reached):
-    """A source of so many lines: each function has 39, and one more by which it is called or a nop."""
+    """A source of so many lines: each function has 39, and one more for its call or a nop."""
     functions = (lines - 8) // 40
     head = ".section ram\nwords:\n.section text\n.global main\nmain:\n"
     calls = "".join(f"    call f{n}\n" for n in range(functions)) if reached else "    nop\n" * functions
@@ -76,6 +77,8 @@ def counted(program, lines, reached):
 
 
 def main():
+    if sys.argv[1:] in ([], ["-h"], ["--help"]):
+        sys.exit(__doc__)
     program = os.path.abspath(sys.argv[1])
     with tempfile.TemporaryDirectory() as folder:
         os.chdir(folder)

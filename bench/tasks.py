@@ -1,24 +1,26 @@
 #!/usr/bin/env python3
-"""Runs whole images of cooperative tasks, with interrupts at every instruction, and looks at the chains at every boundary.
+"""Runs cooperative tasks with interrupts at every instruction, and looks at all chains after each.
 
     tasks.py PROGRAM [SEED]
 
-PROGRAM is a built tcd. Each case below is a firmware of two to seven tasks, with the line that `taskcert` has to print of it, worked out by
-hand. Of an accepted one `tasks` has to print the same, and the needs of its certificates have to be those of the line. Its image begins at
-start-up code that puts the contexts of the other tasks aside; so `run`, which begins with no task that waits, gets to the start of the tasks.
-Then for each case
+PROGRAM is a built tcd. Each case below is a firmware of two to seven tasks, with the line that
+`taskcert` has to print of it, worked out by hand. Of an accepted one `tasks` has to print the same,
+and the needs of its certificates have to be those of the line. Its image begins at start-up code
+that puts the contexts of the other tasks aside; so `run`, which begins with no task that waits,
+gets to the start of the tasks. Then for each case
 
-- `run` is done for scripts of every length, with each interrupt at every instruction from the start of the tasks on (those of the switch
-  routine in turn among them), and with random turns. Each printed line has to be that of tools/machine.py.
-- at each boundary of these runs, and of others from random states in which the tasks start under random events, the machine of
-  tools/machine.py is looked at: the chains of all tasks and the free ones hold each area once; together the tasks hold no more than `tasks`
-  printed, each no more than its need; FCX is at the limit exactly where all areas but the reserve are in use; and each store lies in a range
-  of ram or of devices, and misses the block but for the routine's own.
+- `run` is done for scripts of every length, with each interrupt at every instruction from the start
+  of the tasks on (those of the switch routine in turn among them), and with random turns. Each
+  printed line has to be that of tools/machine.py.
+- at each boundary of these runs, and of others from random states in which the tasks start under
+  random events, the machine of tools/machine.py is looked at: the chains of all tasks and the free
+  ones hold each area once; together the tasks hold no more than `tasks` printed, each no more than
+  its need; FCX is at the limit exactly where all areas but the reserve are in use; and each store
+  lies in a range of ram or of devices, and misses the block but for the routine's own.
 
 For each case the most that was seen is printed. Ends with 1 where anything was wrong.
 """
 import json
-import os
 import pathlib
 import random
 import sys
@@ -29,6 +31,7 @@ import hostile_readers as readers
 import machine
 from boots import Bench, board
 from machine import Event, Machine, address_of, chain, link_of
+from program import of_words
 
 EXAMPLE = pathlib.Path(__file__).resolve().parent.parent / "examples" / "two_tasks"
 START_UP, SWITCH, TEXT, FIRST_TASK = 0x80006000, 0x80000040, 0x80000400, 0x80001000
@@ -44,7 +47,7 @@ def address(register, x):
 
 
 def start_up(case):
-    """Code that puts an upper and a lower context of each other task aside, as if it had called the routine, and goes to the first."""
+    """Code that puts the contexts of the other tasks aside as the routine does; the first runs."""
     out = [".section start_up\n.global start_up\nstart_up:\n    disable\n"]
     for u, (entry, sp) in enumerate(case.tasks[1:], 1):
         out += [address("a10", sp), f"    call next{u}\nnext{u}:\n", address("a11", entry), "    svlcx\n    mfcr d0, 0xFE00\n"]
@@ -120,11 +123,13 @@ def cases():
     yield Case("two tasks of one code", "certified 4 of 4 areas in 2 tasks", [GIVES_WAY], spare=4, entries=(0, 0))
     # the second has begun and holds its two areas, though it needs none
     yield Case("one never gives way", "certified 4 of 4 areas in 2 tasks", [GIVES_WAY, "j .+0"], spare=4, gives_way=False)
-    # interrupt 20: its entry, `bisr`, a call: 3. Interrupt 10: the same, and 20 in the call: 6. In the task two calls below: 8
+    # interrupt 20: its entry, `bisr`, a call: 3. Interrupt 10: the same, and 20 in the call: 6. In
+    # the task two calls below: 8
     nested = ["enable\ncall work\ncall switch\nj .-12", GIVES_WAY, "call later\nj .-4"]
     for core in ("1.3", "1.6"):
         yield Case(f"three, interrupts nest in the first, core {core}", "certified 13 of 14 areas in 3 tasks", nested, FUNCTIONS, NESTS, spare=14, irqs=[10, 20], core=core)
-    # interrupt 10: entry, `svlcx`, call: 3; on top of the call of the routine, at its first instruction, 4; so in both tasks
+    # interrupt 10: entry, `svlcx`, call: 3; on top of the call of the routine, at its first
+    # instruction, 4; so in both tasks
     yield Case("interrupts in both", "certified 8 of 8 areas in 2 tasks", [ENABLED] * 2, FUNCTIONS, {0x80004140: TICK}, spare=8, irqs=[10])
     yield Case("interrupts in both, one area too few", "refused sum 8 of 7 areas", [ENABLED] * 2, FUNCTIONS, {0x80004140: TICK}, spare=7, irqs=[10])
     for name, block in (("end", 0xD0008FE0), ("beginning", 0xD0008000), ("middle", 0xD0008400)):
@@ -242,8 +247,9 @@ def not_started(m, case):
 
 
 def count_events(image, case):
-    """How many events the start-up code takes, how many from there on until each task gave way twice more, and at how many places
-    of the routine, by the task whose chain it is, these events are."""
+    """How many events the start-up code takes, how many from there on until each task gave way
+    twice more, and at how many places of the routine, by the task whose chain it is, these events
+    are."""
     m, events, begin, turns, places = Machine.start(image, case.plan), 0, None, 0, set()
     while events < 2000 and turns < 2 * len(case.tasks) + 1 and (begin is None or events < begin + 400):
         if m.pc == case.tasks[0][0] and begin is None:
@@ -314,7 +320,7 @@ def fitting(m, plan, draw):
 
 
 def explored(bench, case, draw):
-    """All runs of an accepted case: how many scripts and events, at how many places of the routine, and the most that was seen."""
+    """All runs of an accepted case: scripts, events, places of the routine, and the most seen."""
     plan_text, elf = (bench.folder / "board.json").read_bytes(), (bench.folder / "firmware.elf").read_bytes()
     image = readers.elf(elf)
     begin, length, places = count_events(image, case)
@@ -370,7 +376,7 @@ def tried(bench, case, draw):
 
 
 def main():
-    program, seed = os.path.abspath(sys.argv[1]), int(sys.argv[2]) if len(sys.argv) > 2 else 1
+    program, seed = of_words(sys.argv[1:], __doc__), int(sys.argv[2]) if len(sys.argv) > 2 else 1
     draw, count, runs, events = random.Random(seed), 0, 0, 0
     with tempfile.TemporaryDirectory() as folder:
         bench = Bench(program, pathlib.Path(folder))

@@ -1,4 +1,4 @@
-"""Makes sources, objects, and an image of every row of the instruction table, and their counts for `asm`, `link` and `dis`.
+"""Counts `asm`, `link` and `dis` of sources, objects, and an image of every instruction.
 
     texts.py PROGRAM DIRECTORY
 """
@@ -9,7 +9,7 @@ import sys
 from check import executable
 from counting import instructions
 
-# A function of 20 lines: labels, jumps, calls, loads and stores, halves of symbols, data and comments.
+# A function of 20 lines: labels, jumps, calls, loads, stores, halves of symbols, data, comments.
 FUNCTION = """\
 f{n}:  mov d1, {k}            # a constant
     movh.a a15, hi:table
@@ -56,8 +56,8 @@ def named(text):
 
 
 def linkable(number, count, symbols, relocations, undefined):
-    """An object among so many: of its symbols so many are global ones of the next objects, the others global and local in
-    turn; its relocations write words, each of another symbol."""
+    """An object among so many: of its symbols so many are global ones of the next objects, the
+    others global and local in turn; its relocations write words, each of another symbol."""
     defined = symbols - undefined
     place = 4 * (relocations + 1)
     known = [(f"global_{number}_{i}" if i % 2 == 0 else f"local_{i}", 2 - i % 2, 4 * i % place) for i in range(defined)]
@@ -114,4 +114,4 @@ def main(program, work):
 
 
 if __name__ == "__main__":
-    main(*sys.argv[1:])
+    main(*sys.argv[1:]) if sys.argv[2:] else sys.exit(__doc__)

@@ -2,17 +2,17 @@
 """Tries every weakening of bench/weakenings/: an edit that the prover has to refuse.
 
     bench/weakenings.py                    all of them, in a copy of the repository
-    bench/weakenings.py cfg_recover tool   those of crates or weakenings with these names
+    bench/weakenings.py NAME ..            those of crates or weakenings with these names
     bench/weakenings.py --list             what each one turns, without trying it
 
 A weakening is a file CRATE/NAME.edit in the form of the crates' own must-fail edits. It turns a
 definition that the claim of a command or of a public function stands on, or code whose contract
-says otherwise. Some mend the proofs too, so that only a law refuses them. The gate tries the ones in
-crates/*/must-fail; these are tried when their crate changes. One takes 10 to 60 seconds, and its
+says otherwise. Some mend the proofs too, so that only a law refuses them. The gate tries the ones
+in crates/*/must-fail; these are tried when their crate changes. One takes 10 to 60 seconds, and its
 crate is proved twice. What `rt ci` proved on this machine isn't proved again.
 
 The table says of each what it turns and what refused it. Status 0: all refused. 1: one is proved,
-so a contract or a law is too weak. 2: one doesn't apply, or wasn't tried.
+so a contract or a law is too weak. 2: one isn't there, doesn't apply, or wasn't tried.
 """
 import argparse
 import re
@@ -81,6 +81,8 @@ def main():
     parser.add_argument("--list", action="store_true", help="print what each one turns")
     words = parser.parse_args()
     wanted = weakenings(words.names)
+    if unknown := set(words.names) - {name for pair in wanted for name in pair}:
+        parser.error(f"no weakening and no crate with one is named {min(unknown)}")
     bad = {it: why for it in wanted if (why := misfit(*it))}
     for (crate, name), why in bad.items():
         print(f"{crate} {name}: doesn't apply: {why}")

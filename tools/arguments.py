@@ -69,11 +69,11 @@ def ended(doc, work):
             status = tcd.DONE
         else:
             status = work(words)
-        sys.stdout.flush()
-    except BrokenPipeError:  # the reader, such as `head`, has seen enough
-        os._exit(tcd.DONE)
+        print(end="", flush=True)
+    except BrokenPipeError:  # nobody reads on, so nobody sees whether it is a refusal
+        os._exit(tcd.BAD_FILE)
     except OSError as e:
-        print(f"{shown(e.filename)}: {e.strerror}", file=sys.stderr)
+        print(f"{shown(e.filename or 'standard output')}: {e.strerror}", file=sys.stderr)
         status = tcd.BAD_FILE
     except Refused as e:
         print(e)

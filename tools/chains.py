@@ -1,10 +1,12 @@
 #!/usr/bin/env python3
-"""The longest chain of crates that ends with each crate, by crates.txt; fails where one passes eight.
+"""The longest chain of crates that ends with each crate; the status is 1 if one passes eight.
 
     tools/chains.py [CRATES.txt]
 """
-import sys
 from functools import lru_cache
+
+import arguments
+from scratch import TOP
 
 MOST = 8
 
@@ -19,11 +21,8 @@ def uses(path):
     return found
 
 
-def main():
-    if sys.argv[1:] in (['--help'], ['-h']):
-        print(__doc__)
-        return 0
-    used = uses(sys.argv[1] if len(sys.argv) > 1 else 'crates.txt')
+def main(words):
+    used = uses(words[0] if words else TOP / 'crates.txt')
 
     @lru_cache(None)
     def chain(name):
@@ -35,4 +34,4 @@ def main():
 
 
 if __name__ == '__main__':
-    sys.exit(main())
+    arguments.ended(__doc__, main)

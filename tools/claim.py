@@ -52,11 +52,10 @@ OTHER_FIELDS = "  -- the fields of other commands are left out here"
 #: What part 2 begins with: which certificates are accepted, and which files are taken as what.
 LATER = (
     "image_of_file", "GivesPlan",
-    "Accepts", "IsAcceptedWithNeed", "IsAcceptedForTask", "IsLeastOfItsFormat", "IsNoCertAccepted",
-    "CertKeepsCellBounds", "KeepsRule17", "CertData", "certificate_of", "bytes_of_object",
-    "bytes_of_cert", "bytes_of_instructions", "assembled_code", "CallCannotFail", "MayPrintText",
-    "IsDecidedStatus", "refusal_of", "plan_refusal", "image_refusal", "reloc_value_refusal",
-    "ImageErr", "PlanErr",
+    "IsAcceptedWithNeed", "IsAcceptedForTask", "IsLeastOfItsFormat", "IsNoCertAccepted",
+    "CertKeepsCellBounds", "CertData", "certificate_of", "bytes_of_object", "bytes_of_cert",
+    "bytes_of_instructions", "assembled_code", "CallCannotFail", "MayPrintText",
+    "IsDecidedStatus", "reloc_value_refusal",
 )
 #: What a page names and doesn't follow: the ends that aren't Done.
 OTHER_ENDS = re.compile(r"RefusalBy\w+|BadInputOf|AreInputsPresent|InputRequirement")

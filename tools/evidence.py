@@ -380,7 +380,7 @@ def parsed(given):
         kinds.add_argument(name)
     parser.add_names("--names")
     given = parser.parsed(given)
-    if given.again and (given.files or given.boot or given.cells or given.tasks or given.names):
+    if given.again and len([*filter(None, vars(given).values())]) > 3:
         parser.error("--again needs PROGRAM FOLDER alone")
     if not given.again and (len(given.files) < 3 or (len(given.files) > 3 and not given.tasks)):
         parser.error("needed are PROGRAM FOLDER ELF PLAN CERT, or --again PROGRAM FOLDER")

@@ -9,11 +9,12 @@ don't link to it, no name is printed, and the status is 2. For `ship` they are t
 words. --elf reads the symbols of an executable that another linker wrote. Without any of these,
 addresses stay addresses.
 
-What the command printed comes first, as it is. If it refused, named a fault of a file, or printed
-a run that died, standard error gets a line `FILE:LINE: error: ..`, as editors and build logs read
-it, the line of the source, and what people change. Lines `FILE:LINE: note: ..` after it are, for
-K14, the entries of the loop of frames, and for rules on addresses, the instructions before the
-place from which the address comes. tcd names the first fault only, so there is one error at most.
+What the command printed comes first, as it is. If it didn't end with 0, or printed a run that died,
+standard error gets a line `FILE:LINE: error: ..`, as editors and build logs read it, the line of
+the source, and what people change. Lines `FILE:LINE: note: ..` after it are, for K14, the entries
+of the loop of frames, for K3 the calls of an address without code, and for rules on addresses, the
+instructions before the place from which the address comes. tcd names the first fault only, so there
+is one error at most.
 
 With --json, standard output is one JSON object instead: command, status, printed, and finding,
 which is null or has rule, file, line, text, address, function, frame, message, change, needed (the
@@ -401,7 +402,7 @@ class Explainer:
         words, meaning = self.words(role), table.get(number, UNKNOWN)
         if kind == "object" and (place := re.search(r"at (\d+)", rest)):
             words = words[int(place[1]) :]
-        file = words[0] if words else None
+        file = words[0] if words and (kind != "cert" or len(words) == 1) else None
         return finding(f"{kind} {number}", meaning, meaning.means + rest, file=file)
 
     def dead(self, cause, address):
@@ -537,8 +538,7 @@ def main(given):
         result = {"command": command, "status": status_of(done), "printed": done.stdout.strip()}
         print(json.dumps({**result, "finding": found}))
         return status_of(done)
-    sys.stdout.write(done.stdout)
-    sys.stdout.flush()
+    print(done.stdout, end="", flush=True)
     sys.stderr.write(done.stderr)
     found, no_names = found_of(own, command, done)
     if no_names and found and found["address"]:

@@ -6,13 +6,15 @@
 It takes what the code itself says: constants that start-up code writes into BIV, BTV, ISP, ICR,
 PSW, FCX, LCX, A10 and the globals; the loop that links the areas; vectors that have code;
 constant addresses of loads and stores; the segments. Places `vector_N` and `trap_N` of LAYOUT, or
-sections of these names in an ELF file of another linker, give BIV, BTV and `irqs`.
+sections of these names in an ELF file of another linker, give BIV, BTV, `irqs` and `traps`.
 
 A value that isn't found is a text `TODO: REASON`, and tcd asks for it (`bad plan 4 key sp`). For
-all others, standard error says where they come from. PLAN is never overwritten.
+most others, standard error says where they come from. PLAN is never overwritten.
 
-The plan is a guess at the board. Sizes of memories, what a peripheral answers and which interrupts
-other code enables aren't in an executable: docs/safety.md says how a plan is reviewed.
+The plan is a guess at the board. ICR is read as TriCore 1.3 has it, and `core` is left out: for
+TriCore 1.6 state `start.ie` and `core` yourself. Sizes of memories, what a peripheral answers and
+which interrupts other code enables aren't in an executable: docs/safety.md says how a plan is
+reviewed.
 
 Exit status: 0 done, 2 a file that can't be used, 5 wrong arguments.
 """

@@ -1,18 +1,20 @@
 #!/usr/bin/env python3
-"""Processor seconds of the gate, by crate: its own proof, the proof of its tests, and its edits that must fail.
+"""Processor seconds of the gate, by crate: its proof, its tests' proof, its edits that must fail.
 
-    tools/gate_times.py                        runs `rt ci --anew` at the top of the repository (an hour or more), and prints the table
-    tools/gate_times.py -- rt ci               the same if the kit has no --anew: its rt ci keeps no results
+    tools/gate_times.py                        runs `rt ci --anew` at the top of the repository (an
+                                               hour or more), and prints the table
     tools/gate_times.py -- rt must-fail tc_lex      the same of another command
     tools/gate_times.py --from gate.times      prints the table of an earlier run again
-    tools/gate_times.py --edits 20 --from gate.times      and the 20 edits that took most
+    tools/gate_times.py --edits 20 --from gate.times      and the 20 edits that took most, by the
+                                               names that must-fail/ has today
 
-A run writes what the command says to gate.log and the seconds to gate.times, in the folder that --to names (/tmp where
-it isn't given). rt's log has no times, so the processes below the command are looked at
-twice a second: one that ends is counted to its last look, so up to half a second of each is missed. What is no proof
-(compilers, the tests and programs as they run, rt itself) is in the line "rest", from what the system counted.
-Where a host shares its processors among several machines the same work takes more of their seconds while others work. So a
-fixed sum is done twice a minute, and the last line says how many it took on the mean and at least.
+A run writes what the command says to gate.log and the seconds to gate.times, in the folder that
+--to names (/tmp). rt's log has no times, so the processes below the command are looked at twice a
+second: one that ends is counted to its last look, so up to half a second of each is missed. What is
+no proof (compilers, the tests and programs as they run, rt itself) is in the line "rest", from what
+the system counted. If a host shares its processors among several machines, the same work takes more
+of their seconds while others work. So a fixed sum is done twice a minute, and the last line says
+how many seconds it took on the mean and at least.
 """
 import argparse
 import json
@@ -32,16 +34,16 @@ def kind_of(words):
     if "--crate-name" not in words[:-1] or not any(w in ("build", "check") for w in words[:3]):
         return None
     crate = words[words.index("--crate-name") + 1]
-    text = " ".join(words)
-    if "--test" in words or re.search(r"_tests(\.o)?\b", text):
-        return re.sub(r"_tests$", "", crate) if not os.path.isdir(f"crates/{crate}") else crate, "tests"
-    if "rt-proved-" in text or "build" in words[:3]:
+    if "--test" in words or crate.endswith("_tests"):
+        return crate, "tests"
+    if "build" in words[:3] or any("/rt-proved-" in w for w in words):
         return crate, "proof"
     return crate, "edits"
 
 
 def edit_of(words):
-    """The number of the edit that a prover's process tries, in the order of their names; none where it tries none."""
+    """The number of the edit that a prover's process tries, in the order of their names; none where
+    it tries none."""
     found = re.search(r"/rt-edits-[^/]*/(\d+)$", words[words.index("--incremental") + 1]) if "--incremental" in words[:-1] else None
     return int(found[1]) if found else None
 
@@ -60,7 +62,8 @@ def processes():
 
 
 def look(top, seen):
-    """Notes the seconds of each process below the command, at the crate, the kind and the edit of the nearest prover above it."""
+    """Notes the seconds of each process below the command, at the crate, the kind and the edit of
+    the nearest prover above it."""
     found = {p[0]: p for p in processes()}
     for number, parent, start, seconds, words in found.values():
         at, what, edit = number, None, None
@@ -126,23 +129,30 @@ def table(times):
         print(f"A fixed sum took {sum(fixed) / len(fixed):.3f} s of a processor on the mean, {min(fixed):.3f} s at least.")
 
 
+def names_of(crate):
+    return sorted(it for it in os.listdir(f"crates/{crate}/must-fail") if it.endswith(".edit"))
+
+
 def edits(times, count):
     sums = {}
     for crate, kind, seconds, edit in times["seen"]:
         if kind == "edits":
-            sums[crate, edit] = sums.get((crate, edit), 0) + seconds
+            # rt tries the only edit of a crate from nothing, without a folder that has its number
+            at = crate, 0 if len(names_of(crate)) == 1 else edit
+            sums[at] = sums.get(at, 0) + seconds
     print("\n| Crate | Edit | s |\n|---|---|---|")
     tried = [it for it in sums if it[1] is not None]
     for crate, edit in sorted(tried, key=lambda it: -sums[it])[:count]:
-        names = sorted(it for it in os.listdir(f"crates/{crate}/must-fail") if it.endswith(".edit"))
-        print(f"| {crate} | {names[edit].removesuffix('.edit')} | {sums[crate, edit]:.0f} |")
+        name = names_of(crate)[edit].removesuffix(".edit")
+        print(f"| {crate} | {name} | {sums[crate, edit]:.0f} |")
     print(f"| all crates | each of {len(tried)} | {sum(sums[it] for it in tried):.0f} |")
     print(f"| all crates | proofs that edits begin and end with | {sum(sums[it] for it in sums if it[1] is None):.0f} |")
 
 
 def main():
     options = argparse.ArgumentParser(description=__doc__, formatter_class=argparse.RawDescriptionHelpFormatter)
-    options.add_argument("--to", default="/tmp")
+    options.error = lambda why: options.exit(5, f"gate_times.py: {why}\n")
+    options.add_argument("--to", type=os.path.abspath, default="/tmp")
     options.add_argument("--from", dest="earlier")
     options.add_argument("--edits", type=int, default=0)
     options.add_argument("command", nargs="*", default=["rt", "ci", "--anew"])

@@ -20,7 +20,7 @@ and `ship` made, of the plan in which cells are devices, of the views of tasks. 
 printed: the mutated inputs that are still done, with why that may be; the cases by kind and answer;
 the cases that were wrong.
 
-Exit status: 0 no case was wrong, 1 one was, 2 no such program, 5 wrong arguments.
+Exit status: 0 no case was wrong, 1 one was or none was tried, 2 no such program, 5 wrong arguments.
 """
 import collections
 import functools
@@ -88,7 +88,7 @@ class Bench:
         return status, out or b"", err or b""
 
     def case(self, group, words, files=None, want=None, how=None, meanwhile=None, anything=()):
-        """Tries one case; files are those that differ from what the folder holds. Gives status and text."""
+        """Tries one case; files are those that differ from the folder's. Gives status and text."""
         self.count += 1
         seen = {**self.held, **(files or {})}
         want = want or answer(words, seen)
@@ -226,8 +226,9 @@ def main():
     quick = "--quick" in arguments
     for name in set(arguments[:-1]) & set(given):
         given[name] = arguments.pop(arguments.index(name) + 1)
-    options = {*given, "--quick"}
-    program = programs.of_words([a for a in arguments if a not in options], __doc__)
+    words = [a for a in arguments if a not in {*given, "--quick"}]
+    is_right = len(words) == 1 and given["--jobs"].isdecimal()
+    program = programs.of_words(words if is_right else [], __doc__)
     began, whole = time.monotonic(), Bench(program, None, quick)
     chosen = [(program, quick, n) for n, (title, _) in enumerate(jobs()) if given["--only"] in title]
     with multiprocessing.get_context("fork").Pool(int(given["--jobs"])) as pool:
@@ -239,7 +240,7 @@ def main():
             whole.slowest = max(whole.slowest, slowest)
             print(f"{title}: {count} cases, {len(wrong)} wrong, {took:.0f} s", flush=True)
     report(whole, began)
-    sys.exit(1 if whole.wrong else 0)
+    sys.exit(1 if whole.wrong or not whole.count else 0)
 
 
 if __name__ == "__main__":

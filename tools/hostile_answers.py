@@ -1,7 +1,7 @@
-"""What each command of tcd has to answer, by the second readers of its formats. Used by tools/hostile.py.
+"""What each command of tcd has to answer, by the second readers of its formats. For hostile.py.
 
-An answer is the status, the text (or a test of status and text, where these readers can't judge a certificate), and the files that are
-written, in their order, each with its bytes or a test of them.
+An answer is the status, the text (or a test of status and text, where these readers can't judge a
+certificate), and the files that are written, in their order, each with its bytes or a test of them.
 """
 import functools
 import json
@@ -85,8 +85,8 @@ def refusal(text):
 
 
 def judged(start, nodes, board, line, status, text, more=()):
-    """Whether a line can be right for a certificate of these nodes. `line` takes its number and how many areas there are; `more` are
-    rules beside those of certificates."""
+    """Whether a line can be right for a certificate of these nodes. `line` takes its number and how
+    many areas there are; `more` are rules beside those of certificates."""
     if status == 0:
         need = nodes[start][1] if start in nodes else 4097
         return need <= spare_of(board) and text == (line % (need, spare_of(board))).encode()
@@ -165,7 +165,7 @@ def tasks(files, words):
 
 
 def tasks_judged(image, board, found, nodes, status, text):
-    """Whether a line of `tasks` can be right for certificates of these nodes (of none, for `taskcert`)."""
+    """Whether a line of `tasks` can be right for these nodes (of none, for `taskcert`)."""
     fault = readers.routine_fault(image, board, found)
     if fault is not None:
         return (status, text) == (1, b"refused switch at %08X\n" % fault)
@@ -204,7 +204,7 @@ def cert(files, words):
 
 
 def made(start, board, more, line, status, text):
-    """Whether a line can be right where a certificate is made for these inputs; what was written is judged beside (hostile_beside.py)."""
+    """Whether a line can be right if a certificate is made; hostile_beside.py judges the file."""
     spare = spare_of(board)
     if status == 0:
         found = re.match(rb"certified ([0-9]+) of", text)
@@ -266,13 +266,13 @@ def graph(text):
 
 
 def drawn(start, board, status, text):
-    """Whether lines of `cfg` can be right: in their order, each once, of frames that can be entered."""
+    """Whether lines of `cfg` can be right: in order, each once, of frames that can be entered."""
     if status:
         return made(start, board, (), "", status, text)
     lines = graph(text)
     if not lines or lines[0][0] != start:
         return False
-    # an interrupt's line is ordered by its priority, which its vector tells where no bit is one of the table's already
+    # interrupts are ordered by priority; a vector doesn't show it if it shares bits with the table
     order = [(key, at, WAYS.index(way), 0 if way == b"irq" else to) for key, at, way, to in lines]
     return order == sorted(order) and len(set(lines)) == len(lines) and all(frame_of(start, board, key) for key, *_ in lines)
 

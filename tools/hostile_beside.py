@@ -1,7 +1,8 @@
-"""What other commands of tcd have to say beside an answer: each function gives what doesn't fit. Used by tools/hostile.py.
+"""What other commands of tcd have to say beside an answer. Each function gives what doesn't fit.
 
-So `check` is asked of each certificate that was made, and of the plans, executables and views that the second readers make of cells, tasks
-and sources; and a certificate that one command refuses to make no other one may make.
+So `check` is asked of each certificate that was made, and of the plans, executables and views that
+the second readers make of cells, tasks and sources; and a certificate that one command refuses to
+make no other one may make.
 """
 import json
 import re
@@ -10,7 +11,7 @@ import hostile_readers as readers
 import hostile_rules as rules
 from hostile_answers import graph, key_text, read_cert, read_elf, read_plan, tasks_of
 
-FILES = {"check": (3, 0), "cert": (2, 1), "report": (3, 0), "cfg": (2, 0), "boot": (3, 0), "cells": (4, 0), "cellcert": (3, 1)}
+FILES = {"cert": (2, 1), "report": (3, 0), "cfg": (2, 0), "boot": (3, 0), "cells": (4, 0), "cellcert": (3, 1)}
 
 
 def names(words):
@@ -32,7 +33,7 @@ def beside(bench, words, status, out):
         return []
     other = Other(bench)
     try:
-        return LOOKS[words[0]](other, words, status, out) if words[0] in LOOKS else []
+        return LOOKS[words[0]](other, words, status, out)
     except (AttributeError, LookupError, TypeError, ValueError, readers.Bad) as e:
         return [f"what it printed or wrote can't be read: {e!r}"]
     finally:
@@ -59,7 +60,7 @@ class Other:
         return [] if answered == (*wanted, b"") else [f"{' '.join(words)} says {answered[:2]!r} in place of {wanted!r}"]
 
     def made(self, status, out, elf, plan):
-        """`cert` has to make a certificate where one was made, and to refuse with the same line where none was."""
+        """`cert` has to make a certificate if one was made, else to refuse with the same line."""
         name = self.put("cert", b"")
         answered = self.bench.ended(["cert", elf, plan, name], {})
         if answered[0] != status or answered[2] or status == 1 and answered[1] != out:
@@ -152,7 +153,8 @@ def after_cells(other, words, status, out):
 
 
 def is_of_both(cert):
-    """Whether the least certificate of version 2 has the same states as this one: it is of version 2, or has no span but any word."""
+    """Whether the least certificate of version 2 has the same states as this one: it is of version
+    2, or has no span but any word."""
     version, nodes = cert
     return version == 2 or not any(isinstance(value, tuple) for node in nodes for point in node[3] for value in point[5])
 

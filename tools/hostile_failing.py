@@ -27,7 +27,7 @@ def special(bench, make):
 
 
 def feed(path, data, wait=0.0):
-    """Opens a pipe for writing in a thread of its own, once somebody reads it, writes and closes."""
+    """Opens a pipe for writing in a thread, once somebody reads it, writes and closes."""
 
     def go():
         time.sleep(wait)
@@ -40,7 +40,7 @@ def feed(path, data, wait=0.0):
 
 
 def failing_files(bench):
-    """Each input of each command as something that is no readable file, alone and beside a broken one."""
+    """Each input of each command as no readable file, alone and beside a broken one."""
     for words, places, files in forms().values():
         bench.only(files)
         for at in places:
@@ -73,7 +73,7 @@ def pipes(bench, words, at, data):
 
 
 def failing_outputs(bench):
-    """Outputs that can't be written, that are inputs, and a standard output that is full or closed."""
+    """Outputs that can't be written or are inputs, and a standard output that is full or closed."""
     for command, place in [(command, place) for command, places in OUTPUTS.items() for place in places]:
         words, _, files = forms()[command]
         bench.only(files)
@@ -178,8 +178,9 @@ def many_words(bench):
 
 
 def little_memory(bench):
-    """Less and less memory: want of memory without a line, or the answer. Within a megabyte of where the program can be started at all
-    its stack may not have the room to grow: then the system ends it by a signal."""
+    """More and more memory: out of memory without a line, or the answer. Within a megabyte of the
+    least with which the program starts, its stack may not be able to grow: then a signal ends
+    it."""
     for words, _, files in forms().values():
         bench.only(files)
         if words[0] == "dis":

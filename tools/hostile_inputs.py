@@ -67,7 +67,7 @@ FAR_SOURCE = b".section data\n.half 7\n.global far\n.section text\nfar: call mai
 
 
 def rich_elf():
-    """An executable with headers of several types, segments out of order, and bytes that nobody reads."""
+    """An executable with several types of headers, segments out of order, and unread bytes."""
     code = bytes.fromhex("6D00040E1D000000009000005C02FFFFEE0200")
     at = 52 + 7 * 32 + 12
     headers = [
@@ -102,14 +102,14 @@ def cert_bytes(version, nodes):
 
 
 def first_cert(ie=0):
-    """The least certificate of the small image: A10 is the plan's `sp` at each point, all else is any word; `ie` as at the start."""
+    """The least certificate of the small image: A10 is `sp` at each point, `ie` as at the start."""
     point = lambda at: (at, ie, 0, 0, [], registers(a10=[0xD0009000]))
     start = ((0, 0x80000000, 0, 0), 1, None, [point(0x80000000), point(0x80000004)])
     return cert_bytes(1, [start, ((1, 0x80000008, 0, 0), 0, (ie, 0, ["any"] * 14), [point(0x80000008)])])
 
 
 def rich_cert(version):
-    """A certificate of all kinds of nodes and values; in its format, whatever the rules say of it."""
+    """A certificate of all kinds of nodes and values, in its format; rules may refuse it."""
     most = 64 if version == 1 else 128
     values = [[7], "any", [1, 2, 0xFFFFFFFF], (1, 5, 5 + most), (2, 0, 2 * most), (4, 4, 0xFFFFFFFC), list(range(most))]
     regs = lambda n: ["any"] * (27 - 7) + values if n == 0 else ["any"] * 26 + [values[n]]
@@ -124,7 +124,8 @@ def rich_cert(version):
     return cert_bytes(version, kinds)
 
 
-# An image that counts in a word of ram by four, the word as a cell; an image of two tasks that give way to each other, and its plan.
+# An image that counts in a word of ram by four, the word as a cell; an image of two tasks that give
+# way to each other, and its plan.
 COUNTS = readers.elf_bytes(0x80000000, [(0x80000000, bytes.fromhex("911000FD19FF0008C21F8F3F00F159FF00083CF9"))])
 CELLS = b"cell D0008000 00000000 00000003\n"
 RICH_CELLS = b"cell D0008000 00000000 00000003\n\ncell D0010024 00000001 FFFFFFFF\ncell D0008FFC 80000000 80000000"

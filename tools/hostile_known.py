@@ -98,7 +98,7 @@ def rows(bench):
 def later_rows(bench):
     """Rows of the commands that stand on `check` and `cert`, with their answers as data."""
     i7, p7 = nested()
-    code, boot = lambda held: readers.elf_bytes(0x80000000, [(0x80000000, bytes.fromhex(held))]), with_boot()
+    boot = with_boot()
     on = P0.replace(b'"ie":0', b'"ie":1')
     many = b"".join(b"cell D0008%03X 00000000 00000001\n" % (8 * n + 4) for n in range(17))
     sixteen = b'"devices":[' + b",".join(b'{"at":%d,"len":4,"lo":0,"hi":1}' % (0xF0000000 + 16 * n) for n in range(16)) + b"]"

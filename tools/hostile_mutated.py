@@ -15,7 +15,7 @@ def every(count, most):
 
 
 def mutations(data, most, seed, text):
-    """Prefixes, flipped bits, changed bytes and cuts of a file: what was done, the first byte touched, and the bytes."""
+    """Fronts, flipped bits, changed bytes, cuts of a file: what was done, where, the bytes."""
     draw = random.Random(seed)
     for n in every(len(data), most):
         yield "a front", n, data[:n]
@@ -70,7 +70,7 @@ def certs_differ(one, two):
 
 
 def mutated():
-    """Each input that is changed: a title, words, files, the one that changes, whether it is a text, and how many of each kind."""
+    """Each input that is changed: title, words, files, which one, whether a text, how many."""
     small, check = {"e": I1, "p": P0, "c": C0}, ["check", "e", "p", "c"]
     board, image = RICH_PLAN, rich_elf()
     for vary in "epc":

@@ -180,7 +180,7 @@ def pieces_of_tasks(draw):
 
 
 def pieces_of_cell_images(draw):
-    """An image that loads and stores near the cells D0008004 and D000800C, by addresses that are one word, sets or spans."""
+    """An image that accesses the cells D0008004 and D000800C, by words, sets and spans."""
     lines = ["movh.a a15, 0xD001", "lea.l a15, [a15]-32764", "mov d2, 1"]
     for _ in range(draw.randrange(1, 9)):
         d, e, near = draw.randrange(4), draw.randrange(4), draw.choice([-4, -2, -1, 0, 0, 0, 1, 2, 3, 4, 8, 8, 12])
@@ -195,7 +195,7 @@ def pieces_of_cell_images(draw):
 
 
 def pieces_of_task_images(draw):
-    """An image of two tasks that read near the save areas and the routine, and read core registers, turn interrupts on, give way."""
+    """Two tasks that read near the areas and the routine, or core registers, enable, give way."""
 
     def body():
         lines = []
@@ -215,7 +215,7 @@ def pieces_of_task_images(draw):
 
 
 def put_together():
-    """What is put together at random: a title, files, those that are made, words, how they are made."""
+    """What is put together at random: a title, files, those that are made, words, the maker."""
     board = {"e": I1, "p": RICH_PLAN, "c": C0}
     two = {"e": TWO, "p": P8}
     yield "asm", {}, ["s"], ["asm", "s", "o"], pieces_of_sources

@@ -1,6 +1,7 @@
-"""Rules 16 and 17 of docs/rules.md, read from the values of a certificate's points. Used by tools/hostile.py beside `cells` and `tasks`.
+"""Rules 16 and 17 of docs/rules.md, by the values of a certificate's points. For hostile.py.
 
-They are asked of accepted certificates alone. A value is "any", a list of words, or a step of 1, 2 or 4 with the first and the last word.
+They are asked of accepted certificates alone. A value is "any", a list of words, or a step of 1, 2
+or 4 with the first and the last word.
 """
 import bisect
 

@@ -360,7 +360,7 @@ class Source:
         for operand, (kind, value) in zip(row.operands, operands):
             fields = row.fields(operand)
             if operand.startswith("["):
-                rules += self.register("A", value[0], word, fields)
+                rules += self.register("A", value[0])
                 word |= self.register_bits(value[0], fields[0])
                 if len(fields) > 1:
                     kind, value = value[1]
@@ -369,7 +369,7 @@ class Source:
             elif operand == "a10":
                 rules += [] if value == b"a10" else [4]
             elif operand[0] in "DA":
-                rules += self.register(operand[0], value, word, fields)
+                rules += self.register(operand[0], value)
                 word |= self.register_bits(value, fields[0])
             else:
                 bad, bits = self.constant(row, operand, kind, value, waiting, seen)
@@ -378,7 +378,7 @@ class Source:
             rules.append(12)
         return rules, word, (waiting, seen)
 
-    def register(self, letter, text, _word, _fields):
+    def register(self, letter, text):
         found = REGISTER.fullmatch(text)
         return [] if found and found.group(1).decode() == letter.lower() else [4]
 
@@ -407,7 +407,7 @@ class Source:
         where = (self.known if self.final else self.labels).get(name)
         if where is None or where[0] != place[0] or place[0] is None:
             return [10] if self.final else [], 0
-        return self.distance(row, signed((where[1] + added - place[1]) % WORDS, 32))
+        return self.distance(row, where[1] + added - place[1])
 
     def waits(self, row, operand, kind):
         """The relocation of a symbol here; 0 where it is resolved at once, None where none may stand."""

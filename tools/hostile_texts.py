@@ -31,7 +31,7 @@ def is_too_deep(text):
 
 
 def json_value(data):
-    """JSON: objects are dicts (the last of equal keys counts), numbers that aren't whole ones of 64 bits None."""
+    """JSON: of equal keys the last counts; a number is None unless it is a whole one of 64 bits."""
     try:
         text = data.decode("utf-8")
         pairs = re.sub(r"\\u[dD][89abAB][0-9a-fA-F]{2}\\u[dD][c-fC-F][0-9a-fA-F]{2}", "x", text.replace("\\\\", "x"))

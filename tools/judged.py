@@ -9,7 +9,7 @@ import tempfile
 
 import hostile_readers as readers
 import program as tcd
-from frames import Graph, Listing
+from frames import Listing
 from sources import Unusable, bytes_of, shown
 
 

@@ -1,13 +1,14 @@
 #!/usr/bin/env python3
 """Counts what of an executable's code tcd doesn't know: is tcd for this firmware?
 
-    known.py ELF [PLAN] [--vectors BIV BTV] [--all] [--json]
+    known.py ELF [PLAN | --vectors BIV BTV] [--all] [--json]
 
 The code is followed from the entry, from the vectors (those that PLAN states, or with --vectors
-those at which bytes lie), and from each function symbol. An instruction that isn't in tcd's table
-is taken to go on after itself: bit 0 of its first byte tells its length. The counts rest on that
-and on tcd's own table alone. Targets of calls and jumps through registers aren't known: with --all
-each word of data that names an address after a return or a jump is followed, too, which is a guess.
+those whose first four bytes aren't all zero), and from each function symbol. An instruction that
+isn't in tcd's table is taken to go on after itself: bit 0 of its first byte tells its length. The
+counts rest on that and on tcd's own table alone. Targets of calls and jumps through registers
+aren't known: with --all each word of data that names an address after a return or a jump is
+followed, too, which is a guess.
 
 Apart from the counts, what isn't known is listed by name. **The names, and where unknown jumps go,
 are from memory of the manual** (tools/known_rows.py) and were not compared with it.

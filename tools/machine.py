@@ -1,7 +1,6 @@
-"""The reference machine in Python, written from docs/machine.md, docs/formats.md and docs/plan.md alone.
+"""The reference machine in Python, written from docs/machine.md, formats.md and plan.md alone.
 
-Used by tools/hostile.py, bench/boots.py and bench/tasks.py beside the program's own machine. It shares nothing with the product
-but the table of instructions, which tools/hostile_readers.py reads.
+It shares nothing with the product except the table of instructions, which hostile_sources.py reads.
 """
 
 import hostile_readers as readers
@@ -96,7 +95,7 @@ def link_of(address):
 
 
 def chain(memory, word):
-    """The links from this word on, or None where they don't end within 4,096 or one names what isn't mapped."""
+    """The links from this word on, or None if they don't end within 4,096 or one isn't mapped."""
     out, link = [], word & 0xFFFFF
     while link:
         if len(out) == 4096:
@@ -110,14 +109,14 @@ def chain(memory, word):
 
 
 class Decoder:
-    """Words as instructions: a name and operands, which are ("d", n), ("a", n), ("k", number), ("t", distance), ("u", address) and
-    ("m", base, offset, whether it is added afterwards)."""
+    """Words as instructions: a name and operands, which are ("d", n), ("a", n), ("k", number),
+    ("t", distance), ("u", address) and ("m", base, offset, whether it is added afterwards)."""
 
     def __init__(self):
         self.known = {}
 
     def decode(self, held):
-        """The instruction with which these bytes begin, and its length. Dies where they begin none."""
+        """The instruction with which these bytes begin, and its length. Dies if they begin none."""
         if held in self.known:
             return self.known[held]
         for row in readers.BY_CODE.get(held[0], ()) if held else ():
@@ -170,7 +169,7 @@ class Event:
 
 
 class Machine:
-    """A machine. `board` is a plan as hostile_readers.plan gives it; `end` is None while it runs, else the cause."""
+    """A machine. `board` is a plan of hostile_readers.plan; `end` is None, or why it died."""
 
     def __init__(self, board):
         areas = board["csa"]
@@ -215,7 +214,7 @@ class Machine:
         (self.d if name[0] == "d" else self.a)[int(name[1:])] = value
 
     def save(self, upper):
-        """Saves a context. True where the machine may go on, False where it died of the areas' end."""
+        """Saves a context. Whether the machine may go on: it dies at the areas' end."""
         link = self.fcx & 0xFFFFF
         if link == 0:
             raise Dies("fcu")
@@ -468,8 +467,8 @@ def device_of(board, load):
 
 
 def turns_of(text, board):
-    """The turns of a script that keeps its format, each an interrupt and whether misaligned accesses trap, and the answers (lo, hi)
-    of each device."""
+    """The turns of a script that keeps its format, each an interrupt and whether misaligned
+    accesses trap, and the answers (lo, hi) of each device."""
     turns, aln, answers = [], False, [(d["lo"], d["lo"]) for d in board["devices"]]
     for line in text.split(b"\n"):
         words = line.split()
@@ -486,8 +485,8 @@ def turns_of(text, board):
 
 
 def drive(machine, board, text, seen=None):
-    """Does the turns of a script, and gives the line that `run` prints. `seen` is called on each state between events, the first and
-    the last too."""
+    """Does the turns of a script, and gives the line that `run` prints. `seen` is called on each
+    state between events, the first and the last too."""
     turns, answers = turns_of(text, board)
     events, peak = 0, machine.used() or 0
     if seen:
@@ -511,11 +510,3 @@ def line_of_run(elf, plan, text):
     """What `run` prints of files that keep their formats."""
     board = readers.plan(plan)
     return drive(Machine.start(readers.elf(elf), board), board, text)
-
-
-def linked(sources, layout):
-    """The executable of these sources, by the second readers alone."""
-    objects = [readers.ObjectFile(readers.Source(text).read(), i).read() for i, text in enumerate(sources)]
-    return readers.link(readers.layout(layout), objects)
-
-

@@ -35,7 +35,7 @@ RULES = {
     "5": Meaning(
         "a call or a jump through a register whose targets aren't all known",
         "keep the table in rom and bound its index (`and`, a branch, the bounds of a device that "
-        "is loaded as a whole word), so that at most 128 targets are left",
+        "is loaded as a whole word), to at most 128 elements",
     ),
     "6": Meaning(
         "`ret` without a call to return from, or with a lower context still saved",
@@ -63,12 +63,12 @@ RULES = {
         "align it, or add `aln` to `traps` and write a handler",
     ),
     "11": Meaning(
-        "an interrupt may come here, and the certificate has no frame for it",
+        "an interrupt may come here, and the certificate doesn't cover it",
         "make the certificate again",
     ),
     "12": Meaning(
         "`syscall`, and the plan doesn't state the trap `sys`",
-        "add `sys` to `traps` and place a handler at `btv` + C0",
+        "add `sys` to `traps` and place a handler at `btv | C0`",
     ),
     "13": Meaning(
         "the instruction writes a core register, or A0, A1, A8, A9 or A11",
@@ -89,8 +89,10 @@ RULES = {
     ),
     "17": Meaning(
         "a load that may read a save area or the switch routine, `mfcr` of PCXI, FCX or LCX, "
-        "`bisr` in a task itself, or a jump into the switch routine",
-        "bound the address of the load; leave core registers and `bisr` to handlers",
+        "`bisr` in a task itself, or a way into the switch routine other than a call outside of "
+        "handlers",
+        "bound the address of the load; leave `bisr` to handlers and `mfcr` of these registers to "
+        "the routine",
     ),
 }
 
@@ -177,7 +179,8 @@ NO_AREAS = {
 SOURCES = {
     "0": Meaning("the source is longer than 16,777,216 bytes"),
     "1": Meaning(
-        "a character that no line may have, or more than 64 words and signs in the line",
+        "a character that no line may have, no name at the beginning, or more than 64 words and "
+        "signs",
         "write registers without `%`; begin comments with `#`, not with `;` or `//`; end lines "
         "without a carriage return",
     ),
@@ -251,13 +254,14 @@ LINKING = {
         "make the place longer; call the function from its vector if it is a vector of 32 bytes",
     ),
     "5": Meaning(
-        "an address or a distance that its instruction can't hold", "place the two closer"
+        "an address or a distance that its instruction can't hold",
+        "place the two closer; for `calla` and `ja` write `call` and `j`; jump to an even address",
     ),
     "6": Meaning("the layout's entry isn't a global label", "add `.global` for it"),
 }
 #: the last number of `bad link 5`
 LINK_FAULTS = {
-    "1": "the distance is odd",
+    "1": "the distance or the address is odd",
     "2": "the target is too far away",
     "3": "`calla` and `ja` can't reach the address",
 }
@@ -269,9 +273,10 @@ PLANS = {
         "not a JSON object",
         "look for a comma too many, a comment, or `0x..` without quotes",
     ),
-    "2": Meaning("the key is missing", "add it, even if its list is empty"),
+    "2": Meaning("the key is missing or misspelt", "add it, even if its list is empty"),
     "3": Meaning(
-        "the object has a key that isn't known", "look for a misspelt key; `root` is the whole"
+        "the object has a key that isn't known",
+        "remove it, or spell it `core`; `root` is the whole object",
     ),
     "4": Meaning(
         "the key has a value of another form or outside of its bounds",
@@ -295,7 +300,8 @@ EXECUTABLES = {
     "3": Meaning("not for TriCore (machine 44)", "name the file of this toolchain"),
     "4": Meaning("not an executable", "link it"),
     "5": Meaning(
-        "a program header is cut, or its bytes lie outside of the file or of the addresses"
+        "a program header hasn't 32 bytes or is cut, or its bytes pass the file, its `p_memsz` or "
+        "2^32"
     ),
     "6": Meaning("more than 64 segments, or more than 16,777,216 bytes"),
     "7": Meaning(
@@ -320,8 +326,8 @@ SCRIPTS = {
     "0": Meaning("the script is longer than 16,777,216 bytes"),
     "1": Meaning(
         "not a line of a script",
-        "write `step N`, `irq P`, `in DEVICE LO HI`, `aln 0` or `aln 1`: decimal numbers, one "
-        "blank between words, no comment, no carriage return",
+        "write `step N` (1 to 100,000), `irq P`, `in DEVICE LO HI`, `aln 0` or `aln 1`: decimal "
+        "numbers, one blank between words, no comment, no carriage return",
     ),
     "2": Meaning("the plan has no such interrupt", "add it to `irqs`"),
     "3": Meaning("no such device, or a number outside of its bounds", "devices count from 0"),
@@ -399,7 +405,7 @@ BOOTS = {
 #: `refused switch ..` and `refused sum ..`
 TASK_REFUSALS = {
     "switch": Meaning(
-        "this byte isn't that of the switch routine",
+        "this byte isn't that of the switch routine, or isn't in ROM",
         "look at the address, the block and the number of tasks in the file of tasks",
     ),
     "sum": Meaning(
@@ -411,14 +417,15 @@ TASK_REFUSALS = {
 #: `.. dead CAUSE at PC` of `run`
 DEATHS = {
     "fcd": Meaning(
-        "an entry or a save took the first area of the reserve: the free list is used up (K14)"
+        "an entry or a save took the first area of the reserve: the free list is used up "
+        "(rules 9, 13, 14)"
     ),
-    "fcu": Meaning("an entry found no free area at all (rule 13)"),
-    "csu": Meaning("a return or `rslcx` with nothing left to restore (rules 6, 7, 8)"),
-    "ctyp": Meaning("a return found a lower context, or `rslcx` an upper one (rules 6, 7, 8)"),
-    "nocode": Meaning("there is no code here: no memory, or an odd address (rules 3, 5)"),
-    "notlisted": Meaning("the bytes here are no instruction of the table (rule 3)"),
-    "noarea": Meaning("FCX or PCXI names an area where there is no memory (rule 13)"),
+    "fcu": Meaning("an entry found no free area at all (rules 9, 13)"),
+    "csu": Meaning("a return or `rslcx` with nothing left to restore (rules 6 to 9, 13)"),
+    "ctyp": Meaning("a return found a lower context, or `rslcx` an upper one (rules 6 to 9, 13)"),
+    "nocode": Meaning("there is no code here: no memory, or an odd address (rules 3, 5, 9)"),
+    "notlisted": Meaning("the bytes here are no instruction of the table (rules 3, 9)"),
+    "noarea": Meaning("FCX or PCXI names an area where there is no memory (rules 9, 13)"),
 }
 
 #: the words of each command after its name

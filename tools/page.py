@@ -28,8 +28,8 @@ EACH_HEAD = (
     "</p>"
 )
 RING_HEAD = (
-    "<h2 id=ring>The loop of frames</h2><p class=note>Each turn takes these areas again. It is read "
-    "from the listing alone: a branch that is never taken may be in it.</p>"
+    "<h2 id=ring>The loop of frames</h2><p class=note>Each turn takes these areas again. It is "
+    "read from the listing alone: a branch that is never taken may be in it.</p>"
 )
 #: how a frame enters the next one of a ring
 ENTERING = {"call": "calls", "irq": "is interrupted by", "sys": "makes a", "aln": "makes a"}

@@ -68,7 +68,7 @@ def json_fault(text):
     """What Python's reader says of a plan that isn't JSON, and its line."""
     try:
         json.loads(text)
-    except (json.JSONDecodeError, RecursionError) as e:
+    except (ValueError, RecursionError) as e:
         return f"not JSON: {getattr(e, 'msg', e)}", getattr(e, "lineno", None)
     return None
 

@@ -17,12 +17,13 @@ def found(name, more="README.md says how tcd is built"):
     return path
 
 
-def of_words(words, doc):
+def of_words(words, doc, most=None):
     """The absolute path of the program that the first word names; ends the script if there is none.
 
-    For scripts whose first word is the program: `doc` is what --help prints.
+    For scripts whose first word is the program: `doc` is what --help prints, and `most` is how many
+    words there may be.
     """
-    if not words or words[0].startswith("-"):
+    if not words or words[0].startswith("-") or len(words) > (most or len(words)):
         print(doc)
         sys.exit(0 if words and words[0] in ("--help", "-h") else BAD_WORDS)
     try:

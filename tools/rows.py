@@ -6,14 +6,15 @@
 
 The tables: the rows as a definition (tc_isa/specs/Rows.antt), the fields that each row names
 (tc_isa/src/row_uses.rt), the index by codes (tc_encode/src/index.rt), the operands of each row
-(tc_stmt/src/row_wants.rt), the index by names (tc_stmt/src/row_index.rt), and the list for engineers
-(docs/instructions.md). The number of rows is written to ROW_COUNT (tc_isa/src/table.rt). What a row
-does is written by hand, in tc_isa/specs/Meanings.antt and tc_isa/src/row_meanings.rt; the list has
-it from there. Nothing here is trusted: the checks of tc_isa, tc_encode and tc_stmt prove that each
-table except the list is that of the rows.
+(tc_stmt/src/row_wants.rt), the index by names (tc_stmt/src/row_index.rt), and the list for
+engineers (docs/instructions.md). The number of rows is written to ROW_COUNT (tc_isa/src/table.rt).
+What a row does is written by hand, in tc_isa/specs/Meanings.antt and tc_isa/src/row_meanings.rt;
+the list has it from there. Nothing here is trusted: the checks of tc_isa, tc_encode and tc_stmt
+prove that each table except the list is that of the rows.
 """
 import os
 import re
+import shutil
 import subprocess
 import sys
 
@@ -194,9 +195,12 @@ def listed_by_name(all_rows):
 
 
 def main():
-    if {"--help", "-h"} & set(sys.argv[1:]):
+    if sys.argv[1:] not in ([], ["--check"]):
         print(__doc__)
-        return 0
+        return 0 if sys.argv[1:] in (["-h"], ["--help"]) else 5
+    if not shutil.which("rt"):
+        print("rows.py: rt, which formats the tables, isn't on the path", file=sys.stderr)
+        return 2
     all_rows = rows()
     uses = ["_".join(f.upper() for f in fields_of(r)) or "NONE" for r in all_rows]
     wants = ["&[" + ", ".join(f"Want::{OPERANDS[t][1]}" for t in operands(r)) + "]" for r in all_rows]
@@ -207,7 +211,7 @@ def main():
         "tc_encode/src/index.rt": index(all_rows),
         "tc_stmt/src/row_wants.rt": {"pub static WANTS": by_rows("pub static WANTS", "&[Want]", all_rows, wants)},
         "tc_stmt/src/row_index.rt": index_of_names(all_rows),
-        "../docs/instructions.md": {f"    {len(all_rows)} encodings": listed_by_name(all_rows)},
+        "../docs/instructions.md": {re.search(r"^    \d+ encodings", read("../docs/instructions.md"), re.M)[0]: listed_by_name(all_rows)},
     }
     old, touched = {}, set()
     for path, parts in tables.items():

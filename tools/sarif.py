@@ -15,6 +15,7 @@ after status 1. Without a text: 2 a file or a program that can't be used, 5 wron
 import hashlib
 import json
 import pathlib
+import re
 import urllib.parse
 
 import arguments
@@ -27,7 +28,7 @@ SCHEMA = "https://json.schemastore.org/sarif-2.1.0.json"
 def uri(path):
     """A path as a reference: absolute ones are `file:`, others are those of the review."""
     path = pathlib.Path(path)
-    return path.as_uri() if path.is_absolute() else urllib.parse.quote(path.as_posix())
+    return path.as_uri() if path.is_absolute() else urllib.parse.quote(bytes(path))
 
 
 def location(file, line, function, message=None):
@@ -50,6 +51,7 @@ def result_of(found, files):
     change = f". What people change: {found['change']}" if found["change"] else ""
     file = found["file"] or next(iter(files), None)
     same = " ".join(str(found[key]) for key in ("rule", "function", "frame", "text"))
+    same = re.sub(r"\+\d+\b|\b[0-9A-F]{8}\b", "", same)
     result = {
         "ruleId": found["rule"],
         "level": "error",

@@ -10,12 +10,6 @@ EXAMPLES = TOP / "examples"
 MAKES = ("asm", "bootgen", "link", "cert", "cellcert", "taskcert")
 
 
-def program_of(word):
-    """The path of a program that is named by a path or is on PATH, or None."""
-    found = shutil.which(word)
-    return str(pathlib.Path(found).resolve()) if found else None
-
-
 def run(words, folder):
     """Runs a program: what it printed, its errors, its status."""
     done = subprocess.run(words, cwd=folder, capture_output=True, text=True, errors="replace")

@@ -21,6 +21,7 @@ if sys.version_info < (3, 9):
 sys.dont_write_bytecode = True
 
 import scratch
+from program import of_words
 
 TOOLS = scratch.TOP / "tools"
 #: a part, and the words of the script that does it; P is the program
@@ -38,9 +39,7 @@ PARTS = {
     "largest": ["try_largest.py", "P"],
 }
 #: the line with which a script ends, and what unittest prints
-COUNTED = re.compile(
-    r"^(\d+) (?:\w+ )?tried, (\d+) (?:differ|wrong|aren't there)(?:, (\d+) not built)?", re.M
-)
+COUNTED = re.compile(r"^(\d+) (?:\w+ )?tried, (\d+) (?:differ|wrong)", re.M)
 UNITS = re.compile(r"^Ran (\d+) tests?.*\n\n(?:OK|FAILED \((.*)\))", re.M)
 
 
@@ -51,8 +50,7 @@ def counts(printed, status):
         kinds = r"(?:failures|errors|unexpected successes)=(\d+)"
         tried, failed = int(tried), sum(int(n) for n in re.findall(kinds, wrong))
     elif found := COUNTED.findall(printed):
-        tried = int(found[-1][0])
-        failed = sum(int(n) for n in found[-1][1:] if n)
+        tried, failed = map(int, found[-1])
     else:
         return 0, 1
     # a script that ends badly without a count has failed all the same
@@ -76,13 +74,7 @@ def missing(part):
 
 
 def main(words):
-    if not words or words[0] in ("-h", "--help"):
-        print(__doc__)
-        return 0 if words else 5
-    program, parts = scratch.program_of(words[0]), words[1:] or list(PARTS)
-    if not program:
-        print(f"{words[0]}: no such program", file=sys.stderr)
-        return 2
+    program, parts = of_words(words, __doc__), words[1:] or list(PARTS)
     if unknown := [part for part in parts if part not in PARTS]:
         print(f"test.py: no part {unknown[0]}: {', '.join(PARTS)}", file=sys.stderr)
         return 5

@@ -163,10 +163,7 @@ def has(tool):
 
 
 def main(arguments):
-    program, tried, wrong = tcd.of_words(arguments, __doc__), 0, []
-    if len(arguments) > 1:
-        print("try_builds.py: one argument is needed; see --help", file=sys.stderr)
-        return tcd.BAD_WORDS
+    program, tried, wrong = tcd.of_words(arguments, __doc__, 1), 0, []
     builds = [("make", make, example) for example in MAKES]
     builds += [("make", refused, "motor_control"), ("make", clashes, "motor_control")]
     for tool, build, example in [*builds, ("ctest", cmake, "motor_control")]:

@@ -10,28 +10,16 @@ way: the example's files, those of the broken folder over them, and the lines of
 A text of several lines is expected as `N lines`. A listing is assembled and linked again at its own
 addresses as well, and has to give the same executable.
 
-A command that isn't built yet answers `bad words`: such a line, and a later one that reads a file
-which isn't there for that reason, is counted as not built yet and doesn't fail.
-
 Exit status: 0 all lines as expected, 1 a line differs or none was tried, 2 no such program, 5 wrong
 words.
 """
 import pathlib
 import re
-import shutil
-import subprocess
 import sys
 import tempfile
 
 import program as programs
-
-EXAMPLES = pathlib.Path(__file__).resolve().parent.parent / "examples"
-OK, DIFFERS, NOT_BUILT = "ok", "differs", "not built yet"
-
-
-def tcd(program, words, folder):
-    done = subprocess.run([program, *words], cwd=folder, capture_output=True, text=True)
-    return done.stdout, done.stderr, done.returncode
+from scratch import EXAMPLES, as_line, copied, run
 
 
 def status_of(line):
@@ -41,14 +29,8 @@ def status_of(line):
     return 2 if line.startswith("bad ") else 1 if line.startswith("refused ") else 0
 
 
-def told(text):
-    """A text as one line: itself, or how many lines it has."""
-    lines = text.splitlines()
-    return lines[0] if len(lines) == 1 else f"{len(lines)} lines"
-
-
 def reassembled(program, elf, listing, folder):
-    """The executable that the listing gives, each of its sections at its address, in place of `elf`."""
+    """Whether the listing, its sections at their addresses, gives `elf`; and what `link` prints."""
     sections = re.findall(r"^\.section (\S+) # ([0-9A-F]{8})$", listing, re.M)
     parts = re.split(r"^\.section .*$", listing, flags=re.M)[1:]
     sizes = [sum(len(code) // 2 for code in re.findall(r"# [0-9A-F]{8} ([0-9A-F]+)$", part, re.M)) for part in parts]
@@ -59,61 +41,53 @@ def reassembled(program, elf, listing, folder):
     (folder / "again.s").write_text(listing)
     (folder / "entry.s").write_text(".section at_entry\n.global begin\nbegin:\n")
     for name in ("again", "entry"):
-        tcd(program, ["asm", f"{name}.s", f"{name}.o"], folder)
-    printed = tcd(program, ["link", "again.layout", "again.elf", "again.o", "entry.o"], folder)[0]
+        run([program, "asm", f"{name}.s", f"{name}.o"], folder)
+    printed = run([program, "link", "again.layout", "again.elf", "again.o", "entry.o"], folder)[0]
     again = folder / "again.elf"
     return again.exists() and again.read_bytes() == (folder / elf).read_bytes(), printed.strip()
 
 
-def tried(program, line, folder, missing):
-    """How one line went, and what to say of it. `missing` holds the words of lines that weren't built."""
+def fault(program, line, folder):
+    """What differs in one line, or None."""
     words, _, expected = line.partition(" => ")
     words = words.split(" ")
-    out, err, status = tcd(program, words, folder)
-    got = told(out) if out else ""
-    if got == "bad words" and expected != got:
-        missing.update(words[1:])
-        return NOT_BUILT, ""
-    if any(word in missing and not (folder / word).exists() for word in words[1:]):
-        return NOT_BUILT, ""
+    out, err, status = run([program, *words], folder)
+    got = as_line(out) if out else ""
     if got != expected or err or status != status_of(expected):
-        return DIFFERS, f"{got!r} with status {status}" + (f" and {err!r}" if err else "")
+        return f"{got!r} with status {status}" + (f" and {err!r}" if err else "")
     if words[0] == "dis":
         same, printed = reassembled(program, words[1], out, folder)
         if not same:
-            return DIFFERS, f"the listing links to another executable: {printed}"
-    return OK, ""
+            return f"the listing links to another executable: {printed}"
+    return None
 
 
-def folder_tried(program, sources, counts):
-    """All lines of the `expected` of the last of these folders, over the files of all."""
+def tried(program, sources):
+    """All lines of the `expected` of the last of these folders, over the files of all: what differs
+    in each, or None."""
     with tempfile.TemporaryDirectory() as name:
         folder = pathlib.Path(name)
         for source in sources:
-            for path in source.iterdir():
-                if path.is_file():
-                    shutil.copy(path, folder)
-        missing = set()
+            copied(source, folder)
         for line in (sources[-1] / "expected").read_text().splitlines():
-            if not line or line.startswith("#"):
-                continue
-            how, why = tried(program, line, folder, missing)
-            counts[how] += 1
-            if how != OK:
-                print(f"{sources[-1].relative_to(EXAMPLES)}: {how}: {line}" + (f"\n    printed {why}" if why else ""))
+            if line and not line.startswith("#"):
+                why = fault(program, line, folder)
+                if why:
+                    print(f"{sources[-1].relative_to(EXAMPLES)}: {line}\n    printed {why}")
+                yield why
 
 
 def main():
     program = programs.of_words(sys.argv[1:], __doc__)
-    counts = {OK: 0, DIFFERS: 0, NOT_BUILT: 0}
+    faults = []
     for example in sorted(path.parent for path in EXAMPLES.glob("*/expected")):
         if len(sys.argv) > 2 and example.name not in sys.argv[2:]:
             continue
-        folder_tried(program, [example], counts)
+        faults += tried(program, [example])
         for broken in sorted(path.parent for path in example.glob("broken*/expected")):
-            folder_tried(program, [example, broken], counts)
-    print(f"{sum(counts.values())} lines tried, {counts[DIFFERS]} differ, {counts[NOT_BUILT]} not built yet")
-    sys.exit(1 if counts[DIFFERS] or not counts[OK] else 0)
+            faults += tried(program, [example, broken])
+    print(f"{len(faults)} lines tried, {len([*filter(None, faults)])} differ")
+    sys.exit(1 if any(faults) or not faults else 0)
 
 
 if __name__ == "__main__":

@@ -30,15 +30,15 @@ did without the set of words by which it looks for a name that is given twice: i
 pair.
 """
 
-import os
 import pathlib
-import shutil
 import struct
 import subprocess
 import sys
 import tempfile
 
-EXAMPLES = pathlib.Path(__file__).resolve().parent.parent / "examples"
+import program as programs
+from scratch import built
+
 LIMIT = 3000
 HELD = b"held before\n"
 # The C library fills what it gives and what it gets back, so that a use too early or late shows.
@@ -73,62 +73,36 @@ __attribute__((destructor)) static void count(void) {
     if (word && write(atoi(word), &asked, sizeof asked) < 0) _exit(99);
 }
 """
-# An example, the commands that make its files, the command that is tried, and the files it writes.
-BUILD = (
-    "asm main.s main.o",
-    "asm sum.s sum.o",
-    "link board.layout firmware.elf main.o sum.o",
-    "cert firmware.elf board.json firmware.cert",
-)
-TASKS = (
-    "asm main.s main.o",
-    "asm show.s show.o",
-    "asm switch.s switch.o",
-    "link board.layout firmware.elf main.o show.o switch.o",
-    "taskcert firmware.elf board.json board.tasks measure.cert show.cert",
-)
-CELLS = (
-    "asm main.s main.o",
-    "asm key.s key.o",
-    "link board.layout firmware.elf main.o key.o",
-    "cellcert firmware.elf board.json modes.cells firmware.cert",
-)
-START = (
-    "asm main.s main.o",
-    "bootgen board.json 80000000 80000800 boot.s",
-    "asm boot.s boot.o",
-    "link board.layout firmware.elf main.o boot.o",
-    "cert firmware.elf board.json firmware.cert",
-)
+# An example, the command that is tried on its files, and the files that it writes.
 SHIP = "ship board.json board.layout made.elf made.cert"
 SHIPPED = ("made.elf", "made.cert")
 MOTOR = "main.s current.s speed.s serial.s faults.s tables.s memory.s"
 CASES = [
-    ("one_call", BUILD, "check firmware.elf board.json firmware.cert", ()),
-    ("one_call", BUILD, "cert firmware.elf board.json made.cert", ("made.cert",)),
-    ("one_call", BUILD, "run firmware.elf board.json turns.script", ()),
-    ("one_call", (), "asm main.s made.o", ("made.o",)),
-    ("one_call", BUILD, "link board.layout made.elf main.o sum.o", ("made.elf",)),
-    ("one_call", (), f"{SHIP} main.s sum.s", SHIPPED),
-    ("motor_control", (), f"{SHIP} {MOTOR}", SHIPPED),
-    ("two_tasks", TASKS, "tasks firmware.elf board.json board.tasks measure.cert show.cert", ()),
-    ("one_call", BUILD, "dis firmware.elf", ()),
-    ("one_call", BUILD, "cfg firmware.elf board.json", ()),
-    ("one_call", BUILD, "report firmware.elf board.json firmware.cert", ()),
-    ("two_tasks", TASKS, "taskcert firmware.elf board.json board.tasks a.cert b.cert",
+    ("one_call", "check firmware.elf board.json firmware.cert", ()),
+    ("one_call", "cert firmware.elf board.json made.cert", ("made.cert",)),
+    ("one_call", "run firmware.elf board.json turns.script", ()),
+    ("one_call", "asm main.s made.o", ("made.o",)),
+    ("one_call", "link board.layout made.elf main.o sum.o", ("made.elf",)),
+    ("one_call", f"{SHIP} main.s sum.s", SHIPPED),
+    ("motor_control", f"{SHIP} {MOTOR}", SHIPPED),
+    ("two_tasks", "tasks firmware.elf board.json board.tasks measure.cert show.cert", ()),
+    ("one_call", "dis firmware.elf", ()),
+    ("one_call", "cfg firmware.elf board.json", ()),
+    ("one_call", "report firmware.elf board.json firmware.cert", ()),
+    ("two_tasks", "taskcert firmware.elf board.json board.tasks a.cert b.cert",
      ("a.cert", "b.cert")),
-    ("cells", CELLS, "cells firmware.elf board.json modes.cells firmware.cert", ()),
-    ("cells", CELLS, "cellcert firmware.elf board.json modes.cells made.cert", ("made.cert",)),
-    ("start_up", START, "boot firmware.elf board.json firmware.cert 80000800", ()),
-    ("start_up", START, "bootgen board.json 80000000 80000800 made.s", ("made.s",)),
-    ("one_call", (), "gen 1", ()),
+    ("cells", "cells firmware.elf board.json modes.cells firmware.cert", ()),
+    ("cells", "cellcert firmware.elf board.json modes.cells made.cert", ("made.cert",)),
+    ("start_up", "boot firmware.elf board.json firmware.cert 80000800", ()),
+    ("start_up", "bootgen board.json 80000000 80000800 made.s", ("made.s",)),
+    ("one_call", "gen 1", ()),
     # Refused, and bad input.
-    ("two_tasks", TASKS, "check firmware.elf board.json measure.cert", ()),
-    ("two_tasks", TASKS, "cert firmware.elf board.json made.cert", ("made.cert",)),
-    ("two_tasks", TASKS, "tasks firmware.elf board.json board.tasks measure.cert", ()),
-    ("two_tasks", TASKS, f"{SHIP} main.s", SHIPPED),
-    ("one_call", BUILD, "check firmware.elf board.layout firmware.cert", ()),
-    ("one_call", BUILD, "asm board.json made.o", ("made.o",)),
+    ("two_tasks", "check firmware.elf board.json measure.cert", ()),
+    ("two_tasks", "cert firmware.elf board.json made.cert", ("made.cert",)),
+    ("two_tasks", "tasks firmware.elf board.json board.tasks measure.cert", ()),
+    ("two_tasks", f"{SHIP} main.s", SHIPPED),
+    ("one_call", "check firmware.elf board.layout firmware.cert", ()),
+    ("one_call", "asm board.json made.o", ("made.o",)),
 ]  # fmt: skip
 
 
@@ -153,15 +127,11 @@ class Run:
         return self.status, self.printed, self.errors, self.files
 
 
-def built(program, example, commands):
-    """The files of an example once these commands were done on them."""
+def files_of(program, example):
+    """The files of an example once it is built."""
     with tempfile.TemporaryDirectory() as name:
         folder = pathlib.Path(name)
-        for path in (EXAMPLES / example).iterdir():
-            if path.is_file():
-                shutil.copy(path, folder)
-        for command in commands:
-            subprocess.run([program, *command.split()], cwd=folder, capture_output=True, check=True)
+        built(program, example, folder)
         return {path.name: path.read_bytes() for path in folder.iterdir()}
 
 
@@ -187,8 +157,8 @@ def fault(run, plain, files):
 
 def tried(program, library, case):
     """Prints how a case went, and gives its runs and faults."""
-    example, before, command, written = case
-    files = {**built(program, example, before), **{name: HELD for name in written}}
+    example, command, written = case
+    files = {**files_of(program, example), **dict.fromkeys(written, HELD)}
     words = command.split()
     plain = Run(program, library, words, files)
     if not plain.asked:
@@ -209,17 +179,14 @@ def tried(program, library, case):
 
 
 def main():
-    if not sys.argv[1:] or sys.argv[1] in ("-h", "--help"):
-        print(__doc__)
-        sys.exit(0 if sys.argv[1:] else 5)
-    program, only = os.path.abspath(sys.argv[1]), sys.argv[2:]
+    program, only = programs.of_words(sys.argv[1:], __doc__), sys.argv[2:]
     with tempfile.TemporaryDirectory() as name:
         folder = pathlib.Path(name)
         (folder / "refuser.c").write_text(REFUSER)
         library = str(folder / "refuser.so")
         build = ["cc", "-O1", "-shared", "-fPIC", "-o", library, str(folder / "refuser.c")]
         subprocess.run(build, check=True)
-        cases = [case for case in CASES if not only or case[2].split()[0] in only]
+        cases = [case for case in CASES if not only or case[1].split()[0] in only]
         done = [tried(program, library, case) for case in cases]
     runs, faults = sum(d[0] for d in done), sum(d[1] for d in done)
     print(f"{len(done)} commands, {runs} runs, {faults} faults")

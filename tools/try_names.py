@@ -6,14 +6,14 @@ tools/.
 
 Names  What is between backquotes and is a path (with `/`) whose first part is a folder of the
        repository, or ends with `.md`, `.py` or `.sh`. It has to be there from the top, from its
-       document's folder, or by its last part in docs/, tools/ or bench/. `*` and `..` stand for
-       anything; what `out/` holds is made by a build.
+       document's folder, or, without `/`, in docs/, tools/, tools/tests/ or bench/. `*` and `..`
+       stand for anything; what `out/` holds is made by a build.
 Links  A link has to lead to a file, from its document's folder, and to one of its headings.
 Form   No line is longer than 100 columns, except rows of tables; no cell has more than 200
        characters. A page of docs/ says first whom it is for, and one of more than 1,500 words links
        to its headings before the second one.
 
-Exit status: 0 all is so, 1 something isn't.
+Exit status: 0 all is so, 1 something isn't, 5 wrong words.
 """
 import glob
 import pathlib
@@ -71,6 +71,9 @@ def form_faults(page, text):
 
 
 def main():
+    if sys.argv[1:]:
+        print(__doc__)
+        sys.exit(0 if sys.argv[1] in ("-h", "--help") else 5)
     tried, faults = 0, []
     for page in PAGES:
         text = page.read_text()

@@ -15,6 +15,7 @@ import sys
 import tempfile
 
 import scratch
+from program import of_words
 
 #: elements without an end tag
 EMPTY = set("area base br col embed hr img input link meta source track wbr".split())
@@ -136,13 +137,7 @@ def hostile_names(program, folder):
 
 
 def main(words):
-    if len(words) != 1 or words[0] in ("-h", "--help"):
-        print(__doc__)
-        return 0 if words in (["-h"], ["--help"]) else 5
-    program, wrong = scratch.program_of(words[0]), 0
-    if not program:
-        print(f"{words[0]}: no such program", file=sys.stderr)
-        return 2
+    program, wrong = of_words(words, __doc__, 1), 0
     tried = (motor_control, refused, hostile_names)
     for make in tried:
         with tempfile.TemporaryDirectory() as room:

@@ -34,6 +34,7 @@ import tempfile
 
 import picture
 import scratch
+from program import of_words
 
 TOP = scratch.TOP
 PAGES = [TOP / "README.md", *sorted((TOP / "docs").glob("*.md")), TOP / "examples" / "README.md"]
@@ -245,13 +246,7 @@ class Page:
 
 
 def main(words):
-    if len(words) != 1 or words[0] in ("-h", "--help"):
-        print(__doc__)
-        return 0 if words in (["-h"], ["--help"]) else 5
-    program = scratch.program_of(words[0])
-    if not program:
-        print(f"{words[0]}: no such program", file=sys.stderr)
-        return 2
+    program = of_words(words, __doc__, 1)
     tried, faults = 0, []
     for path in PAGES:
         with tempfile.TemporaryDirectory() as name:

@@ -21,6 +21,7 @@ import tempfile
 
 import schema
 import scratch
+from program import of_words
 
 #: values that a key may be given in place of its own
 OTHERS = [None, True, 0, 1, -1, 2, 3, 64, 255, 256, 4096, 4097, 1 << 32, 0.5, "", "0x", "0x0"]
@@ -100,13 +101,7 @@ class Judges:
 
 
 def main(words):
-    if len(words) != 1 or words[0] in ("-h", "--help"):
-        print(__doc__)
-        return 0 if words in (["-h"], ["--help"]) else 5
-    program = scratch.program_of(words[0])
-    if not program:
-        print(f"{words[0]}: no such program", file=sys.stderr)
-        return 2
+    program = of_words(words, __doc__, 1)
     tried, wrong = 0, 0
     with tempfile.TemporaryDirectory() as room:
         scratch.built(program, "one_call", pathlib.Path(room))

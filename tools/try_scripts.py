@@ -12,6 +12,7 @@ import sys
 import tempfile
 
 import scratch
+from program import of_words
 
 #: words that worst_run.py can use; P is the program
 FILES = "firmware.elf board.json firmware.cert --tcd P"
@@ -112,6 +113,16 @@ CASES = {
     "try_builds.py": {5: ["", "P P"], 2: ["none"]},
     "try_largest.py": {5: ["", "P P"], 2: ["none"]},
     "test.py": {5: [""], 2: ["none"]},
+    "try_examples.py": {5: [""], 2: ["none"]},
+    "try_memory.py": {5: [""], 2: ["none"]},
+    "picture.py": {5: [""], 2: ["none"]},
+    "hostile.py": {5: ["", "P P", "--jobs x P"], 2: ["none"]},
+    "try_names.py": {5: ["x"]},
+    "rows.py": {5: ["--chek"]},
+    "map.py": {5: ["none"]},
+    "claim.py": {5: ["none", "--bogus"]},
+    "chains.py": {2: ["none"]},
+    "weight.py": {5: ["--bogus"], 2: ["none"]},
 }
 
 
@@ -143,13 +154,7 @@ def fault_of(program, script, text, wanted, folder):
 
 
 def main(words):
-    if len(words) != 1 or words[0] in ("-h", "--help"):
-        print(__doc__)
-        return 0 if words in (["-h"], ["--help"]) else 5
-    program, tried, wrong = scratch.program_of(words[0]), 0, 0
-    if not program:
-        print(f"{words[0]}: no such program", file=sys.stderr)
-        return 2
+    program, tried, wrong = of_words(words, __doc__, 1), 0, 0
     with tempfile.TemporaryDirectory() as room:
         prepared(program, pathlib.Path(room))
         for script, cases in CASES.items():

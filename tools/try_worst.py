@@ -14,6 +14,7 @@ import tempfile
 import time
 
 import scratch
+from program import of_words
 
 #: what the author of an example knows of its devices, and what is special about its certificate
 KNOWN = {"protocol": "--in 0 90 97", "cells": "--cells modes.cells"}
@@ -47,14 +48,7 @@ def tried(program, example, cert, more):
 
 
 def main(words):
-    if not words or words[0] in ("-h", "--help"):
-        print(__doc__)
-        return 0 if words else 5
-    program = scratch.program_of(words[0])
-    if not program:
-        print(f"{words[0]}: no such program", file=sys.stderr)
-        return 2
-    chosen, tries, wrong = words[1:] or names(), 0, 0
+    program, chosen, tries, wrong = of_words(words, __doc__), words[1:] or names(), 0, 0
     for example in chosen:
         if example not in names():
             print(f"{example}: no such example", file=sys.stderr)

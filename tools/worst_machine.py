@@ -8,7 +8,6 @@ reports.
 
 import collections
 
-import hostile_readers as readers
 import machine as slow
 import worst_code
 

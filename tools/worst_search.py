@@ -340,7 +340,7 @@ class Search:
         near = [x for x in near if low <= x <= high]
         return draw.choice(near) if near and draw.random() < 0.8 else draw.randint(low, high)
 
-    def tried(self, trial, work):
+    def tried(self, work):
         """Does some work of a trial. If it came to more areas than any before, the same is done
         with each device answering otherwise."""
         peak = self.w.peak
@@ -411,5 +411,5 @@ class Search:
         covered = len(trial.covered)
         until = self.steps + (SLICE if trial.slices > 3 else FIRST_SLICE)
         while self.steps < until:
-            self.tried(trial, trial.walk)
+            self.tried(trial.walk)
         trial.rate = 0.7 * trial.rate + 0.3 * (len(trial.covered) - covered)

@@ -9,10 +9,11 @@ import unittest
 
 HERE = pathlib.Path(__file__).resolve().parent
 TOOLS = HERE.parent
-TOP = TOOLS.parent
-EXAMPLES = TOP / "examples"
 RECORDED = HERE / "recorded"
 sys.path.insert(0, str(TOOLS))
+
+import scratch
+from scratch import EXAMPLES, TOP
 
 
 def program():
@@ -48,14 +49,9 @@ class InFolder(unittest.TestCase):
 
     def example(self, name, *variants):
         """Copies an example, and variants of it over it; gives the sources in linked order."""
-        for part in (EXAMPLES / name, *(EXAMPLES / name / variant for variant in variants)):
-            for path in part.iterdir():
-                if path.is_file():
-                    shutil.copy(path, self.folder)
-        for line in (EXAMPLES / name / "expected").read_text().splitlines():
-            if line.startswith("link "):
-                return [word[:-2] + ".s" for word in line.split(" => ")[0].split(" ")[3:]]
-        raise AssertionError(f"{name} links nothing")
+        for part in (name, *(f"{name}/{variant}" for variant in variants)):
+            scratch.copied(part, self.folder)
+        return scratch.sources_of(name)
 
     def tcd(self, *words):
         """What a command of the program prints."""

@@ -7,14 +7,12 @@ import dataclasses
 import io
 import pathlib
 import re
-import sys
 import tempfile
 import unittest
 from unittest import mock
 
-sys.path.insert(0, str(pathlib.Path(__file__).resolve().parents[1]))
-import beside  # noqa: E402
-import claim  # noqa: E402 (the script is beside the tests' folder)
+import beside
+import claim
 
 SMALL = """-- What is tried here.
 use Rattle.std.specs.Prelude.{◌+◌, ℕ}
@@ -397,7 +395,8 @@ class Repository(unittest.TestCase):
         def words(text):
             return re.sub(r"\b(?:pub|abbrev)\b|: Type 0 (?=where)", "", text).split()
 
-        blocks = re.findall(r"(?:^    .*\n)+", document("machine.md").partition("\n### Safe")[2], re.M)
+        text = document("machine.md").partition("\n### Safe")[2]
+        blocks = re.findall(r"(?:^    .*\n)+", text, re.M)
         names = [re.match(r" *(?:record )?(\w+)", block)[1] for block in blocks]
         self.assertIn("Safe", names)
         items = [it for _, part in self.parts for it in part.items]

@@ -288,7 +288,7 @@ class Documents(unittest.TestCase):
 
 def sample(form):
     """A line of a form of docs/formats.md: numbers, addresses and names in place of its words."""
-    form = form.replace("<rule>", "3").replace("<address>", "80000000").replace("<key>", KEY)
+    form = form.replace("<rule>", "3").replace("<address>", "80000000").replace("<frame>", KEY)
     form = form.replace("at PC", "at 80000000").replace("CAUSE", "fcd")
     form = form.replace("name NAME", "name f")
     form = re.sub(r" ?\.\.$", "", form)

@@ -2,13 +2,10 @@
 import contextlib
 import io
 import pathlib
-import sys
 import tempfile
 import unittest
 
-TOOLS = pathlib.Path(__file__).resolve().parent.parent
-sys.path.insert(0, str(TOOLS))
-
+import beside  # noqa: F401 (it puts tools/ on the path)
 import hostile_readers as readers
 import known
 import known_rows

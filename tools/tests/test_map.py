@@ -3,12 +3,11 @@
     python3 -m unittest discover -s tools/tests
 """
 import pathlib
-import sys
 import tempfile
 import unittest
 
-sys.path.insert(0, str(pathlib.Path(__file__).resolve().parents[1]))
-import map as crate_map  # noqa: E402 (the script is beside the tests' folder)
+import beside  # noqa: F401 (it puts tools/ on the path)
+import map as crate_map
 
 FILES = {
     "crates/a/src/lib.rt": "//! A crate.\n",

@@ -1,12 +1,8 @@
 """Unit tests of the scripts that try the rest: test.py, schema.py and tools/try_*.py."""
-import pathlib
 import re
-import sys
 import unittest
 
-TOOLS = pathlib.Path(__file__).resolve().parent.parent
-sys.path.insert(0, str(TOOLS))
-
+import beside
 import meanings
 import picture
 import schema
@@ -21,9 +17,8 @@ class Counts(unittest.TestCase):
 
     def test_lines(self):
         for printed, status, wanted in (
-            ("243 lines tried, 0 differ, 0 not built yet\n", 0, (243, 0)),
-            ("66 tried, 2 differ, 1 not built yet\n", 1, (63, 3)),
-            ("125 names tried, 0 aren't there\n", 0, (125, 0)),
+            ("243 lines tried, 0 differ\n", 0, (243, 0)),
+            ("66 tried, 2 differ\n", 1, (64, 2)),
             ("7161 cases tried, 1 wrong, 34 s\n", 1, (7160, 1)),
             ("...\nRan 12 tests in 0.1s\n\nOK\n", 0, (12, 0)),
             ("Ran 12 tests in 0.1s\n\nFAILED (failures=1, errors=2)\n", 1, (9, 3)),
@@ -156,7 +151,7 @@ class Errors(unittest.TestCase):
     PARTS |= {"bad cells": "CELLS", "bad tasks": "TASKS", "refused boot": "BOOTS", "dead": "DEATHS"}
 
     def setUp(self):
-        text = (TOOLS.parent / "docs" / "errors.md").read_text()
+        text = (beside.TOP / "docs" / "errors.md").read_text()
         self.parts = re.findall(r"^## (.*?)\n(.*?)(?=^## |\Z)", text, re.M | re.S)
 
     def test_headings(self):
