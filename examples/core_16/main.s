@@ -1,5 +1,5 @@
 # A watch over a slow handler, on a core of TriCore 1.6. Interrupt 30 asks what it has interrupted:
-# after its entry PCXI holds the priority of the interrupted code (PCPN), on this core in bits 29:22.
+# after its entry PCXI has the priority of the interrupted code (PCPN), on this core in bits 29:22.
 # If that is 10, the work of interrupt 10 isn't done yet, and a late sample is counted.
 
 .section text
@@ -25,7 +25,7 @@ sample:
     movh.a a15, hi:level
     st.w.l [a15]lo:level, d2
     ret16
-scale:                              # four samples are one step
+scale:                              # four counts are one step
     sh     d2, d8, -2
     ret16
 

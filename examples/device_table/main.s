@@ -9,7 +9,7 @@ main:
     lea.l  a14, [a14]lo:actions
     addsc.a a14, a14, d15, 2        # A14 + 4 * D15: one of six addresses of the table
     ld.a   a14, [a14]0
-    calli  a14                      # one of six functions, all known
+    calli  a14                      # one of four functions, all known
     j      main
 
 .section tables

@@ -1,10 +1,10 @@
 /* A script for a GNU ld for TriCore (tricore-elf-ld -T board.ld), for the plan board.json: flash at
    80000000, ram at D0008000.
 
-   tcd reads the program headers, and takes each segment at its load address (p_paddr). So .data is in
-   flash for tcd, where its first values stand until the program copies them, and code has to run where
-   it is loaded. Vectors are sections of their own, at BIV | 32 * priority and BTV | 32 * class.
-   Symbols and the section table may stay in: tools/view.py and tools/names.py take names from them. */
+   tcd reads the program headers, and takes each segment at its load address (p_paddr). So .data is
+   in flash for tcd, where its first values are until the program copies them, and code has to run
+   where it is loaded. Vectors are sections of their own, at BIV | 32 * priority, BTV | 32 * class.
+   Symbols and the section table may stay in: tools/view.py and tools/names.py read symbols. */
 ENTRY(main)
 MEMORY
 {

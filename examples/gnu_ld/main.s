@@ -1,5 +1,5 @@
 # A ramp: each tick of the clock raises `level` by `step`, and at `limit` it begins again. The three
-# are set variables: their first values stand in flash, and `copy_data` brings them to ram.
+# are initialised: their first values are in flash, and `copy_data` copies them to ram.
 
 .section text
 .global main

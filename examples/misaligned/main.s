@@ -1,5 +1,5 @@
-# A message in ram is read field by field, where the other side says its fields begin. The core traps
-# at a word that isn't at a multiple of 4 (class 2), and the plan says so by `aln`. The handler turns
+# A message in ram is read field by field, where the other side says its fields begin. A core may
+# trap at a word that isn't at a multiple of 4 (class 2): the plan has `aln`. The handler turns
 # the output off and stays: its `rfe` would try the same access again.
 
 .section text
@@ -20,7 +20,7 @@ field:                              # the word at offset D4 of the message
     movh.a a15, hi:message
     lea.l  a15, [a15]lo:message
     addsc.a a15, a15, d4, 0
-    ld.w   d2, [a15]0               # traps if D4 is no multiple of 4
+    ld.w   d2, [a15]0               # may trap if D4 is no multiple of 4
     ret16
 
 .section trap_2

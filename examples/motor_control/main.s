@@ -80,7 +80,7 @@ serve_watchdog:                     # the two words that its register wants, one
     st.w   [a4]0, d0
     ret16
 
-# The ramp by the speed: bands of 128 counts, the last one open.
+# The ramp by the speed: bands of 8 counts, the last one open.
 choose_ramp:
     ld.w   d0, [a12]12              # the measured speed
     jge    d0, 0, choose_positive

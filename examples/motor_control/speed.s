@@ -15,7 +15,7 @@ speed_loop:
     ld.w   d1, [a5]20               # the angle of the last time
     st.w   [a5]20, d0
     sub    d0, d0, d1
-    sh     d0, d0, 22               # the difference of two angles has ten bits and a sign
+    sh     d0, d0, 22               # the difference modulo a turn, -512 to 511
     sha    d0, d0, -22
     sh     d0, d0, 4                # sixteenths of a count
     ld.w   d1, [a5]12               # the measured speed goes an eighth of the way there

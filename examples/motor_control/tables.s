@@ -17,7 +17,7 @@ services:                           # of the fault trap
 commutations:                       # by sector
     .word sector_0, sector_1, sector_2, sector_3, sector_4, sector_5
 .global ramps
-ramps:                              # steps a millisecond, by bands of 128 counts: gentle at speed
+ramps:                              # steps a millisecond, by bands of 8 counts: gentle at speed
     .word 16, 16, 12, 8, 6, 4, 3, 2
 .global sectors
 sectors:                            # by the upper five bits of the angle

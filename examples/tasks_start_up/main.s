@@ -1,6 +1,6 @@
 # Two tasks that give way to each other by calling `switch`. Task 0 measures, with interrupts on;
-# task 1 (show.s) shows what was measured, with interrupts off. Each has a chain of save areas of its
-# own, and both chains take from one set of areas.
+# task 1 (show.s) shows what was measured, with interrupts off. Each has its own list of save areas;
+# both take from one set of areas.
 
 .section text
 .global main

@@ -1,5 +1,5 @@
 # From the boot sequence to task 0. `tcd bootgen` writes that sequence (boot.s) for the address of
-# this section, 80000600: it links the areas, sets the core registers and jumps here, with interrupts
+# this section, 80000600: it links the areas, sets core registers and jumps here, with interrupts
 # off and no area in use. Task 1 then has to look as if it had called `switch`, so that `switch` can
 # go on with it. No command judges this code: `tcd tasks` takes the start for granted
 # (docs/formats.md, "The start of tasks"). `tcd run` shows that both tasks run.
@@ -22,7 +22,7 @@ next:
     lea.l  a15, [a15]lo:waiting
     st.w   [a15]4, d0               # the word of task 1
     mov    d0, 0
-    mtcr   0xFE00, d0               # task 0 begins with an empty chain
+    mtcr   0xFE00, d0               # task 0 begins with an empty list
     isync
     st.w   [a15]8, d0               # and is the current one
     movh.a a10, 0xD001

@@ -11,7 +11,7 @@ switch:
     lea.l  a2, [a2]lo:waiting
     ld.w.l d0, [a2]8                # the number of the current task
     addsc.a a3, a2, d0, 2
-    mfcr   d1, 0xFE00               # PCXI, where this task's chain begins
+    mfcr   d1, 0xFE00               # PCXI, where this task's list begins
     st.w.l [a3]0, d1
     addi   d0, d0, 1
     jne    d0, 2, .+8               # after the last task comes the first

@@ -10,7 +10,7 @@ switch:
     lea.l  a2, [a2]lo:waiting
     ld.w.l d0, [a2]8                # the number of the current task
     addsc.a a3, a2, d0, 2
-    mfcr   d1, 0xFE00               # PCXI, the beginning of this task's chain
+    mfcr   d1, 0xFE00               # PCXI, the beginning of this task's list
     st.w.l [a3]0, d1
     addi   d0, d0, 1
     jne    d0, 2, .+8               # after the last task comes the first

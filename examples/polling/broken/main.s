@@ -32,7 +32,7 @@ set_valve:                          # valve D2 to D8
     and    d0, d2, 7                # eight numbers for four valves
     movh.a a4, hi:valves
     lea.l  a4, [a4]lo:valves
-    addsc.a a4, a4, d0, 2           # one of four registers
+    addsc.a a4, a4, d0, 2           # one of eight addresses
     call   limit
     st.w   [a4]0, d2
     ret16

@@ -1,4 +1,4 @@
-# The word of task 1 is never written, so `switch` goes on with an empty chain.
+# The word of task 1 is never written, so `switch` goes on with an empty list.
 
 .section start
 .global start_up
@@ -17,7 +17,7 @@ next:
     movh.a a15, hi:waiting
     lea.l  a15, [a15]lo:waiting
     mov    d0, 0
-    mtcr   0xFE00, d0               # task 0 begins with an empty chain
+    mtcr   0xFE00, d0               # task 0 begins with an empty list
     isync
     st.w   [a15]8, d0               # and is the current one
     movh.a a10, 0xD001

@@ -1,4 +1,4 @@
-# By this routine a task gives way: these 18 instructions, here for three tasks. The task waits in
+# By this routine a task gives way: these 18 instructions, `jne` for three tasks. The task waits in
 # the two areas of `call switch` and `svlcx`; `rslcx` and `ret` give back those of the next one.
 
 .section switch
@@ -10,10 +10,10 @@ switch:
     lea.l  a2, [a2]lo:waiting
     ld.w.l d0, [a2]8                # the number of the current task
     addsc.a a3, a2, d0, 2
-    mfcr   d1, 0xFE00               # PCXI, the beginning of this task's chain
+    mfcr   d1, 0xFE00               # PCXI, the beginning of this task's list
     st.w.l [a3]0, d1
     addi   d0, d0, 1
-    jne    d0, 3, .+8               # of three tasks: the file of tasks names two
+    jne    d0, 3, .+8               # three tasks: the file of tasks names two
     mov    d0, 0
     st.w.l [a2]8, d0
     addsc.a a3, a2, d0, 2
