@@ -6,6 +6,7 @@ used, 5 wrong arguments.
 import argparse
 import os
 import pathlib
+import signal
 import sys
 
 import program as tcd
@@ -63,6 +64,7 @@ def ended(doc, work):
     """Does a script's work on the arguments of the command line, and ends with its status."""
     name, words = pathlib.Path(sys.argv[0]).name, sys.argv[1:]
     own = words[: words.index("--")] if "--" in words else words
+    sys.stdout.reconfigure(errors="backslashreplace")  # as standard error has it
     try:
         if {"-h", "--help"} & set(own):
             print(doc)
@@ -72,6 +74,8 @@ def ended(doc, work):
         print(end="", flush=True)
     except BrokenPipeError:  # nobody reads on, so nobody sees whether it is a refusal
         os._exit(tcd.BAD_FILE)
+    except KeyboardInterrupt:
+        status = 128 + signal.SIGINT
     except OSError as e:
         print(f"{shown(e.filename or 'standard output')}: {e.strerror}", file=sys.stderr)
         status = tcd.BAD_FILE

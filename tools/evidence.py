@@ -258,6 +258,8 @@ def copied(paths, folder):
     out = []
     for path in paths:
         name = f"files/{pathlib.Path(path).name}"
+        if not name.isprintable() or "\\" in name:
+            raise Unusable(f"{shown(path)}: a name that {SUMS} can't hold")
         if name in out:
             name = f"files/{len(out)}_{pathlib.Path(path).name}"
         (folder / name).write_bytes(bytes_of(path))

@@ -227,7 +227,7 @@ def main():
     for name in set(arguments[:-1]) & set(given):
         given[name] = arguments.pop(arguments.index(name) + 1)
     words = [a for a in arguments if a not in {*given, "--quick"}]
-    is_right = len(words) == 1 and given["--jobs"].isdecimal()
+    is_right = len(words) == 1 and given["--jobs"].isdecimal() and int(given["--jobs"]) > 0
     program = programs.of_words(words if is_right else [], __doc__)
     began, whole = time.monotonic(), Bench(program, None, quick)
     chosen = [(program, quick, n) for n, (title, _) in enumerate(jobs()) if given["--only"] in title]

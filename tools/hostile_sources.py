@@ -1,12 +1,13 @@
 """Second readers of instructions, listings and sources. See hostile_readers.py."""
-import os
+import pathlib
 import re
 
 from hostile_binary import FILE_LIMIT, NAME, WORDS, Bad, ObjectFile, number, object_bytes
 
 # Instructions
 
-TABLE = os.path.join(os.path.dirname(os.path.abspath(__file__)), "..", "crates", "tc_isa", "specs", "Rows.antt")
+#: a row in each line: name, operands, form and both codes, between `|`; rows.py writes it
+TABLE = pathlib.Path(__file__).resolve().with_name("instructions.txt")
 
 # The places of each form's fields: of a constant the pieces (its bit, the word's bit, how many bits).
 K = {
@@ -66,9 +67,8 @@ def signed(value, width):
 
 
 def rows():
-    with open(TABLE, encoding="utf-8") as file:
-        found = re.findall(r'row \(codes "([^"]*)"\) (?:\(codes "([^"]*)"\)|\[\]) (\w+) 0x(\w+) 0x(\w+)', file.read())
-    return [Row(name, operands, form, int(op1, 16), int(op2, 16)) for name, operands, form, op1, op2 in found]
+    found = [line.split("|") for line in TABLE.read_text(encoding="utf-8").splitlines()]
+    return [Row(*texts, int(op1, 16), int(op2, 16)) for *texts, op1, op2 in found]
 
 
 ROWS = rows()

@@ -274,7 +274,7 @@ def parsed(given):
     """The arguments."""
     parser = arguments.Parser("elf")
     parser.add_argument("plan", nargs="?")
-    parser.add_argument("--vectors", nargs=2, type=lambda text: int(text, 16))
+    parser.add_argument("--vectors", nargs=2, type=names.address)
     parser.add_argument("--all", action="store_true")
     parser.add_argument("--json", action="store_true")
     return parser.parsed(given)

@@ -1,4 +1,5 @@
 """Plans: their numbers, how many areas they have, and where their keys stand."""
+import collections
 import json
 
 from sources import Unusable, bytes_of, shown
@@ -23,8 +24,8 @@ def demand_single_keys(path):
     """Raises Unusable if an object of a plan has a key twice: tcd silently takes the last."""
 
     def pairs(items):
-        keys = [key for key, _ in items]
-        if twice := sorted({key for key in keys if keys.count(key) > 1}):
+        counts = collections.Counter(key for key, _ in items)
+        if twice := sorted(key for key, count in counts.items() if count > 1):
             raise Unusable(f"{shown(path)}: a key is there twice: {shown(', '.join(twice))}")
         return dict(items)
 

@@ -6,8 +6,9 @@
 
 The tables: the rows as a definition (tc_isa/specs/Rows.antt), the fields that each row names
 (tc_isa/src/row_uses.rt), the index by codes (tc_encode/src/index.rt), the operands of each row
-(tc_stmt/src/row_wants.rt), the index by names (tc_stmt/src/row_index.rt), and the list for
-engineers (docs/instructions.md). The number of rows is written to ROW_COUNT (tc_isa/src/table.rt).
+(tc_stmt/src/row_wants.rt), the index by names (tc_stmt/src/row_index.rt), the list for engineers
+(docs/instructions.md), and the one that the scripts read (tools/instructions.txt). The number of
+rows is written to ROW_COUNT (tc_isa/src/table.rt).
 What a row does is written by hand, in tc_isa/specs/Meanings.antt and tc_isa/src/row_meanings.rt;
 the list has it from there. Nothing here is trusted: the checks of tc_isa, tc_encode and tc_stmt
 prove that each table except the list is that of the rows.
@@ -62,6 +63,11 @@ def listed(all_rows):
     text = lambda t: f'(codes "{t}")' if t else "[]"
     lines = [f"    row {text(n)} {text(o)} {f} 0x{a:02x} 0x{b:02x} ∷" for n, o, f, a, b in all_rows]
     return "table_rows =\n" + "\n".join(lines) + "\n    []\n"
+
+
+def for_scripts(all_rows):
+    """The rows for the scripts, one a line: tools/ needs nothing of crates/ to decode."""
+    return "".join(f"{n}|{o}|{f}|{a:02x}|{b:02x}\n" for n, o, f, a, b in all_rows)
 
 
 def items(name, kind, values, count=None):
@@ -211,13 +217,14 @@ def main():
         "tc_encode/src/index.rt": index(all_rows),
         "tc_stmt/src/row_wants.rt": {"pub static WANTS": by_rows("pub static WANTS", "&[Want]", all_rows, wants)},
         "tc_stmt/src/row_index.rt": index_of_names(all_rows),
+        "../tools/instructions.txt": {"": for_scripts(all_rows)},
         "../docs/instructions.md": {re.search(r"^    \d+ encodings", read("../docs/instructions.md"), re.M)[0]: listed_by_name(all_rows)},
     }
     old, touched = {}, set()
     for path, parts in tables.items():
         old[path] = text = read(path)
         for name, new in parts.items():
-            text = replace_item(text, name, new)
+            text = replace_item(text, name, new) if name else new
         if text != old[path]:
             with open(f"{CRATES}/{path}", "w", encoding="utf-8") as out:
                 out.write(text)

@@ -16,6 +16,7 @@ import hashlib
 import json
 import pathlib
 import re
+import shlex
 import urllib.parse
 
 import arguments
@@ -80,7 +81,7 @@ def log(command, done, found):
         "tool": {"driver": {"name": "tcd", "rules": [rule_of(found)] if found else []}},
         "invocations": [
             {
-                "commandLine": " ".join(command),
+                "commandLine": shlex.join(command),
                 "exitCode": explain.status_of(done),
                 "executionSuccessful": done.returncode in (tcd.DONE, tcd.REFUSED),
             }

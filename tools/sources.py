@@ -93,8 +93,12 @@ def raw_line(path, number):
 
 
 def line_of(path, number):
-    """Line `number` of a file without blanks around it, or an empty text if there is none."""
-    return raw_line(path, number).strip()
+    """Line `number` of a file for a reader: without blanks around it; UTF-8, if that is what it is."""
+    line = raw_line(path, number).strip()
+    try:
+        return line.encode("latin-1").decode()
+    except UnicodeDecodeError:
+        return line
 
 
 def statement_of(path, number):

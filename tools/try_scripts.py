@@ -45,6 +45,7 @@ CASES = {
             "P none.elf board.json firmware.cert page.html",
             "P firmware.elf board.json firmware.cert page.html board.layout sum.s main.s",
             "P firmware.elf board.json firmware.cert firmware.cert",
+            "P firmware.elf board.json firmware.cert board.layout",
         ],
     },
     "worst_run.py": {
@@ -116,7 +117,7 @@ CASES = {
     "try_examples.py": {5: [""], 2: ["none"]},
     "try_memory.py": {5: [""], 2: ["none"]},
     "picture.py": {5: [""], 2: ["none"]},
-    "hostile.py": {5: ["", "P P", "--jobs x P"], 2: ["none"]},
+    "hostile.py": {5: ["", "P P", "--jobs x P", "--jobs 0 P"], 2: ["none"]},
     "try_names.py": {5: ["x"]},
     "rows.py": {5: ["--chek"]},
     "map.py": {5: ["none"]},

@@ -33,7 +33,7 @@ import plans
 import program as tcd
 from frames import Graph
 from page import Page, esc
-from sources import Unusable, shown
+from sources import Unusable, bytes_of, shown
 
 HERE = pathlib.Path(__file__).resolve().parent
 
@@ -146,6 +146,13 @@ class View:
         )
 
 
+def demand_page(path):
+    """Raises Unusable if PAGE is there and is no page: a forgotten word would replace that file."""
+    file = pathlib.Path(path)
+    if file.is_file() and not bytes_of(file).lower().startswith(b"<!doctype html"):
+        raise Unusable(f"{shown(path)}: it is there and is no page, so it isn't replaced")
+
+
 def main(given):
     """Reads the words, writes the page, and gives the exit status."""
     parser = arguments.Parser("program", "elf", "plan", "cert", "page")
@@ -154,6 +161,7 @@ def main(given):
     given = parser.parsed(given)
     more = [given.cells, *(given.tasks or [])[:1], *given.names]
     arguments.demand_apart([given.page], [given.elf, given.plan, given.cert, *more])
+    demand_page(given.page)
     with tempfile.TemporaryDirectory() as folder:
         program = tcd.found(given.program)
         asked = judged.Judged(program, given.elf, given.plan, folder, given.cells, given.tasks)

@@ -26,6 +26,8 @@ handlers change, and lets the devices answer what the code compares with. What n
 in a row from a device, exact words from it at several places, or long counting, may not be found in
 a minute. A script has 100,000 turns, so a longer start hides all after it.
 
+Interrupted (Ctrl-C), it writes the best run so far.
+
 Exit status: 0 reached N, 1 not reached, 2 a file or program that can't be used, 5 wrong arguments.
 """
 import json

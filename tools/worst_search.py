@@ -9,6 +9,7 @@ number that is new.
 
 import collections
 import random
+import sys
 import time
 
 from worst_machine import SMALL, Ends, Reached
@@ -300,10 +301,17 @@ class Search:
     def __init__(self, world, seconds, seed, fixed):
         self.w, self.fixed, self.until = world, fixed, time.monotonic() + seconds
         self.draw, self.steps, self.trials, self.contents = random.Random(seed), 0, [], {}
+        #: progress, for a person at a terminal
+        self.is_watched, self.told = sys.stderr.isatty(), 0
 
     def in_time(self):
-        if time.monotonic() > self.until:
+        now = time.monotonic()
+        if now > self.until:
             raise TimeoutError
+        if self.is_watched and now > self.told + 1:
+            self.told = now
+            told = f"{self.w.peak} of {self.w.graph.areas}, {self.until - now:.0f} s left"
+            print(f"\r{told:30}\r", end="", file=sys.stderr, flush=True)
 
     def shared(self, m):
         """What the machine's ram holds; equal contents are one object."""
@@ -369,7 +377,7 @@ class Search:
                     return self.climb()
 
     def go(self):
-        """Searches until N is reached or the time is over."""
+        """Searches until N is reached, the time is over, or somebody stops it."""
         if self.w.graph.areas == 0:
             return
         try:
@@ -380,7 +388,7 @@ class Search:
                 self.in_time()
                 if trial := self.chosen():
                     self.slice(trial)
-        except (Reached, TimeoutError):
+        except (Reached, TimeoutError, KeyboardInterrupt):
             pass
 
     def first(self):

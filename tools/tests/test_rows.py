@@ -38,6 +38,10 @@ class Instructions(beside.InFolder):
         page = (beside.TOP / "docs" / "instructions.md").read_text()
         self.assertTrue(page.endswith(f"\n\n{rows.listed_by_name(ROWS)}"), "run tools/rows.py")
 
+    def test_the_scripts_have_the_rows(self):
+        text = (beside.TOOLS / "instructions.txt").read_text()
+        self.assertEqual(text, rows.for_scripts(ROWS), "run tools/rows.py")
+
     def test_names_tell_the_length(self):
         for row in ROWS:
             self.assertEqual("16" in row[0], row[3] % 2 == 0, row[0])

@@ -125,3 +125,10 @@ class Shown(unittest.TestCase):
     def test_control_characters(self):
         self.assertEqual(sources.shown("a\x1b[0m\nb\udc80"), "a\\x1b[0m\\nb\\udc80")
         self.assertEqual(sources.shown("prüfung speed.s"), "prüfung speed.s")
+
+
+class Lines(beside.InFolder):
+    def test_a_line_is_shown_as_it_was_written(self):
+        for text in ("mov d0, 1 # Größe".encode(), "mov d0, 1 # Größe".encode("latin-1")):
+            self.put("a.s", text + b"\n")
+            self.assertEqual(sources.line_of("a.s", 1), "mov d0, 1 # Größe")
