@@ -22,8 +22,8 @@ import tempfile
 import time
 
 from boots import CORE, Bench, board, scrambler, sequence
-from machine import link_of
-from program import of_words
+from tcdlib.machine import link_of
+from tcdlib.program import of_words
 
 ENTRY, AT, START = 0x80000000, 0x80000800, 0x80001000
 END = ENTRY + 12  # where main goes round

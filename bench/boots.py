@@ -6,13 +6,13 @@
 PROGRAM is a built tcd. For each plan `bootgen` writes the sequence, `asm` and `link` put it beside
 a small firmware, `cert` certifies that, and `boot` says yes. Then
 
-- the machine of tools/machine.py begins at the sequence with random registers, core registers, ram,
+- the machine of tools/tcdlib/machine.py begins at the sequence with random registers, core registers, ram,
   save areas and bytes of rom that no segment holds, and gets random events: it has to run inside
   the sequence with interrupts off, one event after another, and to end in a start state of the
   plan, each field of which is compared. Nothing but word 0 of each area may have been stored.
 - `run` begins at code that puts random words into all of these, goes through the sequence, and ends
   in code that compares all that the plan says with what is there, and dies at an address that tells
-  what differs. The printed line has to be that of tools/machine.py.
+  what differs. The printed line has to be that of tools/tcdlib/machine.py.
 
 For the first plan one bit of each byte of the sequence is turned: `boot` has to name that byte, and
 it is told how many of these the machine notices. No plan has areas up to 2^32, since a link names
@@ -27,10 +27,10 @@ import sys
 import tempfile
 
 sys.path.insert(0, str(pathlib.Path(__file__).resolve().parent.parent / "tools"))
-import hostile_readers as readers
-import machine
-from machine import Event, Machine, link_of
-from program import of_words
+from tcdlib import formats as readers
+from tcdlib import machine
+from tcdlib.machine import Event, Machine, link_of
+from tcdlib.program import of_words
 
 RESETS = 5  # states at reset for each plan
 RUNS = 3  # runs of the program's machine for each plan

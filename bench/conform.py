@@ -7,7 +7,7 @@ It needs rt and qemu-system-tricore (Debian: qemu-system-misc).
 
 Three machines do each step from the same state: the proved crate `tc_machine`, in a small program
 that this script writes and builds in a temporary directory; QEMU's TriCore board, over its gdb
-stub; and `tools/machine.py`. Compared after each step are D0 to D15, A0 to A15, PSW, PC, PCXI, FCX,
+stub; and `tools/tcdlib/machine.py`. Compared after each step are D0 to D15, A0 to A15, PSW, PC, PCXI, FCX,
 LCX, ICR, ISP, BTV and BIV, whether the machine died and of what, and each word of a window of
 memory with 16 save areas. The whole memory of the board is compared at the end.
 
@@ -36,8 +36,8 @@ import time
 
 TOP = pathlib.Path(__file__).resolve().parent.parent
 sys.path.insert(0, str(TOP / "tools"))
-import hostile_readers as readers
-from machine import DECODER, LAYOUTS, Event, Machine, address_of, link_of
+from tcdlib import formats as readers
+from tcdlib.machine import DECODER, LAYOUTS, Event, Machine, address_of, link_of
 
 WORD = 0xFFFFFFFF
 # The board's memory. F0000000 to F0000003 are a device that ends the emulator.
@@ -553,7 +553,7 @@ class Bench:
         python = (*self.python.step(before, event, core), self.python.window())
         self.done += 1
         if done != python:
-            self.tell("tools/machine.py differs", label, before, done, python)
+            self.tell("tools/tcdlib/machine.py differs", label, before, done, python)
         return done
 
     def beside(self, row, label, operands, before, done, after, window):
@@ -775,7 +775,7 @@ class Bench:
             differ = [at + 4 * i for i, word in enumerate(words) if word != ours.get(at + 4 * i, 0)]
             if differ or self.stub and self.stub.memory(at, size) != python:
                 self.wrong += 1
-                print(f"memory from {at:08X} on differs; tools/machine.py: {len(differ)} words")
+                print(f"memory from {at:08X} on differs; tools/tcdlib/machine.py: {len(differ)} words")
         return sum(size for _, size in BOARD)
 
     def summary(self, part):

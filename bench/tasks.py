@@ -11,9 +11,9 @@ gets to the start of the tasks. Then for each case
 
 - `run` is done for scripts of every length, with each interrupt at every instruction from the start
   of the tasks on (those of the switch routine in turn among them), and with random turns. Each
-  printed line has to be that of tools/machine.py.
+  printed line has to be that of tools/tcdlib/machine.py.
 - at each boundary of these runs, and of others from random states in which the tasks start under
-  random events, the machine of tools/machine.py is looked at: the chains of all tasks and the free
+  random events, the machine of tools/tcdlib/machine.py is looked at: the chains of all tasks and the free
   ones hold each area once; together the tasks hold no more than `tasks` printed, each no more than
   its need; FCX is at the limit exactly where all areas but the reserve are in use; and each store
   lies in a range of ram or of devices, and misses the block but for the routine's own.
@@ -27,11 +27,11 @@ import sys
 import tempfile
 
 sys.path.insert(0, str(pathlib.Path(__file__).resolve().parent.parent / "tools"))
-import hostile_readers as readers
-import machine
+from tcdlib import formats as readers
+from tcdlib import machine
 from boots import Bench, board
-from machine import Event, Machine, address_of, chain, link_of
-from program import of_words
+from tcdlib.machine import Event, Machine, address_of, chain, link_of
+from tcdlib.program import of_words
 
 EXAMPLE = pathlib.Path(__file__).resolve().parent.parent / "examples" / "two_tasks"
 START_UP, SWITCH, TEXT, FIRST_TASK = 0x80006000, 0x80000040, 0x80000400, 0x80001000

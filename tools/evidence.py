@@ -35,15 +35,15 @@ import shutil
 import sys
 import tempfile
 
-import arguments
-import hostile_readers as readers
-import judged
 import names
-import plans
-import program as tcd
 import view
-from arguments import Refused
-from sources import Unusable, bytes_of, shown
+from tcdlib import arguments
+from tcdlib import formats as readers
+from tcdlib import judged
+from tcdlib import plans
+from tcdlib import program as tcd
+from tcdlib.arguments import Refused
+from tcdlib.sources import Unusable, bytes_of, shown
 
 DOCUMENT = view.HERE.parent / "docs" / "safety.md"
 #: what docs/safety.md calls the claim of each command, in its table of claims

@@ -30,16 +30,16 @@ import re
 import sys
 import tempfile
 
-import arguments
-import causes
-import meanings
 import names
-import origins
-import plans
-import program as tcd
-import sources
-from frames import Listing, hex8, key_of
-from sources import Unusable, shown
+from tcdlib import arguments
+from tcdlib import causes
+from tcdlib import meanings
+from tcdlib import origins
+from tcdlib import plans
+from tcdlib import program as tcd
+from tcdlib import sources
+from tcdlib.frames import Listing, hex8, key_of
+from tcdlib.sources import Unusable, shown
 
 #: the commands that judge a certificate which is given, and what may be wrong with it
 GIVEN = ("check", "report", "boot", "cells", "tasks")

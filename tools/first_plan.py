@@ -22,14 +22,14 @@ import json
 import re
 import sys
 
-import arguments
-import judged
 import known
-import machine
 import names
-import sources
-from hostile_readers import elf
-from sources import Unusable
+from tcdlib import arguments
+from tcdlib import judged
+from tcdlib import machine
+from tcdlib import sources
+from tcdlib.formats import elf
+from tcdlib.sources import Unusable
 
 WORD = machine.WORD
 CORE = {

@@ -26,14 +26,14 @@ import json
 import sys
 import tempfile
 
-import arguments
-import judged
 import names
-import plans
-import program as tcd
-from arguments import Refused
-from frames import Graph
-from sources import Unusable, bytes_of, shown
+from tcdlib import arguments
+from tcdlib import judged
+from tcdlib import plans
+from tcdlib import program as tcd
+from tcdlib.arguments import Refused
+from tcdlib.frames import Graph
+from tcdlib.sources import Unusable, bytes_of, shown
 
 FORMAT = "tcd needs 1"
 #: the frame of the start: its function may get another name

@@ -11,7 +11,7 @@ aren't known: with --all each word of data that names an address after a return 
 followed, too, which is a guess.
 
 Apart from the counts, what isn't known is listed by name. **The names, and where unknown jumps go,
-are from memory of the manual** (tools/known_rows.py) and were not compared with it.
+are from memory of the manual** (tools/tcdlib/known_rows.py) and were not compared with it.
 
 That all instructions are known makes no certificate: `tcd cert` also asks for known targets,
 bounded stores and no recursion (docs/code.md).
@@ -22,12 +22,12 @@ wrong arguments.
 import collections
 import json
 
-import arguments
-import hostile_readers as readers
-import judged
-import known_rows
-import machine
 import names
+from tcdlib import arguments
+from tcdlib import formats as readers
+from tcdlib import judged
+from tcdlib import known_rows
+from tcdlib import machine
 
 CLASSES = {"sys": 6, "aln": 2}
 SECTION_SYMBOLS, FUNCTION = 2, 2

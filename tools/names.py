@@ -18,10 +18,10 @@ import bisect
 import re
 import tempfile
 
-import arguments
-import program as tcd
-import sources
-from sources import Unusable, shown
+from tcdlib import arguments
+from tcdlib import program as tcd
+from tcdlib import sources
+from tcdlib.sources import Unusable, shown
 
 #: a label farther before an address than this says nothing about it
 NEAR = 1 << 20

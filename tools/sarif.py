@@ -19,9 +19,9 @@ import re
 import shlex
 import urllib.parse
 
-import arguments
 import explain
-import program as tcd
+from tcdlib import arguments
+from tcdlib import program as tcd
 
 SCHEMA = "https://json.schemastore.org/sarif-2.1.0.json"
 

@@ -25,15 +25,15 @@ wrong arguments.
 import pathlib
 import tempfile
 
-import arguments
 import explain
-import judged
 import names
-import plans
-import program as tcd
-from frames import Graph
-from page import Page, esc
-from sources import Unusable, bytes_of, shown
+from tcdlib import arguments
+from tcdlib import judged
+from tcdlib import plans
+from tcdlib import program as tcd
+from tcdlib.frames import Graph
+from tcdlib.page import Page, esc
+from tcdlib.sources import Unusable, bytes_of, shown
 
 HERE = pathlib.Path(__file__).resolve().parent
 
@@ -136,8 +136,8 @@ class View:
         title = esc(pathlib.Path(self.judged.given[0]).name)
         parts = {**parts, "listing": "Listing"}
         nav = "".join(f"<a href=#{place}>{name}</a>" for place, name in parts.items())
-        style = (HERE / "view.css").read_text(encoding="utf-8")
-        script = (HERE / "view.js").read_text(encoding="utf-8")
+        style = (HERE / "tcdlib" / "view.css").read_text(encoding="utf-8")
+        script = (HERE / "tcdlib" / "view.js").read_text(encoding="utf-8")
         return (
             "<!doctype html><html lang=en><meta charset=utf-8>"
             "<meta name=viewport content='width=device-width,initial-scale=1'>"

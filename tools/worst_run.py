@@ -36,14 +36,14 @@ import sys
 import tempfile
 import time
 
-import arguments
-import judged
 import names
-import program as tcd
-import worst_graph
-import worst_machine
-import worst_search
-from sources import Unusable, shown
+from tcdlib import arguments
+from tcdlib import judged
+from tcdlib import program as tcd
+from tcdlib import worst_graph
+from tcdlib import worst_machine
+from tcdlib import worst_search
+from tcdlib.sources import Unusable, shown
 
 MOST_POINTS = 8
 

@@ -1,0 +1,182 @@
+#!/usr/bin/env python3
+"""Tries the builds of examples/ in copies: python3 tests/try_builds.py PROGRAM
+
+PROGRAM is the built tcd (crates/tcd/out/tcd). With Make, each target of motor_control/Makefile, for
+the firmware beside it, for start_up (a boot sequence), tasks_start_up (tasks) and cells; that a
+refusal ends the build and leaves no certificate, and that an output that is also an input is
+refused. With CMake, the same targets of motor_control and its tests, whose report has to hold
+`certified 20 of 20 areas`. What isn't installed isn't tried, which is printed.
+
+Exit status: 0 all is well, 1 something isn't, 2 no such program, 5 wrong arguments.
+"""
+import pathlib
+import shutil
+import sys
+import tempfile
+
+import scratch
+from tcdlib import program as tcd
+
+CERTIFIED, TOOLS = "certified 20 of 20 areas", scratch.TOP / "tools"
+#: by example: settings on the command line, targets with a line that they print
+MAKES = {
+    "motor_control": (
+        (),
+        (
+            ("all", CERTIFIED),
+            ("check", CERTIFIED),
+            ("run", "events 1585 peak 20 running"),
+            ("page", ""),
+            ("growth", "20 of 20 areas"),
+            ("growth", "    interrupt 40            6    6"),
+            ("evidence", CERTIFIED),
+            ("explain", CERTIFIED),
+            ("ship", CERTIFIED),
+        ),
+    ),
+    "start_up": (
+        (),
+        (
+            ("bootgen", "boot 56 instructions"),
+            ("ship", "certified 3 of 6 areas"),
+            ("check", "boot 77 events certified 3 of 6 areas"),
+            ("run", "events 65 peak 3 running"),
+            ("worst", "reached 3 of 3"),
+            ("page", ""),
+            ("growth", "3 of 6 areas"),
+            ("evidence", "boot 77 events certified 3 of 6 areas"),
+        ),
+    ),
+    "tasks_start_up": (
+        (),
+        (
+            ("all", "certified 8 of 8 areas in 2 tasks"),
+            ("check", "certified 8 of 8 areas in 2 tasks"),
+            ("run", "events 513 peak 5 running"),
+            ("page", ""),
+            ("growth", "5 of 8 areas"),
+            ("evidence", "certified 8 of 8 areas in 2 tasks"),
+            ("explain", "certified 8 of 8 areas in 2 tasks"),
+        ),
+    ),
+    "cells": (
+        ("-f", "../motor_control/Makefile", "SOURCES=main.s key.s", "CELLS=modes.cells"),
+        (
+            ("all", "certified 5 of 6 areas with 1 cells"),
+            ("check", "certified 5 of 6 areas with 1 cells"),
+            ("page", ""),
+            ("growth", "5 of 6 areas"),
+            ("evidence", "certified 5 of 6 areas with 1 cells"),
+        ),
+    ),
+}
+#: what `make clean` leaves of what targets wrote
+KEPT = {"needs.json", "evidence"}
+#: settings with which an output is also an input
+CLASHES = ("CERTS=board.json", "CERTS=./main.s", "SOURCES=boot.s BOOT=80000800", "CELLS=page.html")
+
+
+class Bench:
+    """A copy of an example beside one of motor_control, and what was wrong in it."""
+
+    def __init__(self, program, example, room):
+        self.program, self.example, self.tried, self.wrong = program, example, 0, []
+        self.folder = pathlib.Path(room) / example
+        for name in {example, "motor_control"}:
+            (pathlib.Path(room) / name).mkdir()
+            scratch.copied(name, pathlib.Path(room) / name)
+        self.before = self.files()
+
+    def files(self):
+        return {path.name for path in self.folder.iterdir()}
+
+    def holds(self, what, is_so, printed=""):
+        """Counts one thing that has to be so."""
+        self.tried += 1
+        if not is_so:
+            self.wrong.append(f"{self.example}: {what}: {printed.strip()[-300:]!r}")
+
+    def ran(self, *words):
+        out, err, status = scratch.run(list(words), self.folder)
+        return out + err, status
+
+    def does(self, what, line, *words):
+        """A command has to end well and to print a line."""
+        printed, status = self.ran(*words)
+        self.holds(what, status == 0 and line in printed.splitlines() + [""], printed)
+
+    def make(self, target, *settings):
+        names = (f"TCD={self.program}", f"TOOLS={TOOLS}", f"PYTHON={sys.executable}")
+        return ["make", *settings, target, *names]
+
+
+def make(bench):
+    """Each target of an example, and `clean`."""
+    settings, targets = MAKES[bench.example]
+    for target, line in targets:
+        bench.does(f"make {target}", line, *bench.make(target, *settings))
+    bench.holds("make page writes page.html", "page.html" in bench.files())
+    bench.does("make clean", "", *bench.make("clean", *settings))
+    bench.holds("make clean leaves the rest", bench.files() == bench.before | KEPT)
+
+
+def refused(bench):
+    """A fault in a source ends the build, and the certificate of the older executable is gone."""
+    bench.does("make all", CERTIFIED, *bench.make("all"))
+    shutil.copy(scratch.EXAMPLES / "motor_control" / "broken" / "faults.s", bench.folder)
+    for target in ("all", "explain"):
+        printed, status = bench.ran(*bench.make(target))
+        bench.holds(f"a refusal ends {target}", status == 2 and "refused K14" in printed, printed)
+        bench.holds("a refusal leaves no certificate", "firmware.cert" not in bench.files())
+
+
+def clashes(bench):
+    """An output that is also an input is refused before anything is written."""
+    for settings in CLASHES:
+        printed, status = bench.ran(*bench.make("all", *settings.split(" ")))
+        is_told = "an output is also an input" in printed
+        bench.holds(settings, status == 2 and is_told and bench.files() == bench.before, printed)
+
+
+def cmake(bench):
+    """The same targets with CMake, and its tests."""
+    bench.does("cmake", "", "cmake", "-B", "build", f"-DTCD={bench.program}", f"-DTOOLS={TOOLS}")
+    for target, line in MAKES["motor_control"][1]:
+        bench.does(f"cmake {target}", line, "cmake", "--build", "build", "--target", target)
+        if target == "growth":
+            bench.does("cmake again", "", "cmake", "build")
+    bench.does("ctest", "", "ctest", "--test-dir", "build", "--output-junit", "areas.xml")
+    report = bench.folder / "build" / "areas.xml"
+    text = report.read_text() if report.exists() else ""
+    bench.holds("the report has the line of `check`", CERTIFIED in text, text)
+    printed, status = bench.ran("cmake", f"-DTCD={bench.program}", ".")
+    is_told = status == 1 and "folder of its own" in printed
+    bench.holds("a build beside its inputs", is_told, printed)
+
+
+def has(tool):
+    """Whether a tool of a build is installed; of ctest one that can write a report."""
+    if tool == "ctest" and shutil.which("ctest"):
+        words = scratch.run(["ctest", "--help"], ".")[0]
+        return bool(shutil.which("cmake")) and "--output-junit" in words
+    return bool(shutil.which(tool))
+
+
+def main(arguments):
+    program, tried, wrong = tcd.of_words(arguments, __doc__, 1), 0, []
+    builds = [("make", make, example) for example in MAKES]
+    builds += [("make", refused, "motor_control"), ("make", clashes, "motor_control")]
+    for tool, build, example in [*builds, ("ctest", cmake, "motor_control")]:
+        if not has(tool):
+            print(f"{build.__name__} is not tried: {tool} isn't installed, or is too old")
+            continue
+        with tempfile.TemporaryDirectory() as room:
+            bench = Bench(program, example, room)
+            build(bench)
+        tried, wrong = tried + bench.tried, wrong + bench.wrong
+    print("\n".join([*wrong, f"{tried} steps tried, {len(wrong)} wrong"]))
+    return 1 if wrong else 0
+
+
+if __name__ == "__main__":
+    sys.exit(main(sys.argv[1:]))

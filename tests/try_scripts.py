@@ -1,0 +1,175 @@
+#!/usr/bin/env python3
+"""Gives the scripts wrong words and files that can't be used: python3 tests/try_scripts.py PROGRAM
+
+PROGRAM is the built tcd (crates/tcd/out/tcd). `--help` has to end with status 0. For all else a
+script has to end with the status that the case names, to print one line on standard error, and
+never a traceback.
+
+Exit status: 0 all do so, 1 one doesn't, 2 no such program, 5 wrong words.
+"""
+import pathlib
+import sys
+import tempfile
+
+import scratch
+from tcdlib.program import of_words
+
+#: words that worst_run.py can use; P is the program
+FILES = "firmware.elf board.json firmware.cert --tcd P"
+BUILD = "P firmware.elf board.json firmware.cert"
+#: where the scripts are
+FOLDERS = ("tools", "tests", "maintain")
+#: for each script and status the words that end with it
+CASES = {
+    "names.py": {
+        5: ["", "firmware.elf board.layout", "--at 80000000", "firmware.elf --at xyz"],
+        2: [
+            "firmware.elf none.layout main.s sum.s --tcd P",
+            "firmware.elf board.layout none.s --tcd P",
+            "firmware.elf board.layout sum.s main.s --tcd P",
+            "firmware.elf board.layout main.s sum.s --tcd none",
+            "none.elf",
+            "firmware.elf",
+            "cut.elf",
+        ],
+    },
+    "explain.py": {
+        5: ["", "board.layout main.s", "board.layout main.s --"],
+        2: [
+            "board.layout main.s -- none cert firmware.elf board.json x.cert",
+            "-- P cert firmware.elf board.json firmware.elf",
+        ],
+    },
+    "view.py": {
+        5: ["", "P firmware.elf"],
+        2: [
+            "none firmware.elf board.json firmware.cert page.html",
+            "P none.elf board.json firmware.cert page.html",
+            "P firmware.elf board.json firmware.cert page.html board.layout sum.s main.s",
+            "P firmware.elf board.json firmware.cert firmware.cert",
+            "P firmware.elf board.json firmware.cert board.layout",
+        ],
+    },
+    "worst_run.py": {
+        5: ["", "firmware.elf", f"{FILES} --seconds x", f"{FILES} --bogus"],
+        2: [
+            "firmware.elf board.json firmware.cert --tcd none",
+            "none.elf board.json firmware.cert --tcd P",
+            "cut.elf board.json firmware.cert --tcd P",
+            "firmware.elf none.json firmware.cert --tcd P",
+            "firmware.elf cut.json firmware.cert --tcd P",
+            "firmware.elf board.json none.cert --tcd P",
+            "firmware.elf board.json cut.cert --tcd P",
+            f"{FILES} --in 7 0 0",
+            f"{FILES} --cells none.cells",
+            f"{FILES} --cells board.layout",
+            f"{FILES} --names none.layout main.s",
+            f"{FILES} --names board.layout sum.s main.s",
+            f"{FILES} -o none/worst.script",
+            f"{FILES} -o board.json",
+        ],
+    },
+    "evidence.py": {
+        5: ["", "P case a", "--again P case a", "P case a b c --boot 0 --cells c"],
+        2: [
+            "none case firmware.elf board.json firmware.cert",
+            "P case none.elf board.json firmware.cert",
+            "P case firmware.elf cut.json firmware.cert",
+            "P case firmware.elf board.json firmware.cert --cells none.cells",
+            "--again P none",
+            "--again P .",
+        ],
+    },
+    "growth.py": {
+        5: ["", BUILD, f"{BUILD} --most x", f"{BUILD} --save a --against b", f"{BUILD} l --most 9"],
+        2: [
+            f"{BUILD} --against none.json",
+            f"{BUILD} --against board.json",
+            f"{BUILD} --against cut.json",
+            f"{BUILD} --save firmware.cert",
+            f"{BUILD} --save none/needs.json",
+            f"{BUILD} board.layout sum.s main.s --most 9",
+            f"{BUILD} --most 9 --tasks board.layout 0",
+            "none firmware.elf board.json firmware.cert --most 9",
+            "P firmware.elf board.json cut.cert --most 9",
+        ],
+    },
+    "first_plan.py": {
+        5: ["", "firmware.elf --bogus", "firmware.elf board.layout x"],
+        2: ["none.elf", "cut.elf", "firmware.elf main.s", "firmware.elf -o board.json"],
+    },
+    "sarif.py": {
+        5: ["", "board.layout main.s", "--json -- P cert firmware.elf board.json x.cert"],
+        2: [
+            "-- none cert firmware.elf board.json x.cert",
+            "-- P cert firmware.elf board.json board.json",
+        ],
+    },
+    "known.py": {
+        5: ["", "firmware.elf --bogus", "firmware.elf --vectors x y"],
+        2: ["none.elf", "cut.elf", "firmware.elf none.json", "firmware.elf cut.json", "board.json"],
+    },
+    "try_worst.py": {5: [""], 2: ["none", "P none"]},
+    "try_pages.py": {5: ["", "P P"], 2: ["none"]},
+    "try_schema.py": {5: ["", "P P"], 2: ["none"]},
+    "try_page.py": {5: ["", "P P"], 2: ["none"]},
+    "try_builds.py": {5: ["", "P P"], 2: ["none"]},
+    "try_largest.py": {5: ["", "P P"], 2: ["none"]},
+    "run.py": {5: [""], 2: ["none"]},
+    "try_examples.py": {5: [""], 2: ["none"]},
+    "try_memory.py": {5: [""], 2: ["none"]},
+    "picture.py": {5: [""], 2: ["none"]},
+    "try_hostile.py": {5: ["", "P P", "--jobs x P", "--jobs 0 P"], 2: ["none"]},
+    "try_names.py": {5: ["x"]},
+    "rows.py": {5: ["--chek"]},
+    "map.py": {5: ["none"]},
+    "claim.py": {5: ["none", "--bogus"]},
+    "chains.py": {2: ["none"]},
+    "weight.py": {5: ["--bogus"], 2: ["none"]},
+}
+
+
+def prepared(program, folder):
+    """An example that is built, and cut files beside it."""
+    scratch.built(program, "one_call", folder)
+    for name in ("firmware.elf", "board.json", "firmware.cert"):
+        data = (folder / name).read_bytes()
+        (folder / f"cut.{name.split('.')[1]}").write_bytes(data[: len(data) // 2])
+
+
+def fault_of(program, script, text, wanted, folder):
+    """What is wrong with how a script ends, or None."""
+    words = [program if word == "P" else word for word in text.split()]
+    path = next(str(each) for folder in FOLDERS if (each := scratch.TOP / folder / script).exists())
+    out, err, status = scratch.run([sys.executable, path, *words], folder)
+    if "Traceback" in out + err:
+        return f"a traceback: {err.strip().splitlines()[-1]}"
+    if status != wanted:
+        return f"status {status} in place of {wanted}: {(err or out)[:200]!r}"
+    lines = len(err.splitlines())
+    if wanted == 0 and (lines or not out):
+        return f"nothing is printed, or {err[:200]!r}"
+    if wanted == 2 and (lines != 1 or out):
+        return f"{lines} lines of errors: {err[:200]!r}"
+    if wanted == 5 and lines > 1:
+        return f"{lines} lines of errors: {err[:200]!r}"
+    return None
+
+
+def main(words):
+    program, tried, wrong = of_words(words, __doc__, 1), 0, 0
+    with tempfile.TemporaryDirectory() as room:
+        prepared(program, pathlib.Path(room))
+        for script, cases in CASES.items():
+            for wanted, texts in [*cases.items(), (0, ["--help"])]:
+                for text in texts:
+                    tried += 1
+                    if fault := fault_of(program, script, text, wanted, room):
+                        wrong += 1
+                        print(f"{script} {text}: {fault}")
+    print(f"{tried} cases tried, {wrong} wrong")
+    return 1 if wrong else 0
+
+
+if __name__ == "__main__":
+    sys.exit(main(sys.argv[1:]))

@@ -1,0 +1,244 @@
+"""The map from addresses to names and lines."""
+import re
+import struct
+import unittest
+
+import beside
+from tcdlib import frames
+import names
+from tcdlib.sources import Unusable
+
+LAYOUT = """entry main
+place t 80000000 00000100
+place v 80000200 00000020
+place r D0008000 00000100
+"""
+ONE = ".section t\nmain: call f\n ret16\n.section v\n rfe16\n"
+TWO = ".section t\nf: inner: nop\n.section r\ncount:\n.section nowhere\nlost:\n"
+
+
+class Read(beside.InFolder):
+    """The map of what `tcd link` writes."""
+
+    def setUp(self):
+        super().setUp()
+        files = [self.put("one.s", ONE), self.put("two.s", TWO)]
+        self.known = names.read(self.put("l", LAYOUT), files)
+
+    def test_labels(self):
+        self.assertEqual(
+            [row[:2] for row in self.known.labels],
+            [(0x80000000, "main"), (0x80000008, "f"), (0x80000200, "v"), (0xD0008000, "count")],
+        )
+
+    def test_names(self):
+        for at, name, place in (
+            (0x80000000, "main", "one.s:2"),
+            (0x80000004, "main+4", "one.s:3"),
+            (0x80000006, "main+6", ""),
+            (0x8000000A, "f+2", "two.s:2"),
+            (0x80000200, "v", "one.s:5"),
+            (0x7FFFFFFE, "7FFFFFFE", ""),
+            (0xF0000000, "F0000000", ""),
+        ):
+            self.assertEqual((self.known.name(at), self.known.place(at)), (name, place))
+
+    def test_an_empty_map(self):
+        empty = names.Map()
+        self.assertFalse(empty)
+        self.assertEqual((empty.name(16), empty.line(16), empty.place(16)), ("00000010", None, ""))
+
+    def test_the_first_label_of_an_address_names_it(self):
+        path = self.put("s.s", ".section t\nzeta:\nalpha: nop\n")
+        self.assertEqual(names.read("l", [path]).name(0x80000004), "zeta+4")
+
+    def test_faults_of_the_script(self):
+        for words, status in (
+            (["--help"], 0),
+            ([], 5),
+            (["f.elf", "l"], 5),
+            (["f.elf", "--at"], 5),
+            (["f.elf", "--at", "main"], 5),
+            (["f.elf", "--wrong"], 5),
+            (["l"], 2),
+            (["none"], 2),
+            (["f.elf", "l", "one.s", "--tcd", "./none"], 2),
+        ):
+            done = self.script("names.py", *words)
+            self.assertEqual(done.returncode, status, words)
+            self.assertEqual(len(done.stderr.splitlines()), int(status != 0), words)
+
+
+@beside.needs_program
+class OfTheExecutable(beside.InFolder):
+    """Names come only from the sources that link to the executable."""
+
+    files = ("firmware.elf", "board.json", "firmware.cert")
+
+    def setUp(self):
+        super().setUp()
+        self.sources = self.example("nested_interrupts")
+        self.linked(self.sources)
+        self.tcd("cert", "firmware.elf", "board.json", "firmware.cert")
+        self.names_from = ["board.layout", *self.sources]
+        self.put("other.s", ".section text\nf: nop nop\n")
+
+    def printed(self, *names_from, at=("80000034", "0x8000000a")):
+        words = ["firmware.elf", *names_from, "--tcd", beside.program()]
+        return self.script("names.py", *words, *(["--at", *at] if at else []))
+
+    def test_the_script(self):
+        found = self.printed(*self.names_from).stdout
+        self.assertEqual(found, "80000034 count handlers.s:35\n8000000A work+2 main.s:10\n")
+        first = self.printed(*self.names_from, at=()).stdout.splitlines()[0]
+        self.assertEqual(first, "80000000 main main.s:6")
+
+    def test_other_sources(self):
+        layout, *paths = self.names_from
+        for words, told in (
+            ([layout, *reversed(paths)], "don't link to it"),
+            ([layout, paths[0]], "don't link to it"),
+            ([layout, *paths, paths[0]], "`link` prints: bad link 1 name main"),
+            ([layout, "other.s"], "other.s: no names, as `asm` prints: bad source 3 at 0 2"),
+            ([layout, "none.s"], "none.s: no names"),
+            (["none.layout", *paths], "none.layout: no names"),
+            ([".", *paths], ".: no names"),
+        ):
+            done = self.printed(*words)
+            self.assertEqual((done.returncode, done.stdout), (2, ""), words)
+            self.assertIn(told, done.stderr)
+            self.assertEqual(len(done.stderr.splitlines()), 1, words)
+
+    def test_each_script_asks_the_same(self):
+        swapped, files = ["board.layout", *reversed(self.sources)], self.files
+        for script, words in (
+            ("explain.py", [*swapped, "--", beside.program(), "check", *files]),
+            ("view.py", [beside.program(), *files, "page.html", *swapped]),
+            ("worst_run.py", [*files, "--tcd", beside.program(), "--names", *swapped]),
+        ):
+            done = self.script(script, *words)
+            self.assertEqual(done.returncode, 2, script)
+            self.assertIn("don't link to it", done.stderr)
+            self.assertEqual(len(done.stderr.splitlines()), 1, script)
+            self.assertFalse((self.folder / "page.html").exists())
+            self.assertFalse((self.folder / "worst.script").exists())
+
+    def test_ship_names_its_own_sources(self):
+        plan = (self.folder / "board.json").read_text()
+        self.put("few.json", plan.replace('"areas": 12', '"areas": 5'))
+        swapped = ["board.layout", *reversed(self.sources)]
+        ship = [beside.program(), "ship", "few.json", "board.layout", "f.elf", "f.cert"]
+        done = self.script("explain.py", *swapped, "--", *ship, *self.sources)
+        self.assertEqual(done.returncode, 1)
+        self.assertIn("main.s:7: error: K14 at main", done.stderr)
+
+    def test_objects_of_other_sources(self):
+        objects = [f"{path[:-2]}.o" for path in self.sources]
+        link = ["--", beside.program(), "link", "board.layout", "f.elf"]
+        for words, status in ((objects, 0), (objects[::-1], 2), (objects[:1], 2)):
+            done = self.script("explain.py", *self.names_from, *link, *words)
+            self.assertEqual((done.returncode, bool(done.stderr)), (status, status != 0), words)
+
+    def test_an_output_that_is_an_input(self):
+        for script, words in (
+            ("view.py", [beside.program(), *self.files, "./board.json"]),
+            ("view.py", [beside.program(), *self.files, "main.s", *self.names_from]),
+            ("worst_run.py", [*self.files, "--tcd", beside.program(), "-o", "firmware.cert"]),
+            ("explain.py", ["--", beside.program(), "asm", "main.s", "main.s"]),
+            ("explain.py", ["--", beside.program(), "cert", *self.files[:2], "board.json"]),
+        ):
+            done = self.script(script, *words)
+            self.assertEqual((done.returncode, done.stdout), (2, ""), words)
+            self.assertIn("the output is also an input", done.stderr)
+            self.assertEqual(len(done.stderr.splitlines()), 1, words)
+
+
+def elf_with(symbols):
+    """A little-endian ELF32 with a symbol table: (name, value, info, section) each."""
+    texts, entries = b"\0", b"\0" * 16
+    for name, value, info, section in symbols:
+        entries += struct.pack("<IIIBBH", len(texts), value, 0, info, 0, section)
+        texts += name + b"\0"
+    header = b"\x7fELF\x01\x01\x01" + b"\0" * 9
+    sections_at = 52 + len(entries) + len(texts)
+    header += struct.pack("<HHIIIIIHHHHHH", 2, 44, 1, 0, 0, sections_at, 0, 52, 32, 0, 40, 3, 0)
+    table = struct.pack("<10I", *[0] * 10)
+    table += struct.pack("<10I", 0, 2, 0, 0, 52, len(entries), 2, 0, 4, 16)
+    table += struct.pack("<10I", 0, 3, 0, 0, 52 + len(entries), len(texts), 0, 0, 1, 0)
+    return header + entries + texts + table
+
+
+FUNCTION, NO_TYPE, GLOBAL_FUNCTION, SECTION, FILE = 2, 0, 0x12, 3, 4
+
+
+class ReadElf(beside.InFolder):
+    """The map from the symbols of another linker."""
+
+    def test_functions_come_first(self):
+        symbols = [
+            (b"label", 0x80000000, NO_TYPE, 1),
+            (b"local", 0x80000000, FUNCTION, 1),
+            (b"main", 0x80000000, GLOBAL_FUNCTION, 1),
+            (b"", 0x80000004, FUNCTION, 1),
+            (b"undefined", 0, GLOBAL_FUNCTION, 0),
+            (b"file.c", 0, FILE, 0xFFF1),
+            (b".text", 0x80000000, SECTION, 1),
+            (b"device", 0xF0000000, NO_TYPE, 0xFFF1),
+        ]
+        known = names.read_elf(self.put("a.elf", elf_with(symbols)))
+        self.assertEqual(known.at[0x80000000], ["main", "local", "label"])
+        self.assertEqual(known.name(0xF0000004), "device+4")
+        self.assertEqual(known.place(0x80000000), "")
+
+    @beside.needs_program
+    def test_vectors_are_called_by_their_sections(self):
+        self.example("gnu_ld")
+        known = names.read_elf("firmware.elf")
+        self.assertEqual(known.name(0x80002280), ".vector_20")
+        self.assertEqual(known.at[0x80000000], ["main"])
+
+    def test_cut_files(self):
+        whole = elf_with([(b"main", 0x80000000, FUNCTION, 1)])
+        for length in range(len(whole)):
+            with self.assertRaises(Unusable):
+                names.read_elf(self.put("a.elf", whole[:length]))
+
+    def test_changed_bytes_give_a_map_or_one_line(self):
+        whole = elf_with([(b"main", 0x80000000, FUNCTION, 1), (b"f", 0x80000010, FUNCTION, 1)])
+        for place in range(len(whole)):
+            for byte in (0, 1, 0x7F, 0xFF):
+                path = self.put("a.elf", whole[:place] + bytes([byte]) + whole[place + 1 :])
+                try:
+                    names.read_elf(path)
+                except Unusable as e:
+                    self.assertNotIn("\n", str(e))
+
+
+@beside.needs_program
+class AgainstListings(beside.InFolder):
+    """Each statement lies where the program's own listing has its instruction."""
+
+    def test_examples(self):
+        tried = 0
+        for path in sorted(beside.EXAMPLES.glob("*/expected")):
+            paths = self.example(path.parent.name)
+            if any(not (self.folder / name).exists() for name in paths):
+                continue  # a source that a command of `expected` writes
+            self.linked(paths)
+            listing = frames.Listing(self.tcd("dis", "firmware.elf"))
+            known = names.read("board.layout", paths)
+            tried += len([self.looked_at(row, listing) for row in known.rows])
+        self.assertGreater(tried, 500)
+
+    def looked_at(self, row, listing):
+        """Compares the mnemonic of a statement's line with that of the listing."""
+        at, size, file, number = row
+        line = (self.folder / file).read_text().split("\n")[number - 1].split("#")[0]
+        word = re.sub(r"^\s*[\w.$]+\s*:", "", line).split()[0]
+        if not word.startswith("."):
+            found = listing.texts.get(frames.hex8(at), "")
+            self.assertEqual(found.split(" ")[0], word, f"{file}:{number}")
+
+
+if __name__ == "__main__":
+    unittest.main()

@@ -1,0 +1,84 @@
+"""Plans: their numbers, how many areas they have, and where their keys stand."""
+import collections
+import json
+
+from tcdlib.sources import Unusable, bytes_of, shown
+
+MOST_AREAS, AREA = 4096, 64
+#: the areas lie in the first bytes of a segment
+SEGMENT, SEGMENT_AREAS = 1 << 28, 1 << 22
+
+
+def read(path):
+    """A plan as JSON, or Unusable."""
+    try:
+        plan = json.loads(bytes_of(path))
+    except (ValueError, RecursionError) as e:
+        raise Unusable(f"{shown(path)}: not JSON: {e}") from None
+    if not isinstance(plan, dict):
+        raise Unusable(f"{shown(path)}: not a JSON object")
+    return plan
+
+
+def demand_single_keys(path):
+    """Raises Unusable if an object of a plan has a key twice: tcd silently takes the last."""
+
+    def pairs(items):
+        counts = collections.Counter(key for key, _ in items)
+        if twice := sorted(key for key, count in counts.items() if count > 1):
+            raise Unusable(f"{shown(path)}: a key is there twice: {shown(', '.join(twice))}")
+        return dict(items)
+
+    try:
+        json.loads(bytes_of(path), object_pairs_hook=pairs)
+    except (ValueError, RecursionError) as e:
+        raise Unusable(f"{shown(path)}: not JSON: {e}") from None
+
+
+def number(value):
+    """A number of a plan."""
+    return int(value, 16) if isinstance(value, str) else int(value)
+
+
+def areas_of(path):
+    """How many areas the plan of a file has, and how many of them are the reserve."""
+    csa = read(path)["csa"]
+    return number(csa["areas"]), number(csa["reserve"])
+
+
+def ranges(plan):
+    """The ranges of a plan that the save areas may not touch."""
+    for name in ("rom", "ram", "devices"):
+        for each in plan[name]:
+            yield number(each["at"]), number(each["at"]) + number(each["len"])
+
+
+def with_room(plan):
+    """The plan with the most areas that a plan may have, at a place that nothing else uses."""
+    taken = list(ranges(plan))
+    size = MOST_AREAS * AREA
+    for segment in range(0, 16 * SEGMENT, SEGMENT):
+        for at in range(segment + AREA, segment + SEGMENT_AREAS - size, size):
+            if all(at + size <= begin or end <= at for begin, end in taken):
+                csa = {"at": at, "areas": MOST_AREAS, "reserve": plan["csa"]["reserve"]}
+                return {**plan, "csa": csa}
+    return None
+
+
+def json_fault(text):
+    """What Python's reader says of a plan that isn't JSON, and its line."""
+    try:
+        json.loads(text)
+    except (ValueError, RecursionError) as e:
+        return f"not JSON: {getattr(e, 'msg', e)}", getattr(e, "lineno", None)
+    return None
+
+
+def key_line(text, key):
+    """The line of a plan's key: behind the line of the object that holds it."""
+    line = None
+    for name in key.split("."):
+        later = enumerate(text.split("\n")[line - 1 if line else 0 :], line or 1)
+        found = next((n for n, row in later if f'"{name}"' in row), None)
+        line = found or line
+    return line
