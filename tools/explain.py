@@ -166,6 +166,8 @@ class Explainer:
         if rule == "3" and address == key.entry and key.kind in meanings.NO_CODE_AT_ENTRY:
             meaning = meanings.NO_CODE_AT_ENTRY[key.kind]
             more = self.callers(key) if key.kind == "call" else {}
+        elif rule == "3":
+            more = self.callers(key, address)
         if rule == "14" and not task:
             meaning, more = self.no_areas(address, key)
         if rule in ON_ADDRESSES:
@@ -199,14 +201,16 @@ class Explainer:
             notes.append(self.note(self.ring.lowering, message))
         return meaning, {"notes": notes}
 
-    def callers(self, key):
-        """Notes on the calls that may enter a frame without code; the fault is at the first."""
+    def callers(self, key, address=None):
+        """Notes on the calls that may enter a frame without code, or on the jumps to an address
+        without code; the fault is at the first."""
         notes = []
-        for point, entry in self.by_listing(causes.callers_of, key) or []:
+        for point, entry in self.by_listing(causes.callers_of, key, address) or []:
             message = "this address is called"
             if entry is not None:
                 word = f"the word at {self.known.name(entry)} ({hex8(entry)})"
-                message = f"`calli` may take {word} of its table, which is {key.entry}"
+                way = "`ji`" if address else "`calli`"
+                message = f"{way} may take {word} of its table, which is {address or key.entry}"
             notes.append(self.note(point, message))
         if not notes:
             return {}

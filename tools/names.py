@@ -9,18 +9,21 @@
                                                   ADDRESS NAME+OFFSET FILE:LINE
 
 Name all sources, in the order in which their objects were linked. tcd links them again in a scratch
-folder: if that doesn't give ELF, no name is printed. A section that begins without a label, as
-vectors mostly do, is called by its own name.
+folder: if that doesn't give ELF, no name is printed. Only data may differ that was written into ELF
+after the link, as a checksum is: standard error names its lines. A section that begins without a
+label, as vectors mostly do, is called by its own name.
 
 Exit status: 0 done, 2 a file or a program that can't be used, 5 wrong arguments.
 """
 import bisect
 import re
+import sys
 import tempfile
 
 from tcdlib import arguments
 from tcdlib import program as tcd
 from tcdlib import sources
+from tcdlib.formats.binary import Bad, elf as read_image
 from tcdlib.sources import Unusable, shown
 
 #: a label farther before an address than this says nothing about it
@@ -128,11 +131,43 @@ def linked(program, layout, paths, folder):
     return elf
 
 
+def patched(again, elf, layout, paths):
+    """The lines of data that were written after the link; None if more differs than such lines."""
+    try:
+        entry, segments = read_image(sources.bytes_of(again))
+        other, held = read_image(sources.bytes_of(elf))
+    except Bad:
+        return None
+    if entry != other or [(at, len(b)) for at, b in segments] != [(at, len(b)) for at, b in held]:
+        return None
+    known, lines = read(layout, paths), {}
+    for (at, ours), (_, theirs) in zip(segments, held):
+        for place in range(len(ours)):
+            if ours[place] == theirs[place]:
+                continue
+            line = known.line(at + place)
+            text = sources.statement_of(*line) if line else ""
+            text = sources.LABEL.sub("", text, count=1).strip()
+            if text.partition(" ")[0] not in sources.DATA_SIZES:
+                return None
+            lines[line] = None
+    return list(lines)
+
+
 def demand(program, elf, layout, paths):
-    """Raises Unusable unless the layout and the sources link to an executable."""
+    """Raises Unusable unless the layout and the sources link to an executable.
+
+    Data may have been written into it after the link: its lines are said on standard error.
+    """
     with tempfile.TemporaryDirectory() as folder:
         again = linked(program, layout, paths, folder)
         is_same = sources.bytes_of(again) == sources.bytes_of(elf)
+        lines = None if is_same else patched(again, elf, layout, paths)
+    if lines:
+        places = ", ".join(f"{shown(path)}:{line}" for path, line in lines[:4])
+        more = f" and {len(lines) - 4} more" if len(lines) > 4 else ""
+        print(f"{shown(elf)}: other data than in {places}{more}", file=sys.stderr)
+        return
     if not is_same:
         listed = shown(" ".join(map(str, paths)))
         raise Unusable(

@@ -54,9 +54,9 @@ class Tables:
         kind, address = self.value(register, *self.where[at])
         if kind == "address":
             return [hex8(address & ~1)]
-        found = []
+        found, stride = [], self.stride(*self.where[at])
         while kind == "table" and len(found) < TABLE:
-            at = address + 4 * len(found)
+            at = address + stride * len(found)
             word = self.word(at)
             is_next = bool(found) and at in self.begins
             if is_next or word is None or hex8(word & ~1) not in self.listing.texts:
@@ -72,20 +72,34 @@ class Tables:
         """
         section, place = self.where[at]
         kind, address = self.value(self.listing.texts[at].split(" ")[-1], section, place)
-        bound = self.bound(section, place, devices) or TABLE
+        bound, stride = self.bound(section, place, devices) or TABLE, self.stride(section, place)
         for number in range(bound if kind == "table" else 0):
-            word = self.word(address + 4 * number)
-            if word is None or (number and bound == TABLE and address + 4 * number in self.begins):
+            entry = address + stride * number
+            word = self.word(entry)
+            if word is None or (number and bound == TABLE and entry in self.begins):
                 return
-            yield address + 4 * number, word
+            yield entry, word
+
+    def scaled(self, section, place):
+        """The place of the `addsc.a` before an indirect call, or None."""
+        lines = self.listing.sections[section][1]
+        return next(
+            (back for back in range(place - 1, max(-1, place - 1 - LOOK_BACK), -1)
+             if lines[back].text.startswith("addsc.a")), None,
+        )  # fmt: skip
+
+    def stride(self, section, place):
+        """How many bytes a record of the table takes before an indirect call: 4 for plain words."""
+        scaled = self.scaled(section, place)
+        if scaled is None:
+            return 4
+        operands = origins.parts(self.listing.sections[section][1][scaled].text)[1]
+        return max(4, 1 << int(operands[3]))
 
     def bound(self, section, place, devices):
         """How many words the index before an indirect call may name, or None."""
         lines = self.listing.sections[section][1]
-        scaled = next(
-            (back for back in range(place - 1, max(-1, place - 1 - LOOK_BACK), -1)
-             if lines[back].text.startswith("addsc.a")), None,
-        )  # fmt: skip
+        scaled = self.scaled(section, place)
         if scaled is None:
             return 1
         index = origins.parts(lines[scaled].text)[1][2]
@@ -277,27 +291,29 @@ class Walk:
         return min(lowers, default=None)
 
 
-#: a call that may enter an address, and the word of its table that is this address, or None
+#: a call or a jump that may come to an address, and the word of its table that is it, or None
 Caller = collections.namedtuple("Caller", "point entry")
 
 
-def callers(listing, plan, entry, key):
-    """The calls of a frame's priority that may enter it by the listing; no `call` twice."""
+def callers(listing, plan, entry, key, address=None):
+    """The calls of a frame's priority that may enter it by the listing; no `call` twice.
+
+    With an address: the `ji` of the frame that may come to it.
+    """
     try:
         walk = Walk(listing, plan, entry)
     except (KeyError, ValueError, TypeError, AttributeError):
         return []
-    found = {}
+    found, through = {}, ("ji", "ji16") if address else ("calli",)
     for frame, point in walk.states:
-        if frame.prio != key.prio or listing.word(point) not in CALLS:
-            continue
-        if listing.word(point) != "calli":
-            if listing.target(point) == key.entry:
-                found[point] = None
-            continue
-        for at, word in walk.tables.entries(point, plan["devices"]):
-            if hex8(word & ~1) == key.entry:
-                found.setdefault(point, at)
+        word = listing.word(point)
+        is_asked = frame == key if address else frame.prio == key.prio
+        if is_asked and word in through:
+            for at, held in walk.tables.entries(point, plan["devices"]):
+                if hex8(held & ~1) == (address or key.entry):
+                    found.setdefault(point, at)
+        elif is_asked and not address and word in CALLS and listing.target(point) == key.entry:
+            found[point] = None
     return [Caller(*each) for each in sorted(found.items())]
 
 
@@ -321,10 +337,10 @@ def entry_of(elf):
     return hex8(int.from_bytes(bytes_of(elf)[24:28], "little"))
 
 
-def callers_of(program, elf, plan, key):
-    """The calls that may enter a frame, from the files of the command."""
+def callers_of(program, elf, plan, key, address=None):
+    """The calls that may enter a frame, or the jumps to an address, from the command's files."""
     listing = Listing(tcd.printed(program, "dis", elf)[0])
-    return callers(listing, plans.read(plan), entry_of(elf), key)
+    return callers(listing, plans.read(plan), entry_of(elf), key, address)
 
 
 def ring_of(program, elf, plan, key, address):
