@@ -29,8 +29,16 @@ ENTRY, AT, START = 0x80000000, 0x80000800, 0x80001000
 END = ENTRY + 12  # where main goes round
 # The board has 48 KB of memory from D0000000 on, and rom at 80000000.
 PLAN = board(
-    rom=[(0x80000000, 0x4000)], ram=[(0xD0000000, 0x4000)], csa=(0xD0004000, 64, 7), sp=0xD0002000, isp=0xD0003FF8, biv=0x80002000, btv=0x80003000,
-    start=(0, 5, 1), globals=(0xD0000100, 0xD0008000, 0xFFFF8000, 0x7FFF))
+    rom=[(0x80000000, 0x4000)],
+    ram=[(0xD0000000, 0x4000)],
+    csa=(0xD0004000, 64, 7),
+    sp=0xD0002000,
+    isp=0xD0003FF8,
+    biv=0x80002000,
+    btv=0x80003000,
+    start=(0, 5, 1),
+    globals=(0xD0000100, 0xD0008000, 0xFFFF8000, 0x7FFF),
+)
 # The code after the sequence reads what can't be seen from outside.
 MAIN = """\
 .section text
@@ -50,8 +58,24 @@ class Emulator:
     def __init__(self, folder, elf):
         path = str(folder / "control")
         self.process = subprocess.Popen(
-            ["qemu-system-tricore", "-M", "tricore_testboard", "-display", "none", "-serial", "none", "-monitor", "none", "-kernel", elf,
-             "-qmp", f"unix:{path},server=on,wait=off"], cwd=folder, stdin=subprocess.DEVNULL)
+            [
+                "qemu-system-tricore",
+                "-M",
+                "tricore_testboard",
+                "-display",
+                "none",
+                "-serial",
+                "none",
+                "-monitor",
+                "none",
+                "-kernel",
+                elf,
+                "-qmp",
+                f"unix:{path},server=on,wait=off",
+            ],
+            cwd=folder,
+            stdin=subprocess.DEVNULL,
+        )
         self.socket = socket.socket(socket.AF_UNIX)
         for _ in range(100):
             try:
@@ -79,10 +103,14 @@ class Emulator:
     def registers(self):
         """PC, PSW, ICR, PCXI, FCX, LCX and all D and A."""
         found, text = {}, self.told("info registers")
-        for name, values in re.findall(r"(PC|PSW|ICR|PCXI|FCX|LCX|GPR A\d\d|GPR D\d\d):((?: ?[0-9a-f]{8})+)", text):
+        for name, values in re.findall(
+            r"(PC|PSW|ICR|PCXI|FCX|LCX|GPR A\d\d|GPR D\d\d):((?: ?[0-9a-f]{8})+)", text
+        ):
             numbers = [int(word, 16) for word in values.split()]
             if name.startswith("GPR"):
-                found.update({f"{name[4]}{int(name[5:]) + i}": value for i, value in enumerate(numbers)})
+                found.update(
+                    {f"{name[4]}{int(name[5:]) + i}": value for i, value in enumerate(numbers)}
+                )
             else:
                 found[name] = numbers[0]
         return found
@@ -99,7 +127,13 @@ class Emulator:
 def wanted(plan, end):
     """Of a start state, the registers that can be seen; BIV, BTV and ISP are in D8 to D10."""
     areas, first = plan["csa"], link_of(plan["csa"]["at"])
-    out = {"PC": end, "PCXI": 0, "FCX": first, "LCX": first + areas["areas"] - areas["reserve"], "ICR": plan["start"]["ccpn"]}
+    out = {
+        "PC": end,
+        "PCXI": 0,
+        "FCX": first,
+        "LCX": first + areas["areas"] - areas["reserve"],
+        "ICR": plan["start"]["ccpn"],
+    }
     out.update({f"A{name[1:]}": value for name, value in plan["globals"].items()})
     return {**out, "A10": plan["sp"], "D8": plan["biv"], "D9": plan["btv"], "D10": plan["isp"]}
 
@@ -113,9 +147,20 @@ def main():
         boot = sequence(bench, ENTRY, AT)
         bench.linked("firmware.elf", "main", [("text", MAIN, ENTRY), ("s0", boot, AT)])
         bench.says("certified 0 of 57 areas", "cert", "firmware.elf", "board.json", "firmware.cert")
-        bench.says(f"boot {53 + 3 * areas['areas']} events certified 0 of 57 areas", "boot", "firmware.elf", "board.json", "firmware.cert", f"{AT:08X}")
+        bench.says(
+            f"boot {53 + 3 * areas['areas']} events certified 0 of 57 areas",
+            "boot",
+            "firmware.elf",
+            "board.json",
+            "firmware.cert",
+            f"{AT:08X}",
+        )
         core = [name for name in CORE if name not in ("psw", "icr")]
-        parts = [("text", MAIN, ENTRY), ("s0", boot, AT), ("scramble", scrambler(PLAN, draw, core), START)]
+        parts = [
+            ("text", MAIN, ENTRY),
+            ("s0", boot, AT),
+            ("scramble", scrambler(PLAN, draw, core), START),
+        ]
         bench.linked("tried.elf", "scramble", parts)
         emulator = Emulator(bench.folder, str(bench.folder / "tried.elf"))
         seen = emulator.registers()
@@ -137,7 +182,9 @@ def main():
     if len(set(words)) < 900:
         bench.fault("the areas weren't made random before")
     compared = len(wanted(PLAN, 0)) + 1
-    print(f"{compared} registers and the links of {areas['areas']} areas compared: {bench.wrong} wrong")
+    print(
+        f"{compared} registers and the links of {areas['areas']} areas compared: {bench.wrong} wrong"
+    )
     sys.exit(1 if bench.wrong else 0)
 
 

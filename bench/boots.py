@@ -34,7 +34,16 @@ from tcdlib.program import of_words
 
 RESETS = 5  # states at reset for each plan
 RUNS = 3  # runs of the program's machine for each plan
-CORE = {"psw": 0xFE04, "pcxi": 0xFE00, "fcx": 0xFE38, "lcx": 0xFE3C, "biv": 0xFE20, "btv": 0xFE24, "isp": 0xFE28, "icr": 0xFE2C}
+CORE = {
+    "psw": 0xFE04,
+    "pcxi": 0xFE00,
+    "fcx": 0xFE38,
+    "lcx": 0xFE3C,
+    "biv": 0xFE20,
+    "btv": 0xFE24,
+    "isp": 0xFE28,
+    "icr": 0xFE2C,
+}
 ENDS = "    .half 0x000C\n"  # no instruction: the machine dies here
 
 
@@ -49,21 +58,41 @@ def board(**changed):
         "start": (0, 0, 0), "globals": (0x12345678, 0x9ABCDEF0, 0x7FFF8000, 0xFFFF7FFF), "core": "1.3",
     }  # fmt: skip
     plan.update(changed)
-    for key, names in (("rom", ("at", "len")), ("ram", ("at", "len")), ("devices", ("at", "len", "lo", "hi"))):
+    for key, names in (
+        ("rom", ("at", "len")),
+        ("ram", ("at", "len")),
+        ("devices", ("at", "len", "lo", "hi")),
+    ):
         plan[key] = [dict(zip(names, r)) for r in plan[key]]
-    for key, names in (("csa", ("at", "areas", "reserve")), ("start", ("ie", "ccpn", "is")), ("globals", ("a0", "a1", "a8", "a9"))):
+    for key, names in (
+        ("csa", ("at", "areas", "reserve")),
+        ("start", ("ie", "ccpn", "is")),
+        ("globals", ("a0", "a1", "a8", "a9")),
+    ):
         plan[key] = dict(zip(names, plan[key]))
     return plan
 
 
 def drawn_plan(draw):
     """A plan with random words and a random list of areas."""
-    word = lambda: draw.choice([draw.getrandbits(32), draw.getrandbits(16) << 16 | draw.choice([0, 0x7FFF, 0x8000, 0xFFFF])])
+    word = lambda: draw.choice(
+        [
+            draw.getrandbits(32),
+            draw.getrandbits(16) << 16 | draw.choice([0, 0x7FFF, 0x8000, 0xFFFF]),
+        ]
+    )
     areas = draw.choice([1, 2, 3, 17, 200])
     segment, offset = draw.choice([0, 1, 5, 0xA, 0xF]), draw.randrange(1, 0x10000 - areas)
     return board(
-        csa=(segment << 28 | offset << 6, areas, draw.randrange(1, areas + 1)), sp=word(), isp=word(), biv=word() & ~1, btv=word() & ~1,
-        globals=[word() for _ in range(4)], start=(0, draw.randrange(256), draw.randrange(2)), core=draw.choice(["1.3", "1.6"]))
+        csa=(segment << 28 | offset << 6, areas, draw.randrange(1, areas + 1)),
+        sp=word(),
+        isp=word(),
+        biv=word() & ~1,
+        btv=word() & ~1,
+        globals=[word() for _ in range(4)],
+        start=(0, draw.randrange(256), draw.randrange(2)),
+        core=draw.choice(["1.3", "1.6"]),
+    )
 
 
 def plans(draw):
@@ -75,7 +104,9 @@ def plans(draw):
     yield "1 area", board(csa=(0xD0000000, 1, 1)), *usual
     yield "1 area, core 1.6", board(csa=(0xD0000000, 1, 1), core="1.6"), *usual
     yield "4,096 areas", board(csa=(0xD0000000, 4096, 16)), *usual
-    yield "4,096 areas at the end of the highest segment, all reserve, core 1.6", board(csa=(0xF03C0000, 4096, 4096), core="1.6"), *usual
+    yield "4,096 areas at the end of the highest segment, all reserve, core 1.6", board(
+        csa=(0xF03C0000, 4096, 4096), core="1.6"
+    ), *usual
     yield "the highest area alone", board(csa=(0xF03FFFC0, 1, 1)), *usual
     yield "links over 7FFF", board(csa=(0xD01FFF80, 4, 1), ram=[(0xD0100000, 0x1000)]), *usual
     yield "links from 8000 on, core 1.6", board(csa=(0xD0300000, 5, 5), core="1.6"), *usual
@@ -83,10 +114,22 @@ def plans(draw):
     yield "interrupt stack in use", board(start=(0, 0, 1)), *usual
     yield "interrupt stack in use, CCPN 255, core 1.6", board(start=(0, 255, 1), core="1.6"), *usual
     yield "16 ranges of rom and of ram", board(rom=many, ram=rams), 0x80010000, 0x800F3F20
-    yield "rom to the end of memory, the sequence at its end", board(rom=[(0xFFFF8000, 0x8000)], biv=0, btv=0), 0xFFFF8000, 0xFFFFFF20
+    yield "rom to the end of memory, the sequence at its end", board(
+        rom=[(0xFFFF8000, 0x8000)], biv=0, btv=0
+    ), 0xFFFF8000, 0xFFFFFF20
     yield "rom from 0 on", board(rom=[(0, 0x4000)], biv=0x2000, btv=0x3000), 0xE00, 0
-    yield "words at the edges of halves", board(sp=0x7FFF8000, isp=0x80007FFF, biv=0xFFFF8000, btv=0x7FFE, globals=(0x7FFF, 0x8000, 0xFFFFFFFF, 0xFFFF8000)), *usual
-    yield "ram on both sides of the areas, devices behind it", board(csa=(0xD0001000, 16, 3), ram=[(0xD0000000, 0x1000), (0xD0001400, 0xC00)], devices=[(0xD0002000, 64, 1, 9)]), *usual
+    yield "words at the edges of halves", board(
+        sp=0x7FFF8000,
+        isp=0x80007FFF,
+        biv=0xFFFF8000,
+        btv=0x7FFE,
+        globals=(0x7FFF, 0x8000, 0xFFFFFFFF, 0xFFFF8000),
+    ), *usual
+    yield "ram on both sides of the areas, devices behind it", board(
+        csa=(0xD0001000, 16, 3),
+        ram=[(0xD0000000, 0x1000), (0xD0001400, 0xC00)],
+        devices=[(0xD0002000, 64, 1, 9)],
+    ), *usual
     yield "an entry and a sequence at no multiple of 4", board(core="1.6"), 0x80000802, 0x80000002
     for _ in range(3):
         yield "random words", drawn_plan(draw), *usual
@@ -102,7 +145,9 @@ class Bench:
         self.program, self.folder, self.wrong, self.told = program, folder, 0, {}
 
     def tcd(self, *words):
-        done = subprocess.run([self.program, *words], cwd=self.folder, capture_output=True, text=True, check=False)
+        done = subprocess.run(
+            [self.program, *words], cwd=self.folder, capture_output=True, text=True, check=False
+        )
         return done.stdout.strip()
 
     def put(self, name, text):
@@ -126,7 +171,12 @@ class Bench:
             printed = self.tcd("asm", f"{section}.s", f"{section}.o")
             if not printed.startswith("object "):
                 self.fault(f"asm of {section}: {printed}")
-            size = sum(len(held) for _, held in readers.ObjectFile((self.folder / f"{section}.o").read_bytes(), 0).read()[0])
+            size = sum(
+                len(held)
+                for _, held in readers.ObjectFile(
+                    (self.folder / f"{section}.o").read_bytes(), 0
+                ).read()[0]
+            )
             lines.append(f"place {section} {at:08X} {size:08X}")
             objects.append(f"{section}.o")
         self.put("board.layout", "\n".join(lines) + "\n")
@@ -144,7 +194,9 @@ def firmware(spare, at):
 def sequence(bench, entry, at):
     """The source that `bootgen` writes with a label before the first instruction, and two bytes
     more where that isn't to lie at a multiple of 4."""
-    bench.says("boot 56 instructions", "bootgen", "board.json", f"{entry:08X}", f"{at:08X}", "boot.s")
+    bench.says(
+        "boot 56 instructions", "bootgen", "board.json", f"{entry:08X}", f"{at:08X}", "boot.s"
+    )
     section, rest = (bench.folder / "boot.s").read_text().split("\n", 1)
     return "\n".join([section, ".global boot", *["nop16"] * (at % 4 // 2), "boot:", rest])
 
@@ -166,7 +218,12 @@ def at_reset(image, plan, at, draw):
 
 
 def drawn_event(plan, draw):
-    return Event(draw.choice([0, *plan["irqs"]]), draw.getrandbits(32), draw.getrandbits(8), draw.random() < 0.5)
+    return Event(
+        draw.choice([0, *plan["irqs"]]),
+        draw.getrandbits(32),
+        draw.getrandbits(8),
+        draw.random() < 0.5,
+    )
 
 
 def not_started(m, image, plan):
@@ -179,12 +236,22 @@ def not_started(m, image, plan):
     }  # fmt: skip
     out = [name for name, value in wanted.items() if getattr(m, name) != value]
     out += ["links"] * (links != [*range(first + 1, first + areas["areas"]), 0])
-    out += [name for n, name in ((0, "a0"), (1, "a1"), (8, "a8"), (9, "a9")) if m.a[n] != plan["globals"][name]]
-    out += ["sp"] * (m.a[10] != plan["sp"]) + ["IS"] * (m.psw >> 9 & 1 != plan["start"]["is"]) + ["IO"] * (m.psw >> 10 & 3 != 2)
+    out += [
+        name
+        for n, name in ((0, "a0"), (1, "a1"), (8, "a8"), (9, "a9"))
+        if m.a[n] != plan["globals"][name]
+    ]
+    out += (
+        ["sp"] * (m.a[10] != plan["sp"])
+        + ["IS"] * (m.psw >> 9 & 1 != plan["start"]["is"])
+        + ["IO"] * (m.psw >> 10 & 3 != 2)
+    )
     for at, held in image[1]:
         for r in plan["rom"]:
             low, high = max(at, r["at"]), min(at + len(held), r["at"] + r["len"])
-            out += ["rom"] * (low < high and m.memory.bytes(low, high - low) != held[low - at : high - at])
+            out += ["rom"] * (
+                low < high and m.memory.bytes(low, high - low) != held[low - at : high - at]
+            )
     return out
 
 
@@ -224,10 +291,20 @@ def scrambler(plan, draw, core=tuple(CORE)):
     """Code that makes the areas, some ram and all registers random, and goes to the sequence."""
     areas, out = plan["csa"], [".section scramble\n.global scramble\nscramble:\n"]
     small = areas["areas"] <= 64
-    places = [(areas["at"], areas["areas"] * (16 if small else 1), 4 if small else 64)] + [(r["at"], min(r["len"] // 4, 64), 4) for r in plan["ram"]]
+    places = [(areas["at"], areas["areas"] * (16 if small else 1), 4 if small else 64)] + [
+        (r["at"], min(r["len"] // 4, 64), 4) for r in plan["ram"]
+    ]
     for n, (place, count, step) in enumerate(places):
-        out += [words("d1", place), "    mov.a a2, d1\n", words("d1", count - 1), "    mov.a a3, d1\n", words("d0", draw.getrandbits(32))]
-        out += [f"again{n}: addi d0, d0, {draw.randrange(-32768, 32768)}\n    st.w [a2+]{step}, d0\n    loop a3, again{n}\n"]
+        out += [
+            words("d1", place),
+            "    mov.a a2, d1\n",
+            words("d1", count - 1),
+            "    mov.a a3, d1\n",
+            words("d0", draw.getrandbits(32)),
+        ]
+        out += [
+            f"again{n}: addi d0, d0, {draw.randrange(-32768, 32768)}\n    st.w [a2+]{step}, d0\n    loop a3, again{n}\n"
+        ]
     for name in core:
         value = draw.getrandbits(32) & (~0x100 if name == "icr" else 0xFFFFFFFF)
         out += [words("d0", value), f"    mtcr {CORE[name]}, d0\n    isync\n"]
@@ -248,7 +325,13 @@ def comparer(plan, at):
     out = [".section text\n", "nop16\n" * (at % 4 // 2), ".global main\nmain:\n"]
     for name, value in core.items():
         out += [f"    mfcr d0, {CORE[name]}\n", words("d1", value), same]
-    for n, value in [(0, plan["globals"]["a0"]), (1, plan["globals"]["a1"]), (8, plan["globals"]["a8"]), (9, plan["globals"]["a9"]), (10, plan["sp"])]:
+    for n, value in [
+        (0, plan["globals"]["a0"]),
+        (1, plan["globals"]["a1"]),
+        (8, plan["globals"]["a8"]),
+        (9, plan["globals"]["a9"]),
+        (10, plan["sp"]),
+    ]:
         out += [f"    mov.d d0, a{n}\n", words("d1", value), same]
     out += [words("d1", areas["at"]), "    mov.a a2, d1\n", words("d0", first)]
     if areas["areas"] > 1:
@@ -280,7 +363,15 @@ def in_the_program(bench, plan, entry, at, boot, draw):
     taken = [(entry & ~3, 0x600), (at & ~3, 0xE4)]
     spots = [r["at"] + offset for r in plan["rom"] for offset in range(0, r["len"] - size, 0x100)]
     spot = next(x for x in spots if all(x + size <= a or a + n <= x for a, n in taken))
-    bench.linked("tried.elf", "scramble", [("scramble", scrambler(plan, draw), spot), ("s0", boot, at & ~3), ("text", comparer(plan, entry), entry & ~3)])
+    bench.linked(
+        "tried.elf",
+        "scramble",
+        [
+            ("scramble", scrambler(plan, draw), spot),
+            ("s0", boot, at & ~3),
+            ("text", comparer(plan, entry), entry & ~3),
+        ],
+    )
     script = drawn_script(plan, min(100000, 9000 + 16 * plan["csa"]["areas"]), draw)
     bench.put("turns.script", script)
     elf = (bench.folder / "tried.elf").read_bytes()
@@ -300,9 +391,15 @@ def tried(bench, name, plan, entry, at, draw):
     areas = plan["csa"]
     spare = areas["areas"] - areas["reserve"]
     boot = sequence(bench, entry, at)
-    bench.linked("firmware.elf", "main", [("text", firmware(spare, entry), entry & ~3), ("s0", boot, at & ~3)])
+    bench.linked(
+        "firmware.elf",
+        "main",
+        [("text", firmware(spare, entry), entry & ~3), ("s0", boot, at & ~3)],
+    )
     need, events = min(spare, 1), 53 + 3 * areas["areas"]
-    bench.says(f"certified {need} of {spare} areas", "cert", "firmware.elf", "board.json", "firmware.cert")
+    bench.says(
+        f"certified {need} of {spare} areas", "cert", "firmware.elf", "board.json", "firmware.cert"
+    )
     wanted = f"boot {events} events certified {need} of {spare} areas"
     bench.says(wanted, "boot", "firmware.elf", "board.json", "firmware.cert", f"{at:08X}")
     image = readers.elf((bench.folder / "firmware.elf").read_bytes())
@@ -321,15 +418,28 @@ def turned(bench, plan, at, draw):
     begin = elf.index(readers.elf(elf)[1][1][1])
     quiet = collections.Counter()
     for n in range(224):
-        changed = elf[: begin + n] + bytes([elf[begin + n] ^ 1 << draw.randrange(8)]) + elf[begin + n + 1 :]
+        changed = (
+            elf[: begin + n]
+            + bytes([elf[begin + n] ^ 1 << draw.randrange(8)])
+            + elf[begin + n + 1 :]
+        )
         bench.put("turned.elf", changed)
-        bench.says(f"refused boot 4 at {at + n:08X}", "boot", "turned.elf", "board.json", "firmware.cert", f"{at:08X}")
+        bench.says(
+            f"refused boot 4 at {at + n:08X}",
+            "boot",
+            "turned.elf",
+            "board.json",
+            "firmware.cert",
+            f"{at:08X}",
+        )
         if booted(readers.elf(changed), plan, at, draw):
             noticed += 1
         else:
             quiet[machine.DECODER.decode(elf[begin + n // 4 * 4 :][:4])[0]] += 1
     kept = ", ".join(f"{count} in {name}" for name, count in quiet.items())
-    print(f"one bit turned in each of 224 bytes: boot refuses each, the machine notices {noticed}, but not {kept}")
+    print(
+        f"one bit turned in each of 224 bytes: boot refuses each, the machine notices {noticed}, but not {kept}"
+    )
 
 
 def main():
@@ -344,7 +454,9 @@ def main():
             if count == 0:
                 turned(bench, plan, at, draw)
             count += 1
-    print(f"{count} plans, {count * RESETS} random states at reset and {count * RUNS} runs of the program's machine, {events} events: {bench.wrong} wrong")
+    print(
+        f"{count} plans, {count * RESETS} random states at reset and {count * RUNS} runs of the program's machine, {events} events: {bench.wrong} wrong"
+    )
     sys.exit(1 if bench.wrong or count < 20 else 0)
 
 

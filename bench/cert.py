@@ -21,9 +21,17 @@ import counting
 from check import ROM, executable
 
 PLAN = {
-    "rom": [{"at": "0x80000000", "len": "0x100000"}], "ram": [{"at": "0xD0010000", "len": "0x8000"}], "devices": [],
-    "csa": {"at": "0xD0000000", "areas": 8, "reserve": 2}, "sp": "0xD0018000", "isp": "0xD0014000",
-    "biv": "0x800F0000", "btv": "0x800F8000", "irqs": [], "traps": [], "start": {"ie": 0, "ccpn": 0, "is": 0},
+    "rom": [{"at": "0x80000000", "len": "0x100000"}],
+    "ram": [{"at": "0xD0010000", "len": "0x8000"}],
+    "devices": [],
+    "csa": {"at": "0xD0000000", "areas": 8, "reserve": 2},
+    "sp": "0xD0018000",
+    "isp": "0xD0014000",
+    "biv": "0x800F0000",
+    "btv": "0x800F8000",
+    "irqs": [],
+    "traps": [],
+    "start": {"ie": 0, "ccpn": 0, "is": 0},
     "globals": {"a0": 0, "a1": 0, "a8": 0, "a9": 0},
 }
 CODES = {
@@ -52,7 +60,11 @@ def main():
         os.chdir(folder)
         with open("plan.json", "w", encoding="utf-8") as file:
             json.dump(PLAN, file)
-        for shape, counts in (("line", (8192, 16384)), ("moves", (8192, 16384)), ("chain", (4096, 8192))):
+        for shape, counts in (
+            ("line", (8192, 16384)),
+            ("moves", (8192, 16384)),
+            ("chain", (4096, 8192)),
+        ):
             for count in counts:
                 with open("image.elf", "wb") as file:
                     code = b"".join(map(CODES[shape], range(count - 1))) + b"\x3c\0"
@@ -60,7 +72,9 @@ def main():
                 words = [program, "cert", "image.elf", "plan.json", "x.cert"]
                 memory, cert = most_memory(words), instructions(words)
                 check = instructions([program, "check", *words[2:]])
-                print(f"{shape} {count}: cert {cert}, {cert // count} a point, {memory:.0f} MB; check {check}, {check // count} a point")
+                print(
+                    f"{shape} {count}: cert {cert}, {cert // count} a point, {memory:.0f} MB; check {check}, {check // count} a point"
+                )
         for functions in (250, 500):
             print(f"gen {functions}: {instructions([program, 'gen', str(functions)])}")
 

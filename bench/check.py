@@ -100,7 +100,11 @@ def value(words):
 
 def point(at, known, locals, ie, ccpn, lower):
     flags = bytes((len(locals), *locals))
-    return struct.pack("<IBBB", at, ie, ccpn, lower) + flags + b"".join(value(known.get(i)) for i in range(27))
+    return (
+        struct.pack("<IBBB", at, ie, ccpn, lower)
+        + flags
+        + b"".join(value(known.get(i)) for i in range(27))
+    )
 
 
 def node(key, need, points, exit=None):
@@ -118,18 +122,36 @@ def executable(segments):
     at = 52 + 32 * len(segments)
     heads, data = b"", b""
     for address, content in segments:
-        heads += struct.pack("<8I", 1, at + len(data), address, address, len(content), len(content), 5, 1)
+        heads += struct.pack(
+            "<8I", 1, at + len(data), address, address, len(content), len(content), 5, 1
+        )
         data += content
     ident = b"\x7fELF\1\1\1" + bytes(9)
-    return ident + struct.pack("<HHIIIIIHHHHHH", 2, 44, 1, ROM, 52, 0, 0, 52, 32, len(segments), 0, 0, 0) + heads + data
+    return (
+        ident
+        + struct.pack("<HHIIIIIHHHHHH", 2, 44, 1, ROM, 52, 0, 0, 52, 32, len(segments), 0, 0, 0)
+        + heads
+        + data
+    )
 
 
 def plan(stack, irqs, rom=0x100000):
-    return json.dumps({
-        "rom": [{"at": ROM, "len": rom}], "ram": [{"at": RAM, "len": 0x8000}], "devices": [],
-        "csa": {"at": AREAS, "areas": 64, "reserve": 2}, "sp": stack, "isp": ISP, "biv": VECTORS, "btv": VECTORS + 0x8000,
-        "irqs": list(irqs), "traps": [], "start": {"ie": int(len(irqs) > 0), "ccpn": 0, "is": 0},
-        "globals": {"a0": 0, "a1": 0, "a8": 0, "a9": 0}})
+    return json.dumps(
+        {
+            "rom": [{"at": ROM, "len": rom}],
+            "ram": [{"at": RAM, "len": 0x8000}],
+            "devices": [],
+            "csa": {"at": AREAS, "areas": 64, "reserve": 2},
+            "sp": stack,
+            "isp": ISP,
+            "biv": VECTORS,
+            "btv": VECTORS + 0x8000,
+            "irqs": list(irqs),
+            "traps": [],
+            "start": {"ie": int(len(irqs) > 0), "ccpn": 0, "is": 0},
+            "globals": {"a0": 0, "a1": 0, "a8": 0, "a9": 0},
+        }
+    )
 
 
 def line(points):
@@ -155,7 +177,12 @@ def functions(points, width, interrupts):
     size = len(function(0, {}).bytes)
     first = ROM + 0x1000 + 4 * count // 0x1000 * 0x1000
     starts = [first + size * i for i in range(count)]
-    known = {A10: (STACK,), A15: (RAM,), D9: tuple(4 * i for i in range(width)), A14: tuple(RAM + 4 * i for i in range(width))}
+    known = {
+        A10: (STACK,),
+        A15: (RAM,),
+        D9: tuple(4 * i for i in range(width)),
+        A14: tuple(RAM + 4 * i for i in range(width)),
+    }
     codes = [function(at, known) for at in starts]
     main = main_of(starts, points - 4 - len(own) - 101 * count)
     assert main.at <= first and codes[-1].at <= VECTORS
@@ -163,7 +190,11 @@ def functions(points, width, interrupts):
     nodes = [frame((0, ROM, 0, 0), need + 1, main, ie)]
     nodes += [frame((1, code.points[0][0], 0, 0), need, code, ie, ie) for code in codes]
     segments = [(ROM, main.bytes), (first, b"".join(code.bytes for code in codes))]
-    return segments + [(VECTORS, handled)] * interrupts, nodes + own, PRIORITIES if interrupts else []
+    return (
+        segments + [(VECTORS, handled)] * interrupts,
+        nodes + own,
+        PRIORITIES if interrupts else [],
+    )
 
 
 def made(shape, points, width):

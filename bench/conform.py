@@ -775,7 +775,9 @@ class Bench:
             differ = [at + 4 * i for i, word in enumerate(words) if word != ours.get(at + 4 * i, 0)]
             if differ or self.stub and self.stub.memory(at, size) != python:
                 self.wrong += 1
-                print(f"memory from {at:08X} on differs; tools/tcdlib/machine.py: {len(differ)} words")
+                print(
+                    f"memory from {at:08X} on differs; tools/tcdlib/machine.py: {len(differ)} words"
+                )
         return sum(size for _, size in BOARD)
 
     def summary(self, part):

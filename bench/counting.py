@@ -13,7 +13,11 @@ def run(tool, command, environment):
     with tempfile.NamedTemporaryFile() as out:
         done = subprocess.run(
             ["valgrind", "-q", f"--tool={tool}", f"--{tool}-out-file={out.name}", *command],
-            env={**os.environ, **environment}, stdout=subprocess.PIPE, stderr=subprocess.DEVNULL, check=False)
+            env={**os.environ, **environment},
+            stdout=subprocess.PIPE,
+            stderr=subprocess.DEVNULL,
+            check=False,
+        )
         with open(out.name, encoding="utf-8", errors="replace") as file:
             return done.stdout.decode().strip(), file.read()
 

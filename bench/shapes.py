@@ -43,14 +43,21 @@ def plan(rom=(ROM,), ram=(RAM,), most=None, devices=(), areas=64, irqs=(), btv=0
     """A plan's text; one device answers 0 to `most`, others are at, length and the most."""
     devices = devices or [(0xF0000000, 256, most)] * (most is not None)
     ranges = {"rom": rom, "ram": ram}
-    return json.dumps({
-        **{key: [{"at": at, "len": length} for at, length in of] for key, of in ranges.items()},
-        "devices": [{"at": at, "len": n, "lo": 0, "hi": hi} for at, n, hi in devices],
-        "csa": {"at": 0xD0000000, "areas": areas, "reserve": 2},
-        "sp": 0xD0048000, "isp": 0xD0047000, "biv": 0x80200000, "btv": btv,
-        "irqs": list(irqs), "traps": [], "start": {"ie": 0, "ccpn": 0, "is": 0},
-        "globals": {"a0": 0, "a1": 0, "a8": 0, "a9": 0},
-    })
+    return json.dumps(
+        {
+            **{key: [{"at": at, "len": length} for at, length in of] for key, of in ranges.items()},
+            "devices": [{"at": at, "len": n, "lo": 0, "hi": hi} for at, n, hi in devices],
+            "csa": {"at": 0xD0000000, "areas": areas, "reserve": 2},
+            "sp": 0xD0048000,
+            "isp": 0xD0047000,
+            "biv": 0x80200000,
+            "btv": btv,
+            "irqs": list(irqs),
+            "traps": [],
+            "start": {"ie": 0, "ccpn": 0, "is": 0},
+            "globals": {"a0": 0, "a1": 0, "a8": 0, "a9": 0},
+        }
+    )
 
 
 def firmware(lines, board, commands, layout=LAYOUT, cells=""):
@@ -74,8 +81,12 @@ def table(values, section="table"):
 def entry(first=0, a="a14"):
     """An address register becomes the word of the table at D0 after its `first`-th."""
     half = f":table+{4 * first}"
-    return [f"movh.a {a}, hi{half}", f"lea.l {a}, [{a}]lo{half}", f"addsc.a {a}, {a}, d0, 2",
-            f"ld.a.l {a}, [{a}]0"]
+    return [
+        f"movh.a {a}, hi{half}",
+        f"lea.l {a}, [{a}]lo{half}",
+        f"addsc.a {a}, {a}, d0, 2",
+        f"ld.a.l {a}, [{a}]0",
+    ]
 
 
 def by_register(calls, functions, registers=1, known=0, moving=False):
@@ -150,10 +161,12 @@ def frames(main, count, body):
 
 def recursion(count, calls):
     """Functions that call those after them; the last one calls itself."""
+
     def body(i):
         if i == count - 1:
             return ["nop16"] * calls + ["jeq d0, d1, end", f"call f{i}", "end:"]
         return [f"call f{min(count - 1, i + 1 + c % 7)}" for c in range(calls)]
+
     return frames(["call f0"], count, body)
 
 
@@ -164,15 +177,16 @@ def from_end(count):
 
 def chain(count, calls):
     """Functions that call the next one."""
-    return frames(from_end(count), count,
-                  lambda i: [f"call f{i + 1}"] * calls * (i < count - 1))
+    return frames(from_end(count), count, lambda i: [f"call f{i + 1}"] * calls * (i < count - 1))
 
 
 def dag(count, calls, words):
     """Functions that call any of the next ones by a register."""
+
     def body(i):
         of = range(calls * (i < count - 1))
         return [line for c in of for line in entry(i + 1 + words * c) + ["calli a14"]]
+
     lines = frames(ANSWER + from_end(count), count, body)
     return lines + table(f"f{min(i, count - 1)}" for i in range(count + calls * words))
 
@@ -186,9 +200,11 @@ def turns(count):
 def wide(objects):
     """Objects of 64 sections of a word, linked into 64 places."""
     places = [f"place {it} 80{i:02}0000 00010000" for i, it in enumerate(SECTIONS)]
-    files = {"x.s": [".section s10", ".global main", "main: nop16"],
-             "y.s": [f".section {it}\n.word 0" for it in SECTIONS],
-             "x.layout": ["entry main", *places]}
+    files = {
+        "x.s": [".section s10", ".global main", "main: nop16"],
+        "y.s": [f".section {it}\n.word 0" for it in SECTIONS],
+        "x.layout": ["entry main", *places],
+    }
     linked = "link x.layout x.elf x.o" + " y.o" * int(objects)
     return Shape(files, ["asm x.s x.o", "asm y.s y.o"], [linked])
 
@@ -201,54 +217,110 @@ def names(count):
 
 #: the parts of inputs that don't grow
 SCATTERED_LAYOUT = LAYOUT + "".join(
-    f"place r{i} {at:08X} 00000010\n" for i, at in enumerate(PLACES))
+    f"place r{i} {at:08X} 00000010\n" for i, at in enumerate(PLACES)
+)
 CELLS = "".join(f"cell {RAM[0] + 0x104 * i + 4:08X} 00000000 00000003\n" for i in range(12))
 LOOP = ["mov d2, 0", "loop: call g", "jne d2, d3, loop", "ret16", "g: addi d2, d2, 1", "ret16"]
-RECURSION = ["mov d2, 0", "call g", "ret16", "g: addi d2, d2, 1", "jeq d2, d3, end", "call g",
-             "end: ret16"]
+RECURSION = [
+    "mov d2, 0",
+    "call g",
+    "ret16",
+    "g: addi d2, d2, 1",
+    "jeq d2, d3, end",
+    "call g",
+    "end: ret16",
+]
 #: what each input is, and its shape at n times its size
 SHAPES = {
-    "calls64": ("32,000 calls through a register of 64 functions", lambda n: firmware(
-        by_register(32000 * n, 64), plan(most=63), "cert check report")),
-    "calls128": ("4,000 calls through a register of 128 functions", lambda n: firmware(
-        by_register(4000 * n, 128), plan(most=127), "cert check")),
-    "known": ("calls128, with 15 registers of which 128 words each are known", lambda n: firmware(
-        by_register(4000 * n, 128, known=15), plan(most=127), "cert check")),
-    "climb": ("a loop of 20,000 points, 13 registers climb one after another", lambda n: firmware(
-        climb(20000 * n, 13), plan(**MANY, areas=4), "cert")),
-    "pairs": ("a loop of 4,000 `xor` of two sets", lambda n: firmware(
-        pairs(4000 * n), plan(areas=4), "cert check")),
-    "recursion": ("2,000 frames of 30 calls, the last recursive", lambda n: firmware(
-        recursion(int(2000 * n), 30), plan(areas=4000), "cert")),
-    "points": ("one frame of 65,000 points", lambda n: firmware(
-        straight(65000 * n), plan(areas=4), "cert report cfg")),
-    "loop_climb": ("30,000 callers of a loop that calls a counter", lambda n: firmware(
-        callers(30000 * n, LOOP), plan(), "cert")),
-    "recursion_climb": ("30,000 callers of a counter that calls itself", lambda n: firmware(
-        callers(30000 * n, RECURSION), plan(), "cert")),
-    "dag": ("1,900 frames, each calls any of the next 768, from the end", lambda n: firmware(
-        dag(int(1900 * n), 6, 128), plan(most=127, areas=4000), "cert cfg check report")),
-    "adverse": ("a chain of 1,900 frames of 30 calls, from the end", lambda n: firmware(
-        chain(int(1900 * n), 30), plan(areas=4000), "cert")),
-    "too_deep": ("dag with sets of 64, and too few areas", lambda n: firmware(
-        dag(int(1900 * n), 6, 64), plan(most=63), "cert")),
-    "calls_two": ("30,000 calls by two registers of 64 functions in turn", lambda n: firmware(
-        by_register(30000 * n, 64, 2), plan(most=63), "cert check report")),
-    "calls_two_known": ("4,000 of them, with 7 more sets known", lambda n: firmware(
-        by_register(4000 * n, 64, 2, known=7), plan(most=63), "cert check")),
-    "calls_moving": ("16,000 calls of 128 functions with D8 moving", lambda n: firmware(
-        by_register(16000 * n, 128, moving=True), plan(most=127), "cert check")),
-    "loads": ("60,000 loads of 128 words in 15 ranges of rom", lambda n: firmware(
-        loads(60000 * n, 128), plan(rom=[ROM, *SCATTERED], most=127), "cert check",
-        SCATTERED_LAYOUT)),
-    "jumps": ("16,000 `ji` of 128 places with D8 moving", lambda n: firmware(
-        jumps(16000 * n, 128), plan(most=127), "cert check")),
-    "irq_turns": ("64,000 points, CCPN 1 to 4 in turn, 32 interrupts", lambda n: firmware(
-        turns(32000 * n), plan(irqs=range(5, 37)), "cert check")),
-    "cell_stores": ("60,000 stores of 64 addresses beside 12 cells", lambda n: firmware(
-        stores(60000 * n), plan(most=63), "cert check cellcert cells", cells=CELLS)),
-    "sections64": ("`.section` of 64 in turn, 16 MB", lambda n: source(
-        [f".section {it}" for it in SECTIONS], 20000 * n)),
+    "calls64": (
+        "32,000 calls through a register of 64 functions",
+        lambda n: firmware(by_register(32000 * n, 64), plan(most=63), "cert check report"),
+    ),
+    "calls128": (
+        "4,000 calls through a register of 128 functions",
+        lambda n: firmware(by_register(4000 * n, 128), plan(most=127), "cert check"),
+    ),
+    "known": (
+        "calls128, with 15 registers of which 128 words each are known",
+        lambda n: firmware(by_register(4000 * n, 128, known=15), plan(most=127), "cert check"),
+    ),
+    "climb": (
+        "a loop of 20,000 points, 13 registers climb one after another",
+        lambda n: firmware(climb(20000 * n, 13), plan(**MANY, areas=4), "cert"),
+    ),
+    "pairs": (
+        "a loop of 4,000 `xor` of two sets",
+        lambda n: firmware(pairs(4000 * n), plan(areas=4), "cert check"),
+    ),
+    "recursion": (
+        "2,000 frames of 30 calls, the last recursive",
+        lambda n: firmware(recursion(int(2000 * n), 30), plan(areas=4000), "cert"),
+    ),
+    "points": (
+        "one frame of 65,000 points",
+        lambda n: firmware(straight(65000 * n), plan(areas=4), "cert report cfg"),
+    ),
+    "loop_climb": (
+        "30,000 callers of a loop that calls a counter",
+        lambda n: firmware(callers(30000 * n, LOOP), plan(), "cert"),
+    ),
+    "recursion_climb": (
+        "30,000 callers of a counter that calls itself",
+        lambda n: firmware(callers(30000 * n, RECURSION), plan(), "cert"),
+    ),
+    "dag": (
+        "1,900 frames, each calls any of the next 768, from the end",
+        lambda n: firmware(
+            dag(int(1900 * n), 6, 128), plan(most=127, areas=4000), "cert cfg check report"
+        ),
+    ),
+    "adverse": (
+        "a chain of 1,900 frames of 30 calls, from the end",
+        lambda n: firmware(chain(int(1900 * n), 30), plan(areas=4000), "cert"),
+    ),
+    "too_deep": (
+        "dag with sets of 64, and too few areas",
+        lambda n: firmware(dag(int(1900 * n), 6, 64), plan(most=63), "cert"),
+    ),
+    "calls_two": (
+        "30,000 calls by two registers of 64 functions in turn",
+        lambda n: firmware(by_register(30000 * n, 64, 2), plan(most=63), "cert check report"),
+    ),
+    "calls_two_known": (
+        "4,000 of them, with 7 more sets known",
+        lambda n: firmware(by_register(4000 * n, 64, 2, known=7), plan(most=63), "cert check"),
+    ),
+    "calls_moving": (
+        "16,000 calls of 128 functions with D8 moving",
+        lambda n: firmware(by_register(16000 * n, 128, moving=True), plan(most=127), "cert check"),
+    ),
+    "loads": (
+        "60,000 loads of 128 words in 15 ranges of rom",
+        lambda n: firmware(
+            loads(60000 * n, 128),
+            plan(rom=[ROM, *SCATTERED], most=127),
+            "cert check",
+            SCATTERED_LAYOUT,
+        ),
+    ),
+    "jumps": (
+        "16,000 `ji` of 128 places with D8 moving",
+        lambda n: firmware(jumps(16000 * n, 128), plan(most=127), "cert check"),
+    ),
+    "irq_turns": (
+        "64,000 points, CCPN 1 to 4 in turn, 32 interrupts",
+        lambda n: firmware(turns(32000 * n), plan(irqs=range(5, 37)), "cert check"),
+    ),
+    "cell_stores": (
+        "60,000 stores of 64 addresses beside 12 cells",
+        lambda n: firmware(
+            stores(60000 * n), plan(most=63), "cert check cellcert cells", cells=CELLS
+        ),
+    ),
+    "sections64": (
+        "`.section` of 64 in turn, 16 MB",
+        lambda n: source([f".section {it}" for it in SECTIONS], 20000 * n),
+    ),
     "data_lines": ("16 MB of `.byte`", lambda n: source([".byte 1"], 2000000 * n)),
     "labels_none": ("16 MB of `nop16`", lambda n: source(["nop16"], 2700000 * n)),
     "wide_objects": ("3,000 objects of 64 sections", lambda n: wide(3000 * n)),

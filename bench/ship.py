@@ -52,8 +52,17 @@ def source(lines, reached):
     """A source of so many lines: each function has 39, and one more for its call or a nop."""
     functions = (lines - 8) // 40
     head = ".section ram\nwords:\n.section text\n.global main\nmain:\n"
-    calls = "".join(f"    call f{n}\n" for n in range(functions)) if reached else "    nop\n" * functions
-    bodies = (HALF.format(x="f", n=n, k=n % 32768) + HALF.format(x="h", n=n, k=n % 100) + DATA.format(n=n, k=n) for n in range(functions))
+    calls = (
+        "".join(f"    call f{n}\n" for n in range(functions))
+        if reached
+        else "    nop\n" * functions
+    )
+    bodies = (
+        HALF.format(x="f", n=n, k=n % 32768)
+        + HALF.format(x="h", n=n, k=n % 100)
+        + DATA.format(n=n, k=n)
+        for n in range(functions)
+    )
     return head + calls + "    j .+0\ng:  ret16\n\n" + "".join(bodies)
 
 
@@ -86,8 +95,14 @@ def main():
             for size in (25008, 50008):
                 lines, counts, memory = counted(program, size, shape == "all")
                 parts = ", ".join(f"{name} {count}" for name, count in counts.items())
-                two, three = counts["asm"] + counts["link"], counts["asm"] + counts["link"] + counts["cert"]
-                print(f"{shape} {lines} lines: {parts}, {memory:.0f} MB; {counts['ship'] / two:.3f} times asm and link, {counts['ship'] / three:.3f} times asm, link and cert", flush=True)
+                two, three = (
+                    counts["asm"] + counts["link"],
+                    counts["asm"] + counts["link"] + counts["cert"],
+                )
+                print(
+                    f"{shape} {lines} lines: {parts}, {memory:.0f} MB; {counts['ship'] / two:.3f} times asm and link, {counts['ship'] / three:.3f} times asm, link and cert",
+                    flush=True,
+                )
 
 
 if __name__ == "__main__":

@@ -43,7 +43,9 @@ def source(lines):
 
 def image(size):
     """An executable of so many bytes, of all rows over and over."""
-    with open(os.path.join(os.path.dirname(__file__), "instructions.hex"), encoding="utf-8") as file:
+    with open(
+        os.path.join(os.path.dirname(__file__), "instructions.hex"), encoding="utf-8"
+    ) as file:
         code = b"".join(bytes.fromhex(line.split()[0]) for line in file if not line.startswith("#"))
     return executable([(0x80000000, (code * (size // len(code) + 1))[:size])])
 
@@ -60,8 +62,14 @@ def linkable(number, count, symbols, relocations, undefined):
     others global and local in turn; its relocations write words, each of another symbol."""
     defined = symbols - undefined
     place = 4 * (relocations + 1)
-    known = [(f"global_{number}_{i}" if i % 2 == 0 else f"local_{i}", 2 - i % 2, 4 * i % place) for i in range(defined)]
-    used = [(f"global_{(number + 1 + i) % count}_{2 * i % max(1, defined) & ~1}", 0, 0) for i in range(undefined)]
+    known = [
+        (f"global_{number}_{i}" if i % 2 == 0 else f"local_{i}", 2 - i % 2, 4 * i % place)
+        for i in range(defined)
+    ]
+    used = [
+        (f"global_{(number + 1 + i) % count}_{2 * i % max(1, defined) & ~1}", 0, 0)
+        for i in range(undefined)
+    ]
     names = {}
     for symbol in known + used:
         names.setdefault(symbol[0], symbol)
@@ -71,7 +79,9 @@ def linkable(number, count, symbols, relocations, undefined):
     for name, content in (("text", text), ("data", bytes(64))):
         parts.append(named(name) + struct.pack("<I", len(content)) + content)
     parts += [named(name) + struct.pack("<BHI", kind, 0, offset) for name, kind, offset in listed]
-    parts += [struct.pack("<HIBHI", 0, 4 * i, 7, 13 * i % len(listed), i) for i in range(relocations)]
+    parts += [
+        struct.pack("<HIBHI", 0, 4 * i, 7, 13 * i % len(listed), i) for i in range(relocations)
+    ]
     return b"".join(parts)
 
 
@@ -84,7 +94,10 @@ def counted(label, sizes, given):
         assert printed.startswith(front), printed[:200]
         counts.append(total)
     one = (counts[1] - counts[0]) / (sizes[1] - sizes[0])
-    print(f"{label}: {sizes[0]}: {counts[0]}, {sizes[1]}: {counts[1]}, growth {counts[1] / counts[0]:.3f}, each one more {one:.1f}; most instructions:", flush=True)
+    print(
+        f"{label}: {sizes[0]}: {counts[0]}, {sizes[1]}: {counts[1]}, growth {counts[1] / counts[0]:.3f}, each one more {one:.1f}; most instructions:",
+        flush=True,
+    )
     for row in tops:
         print("   ", row)
 
@@ -96,14 +109,22 @@ def main(program, work):
         return f"{work}/{name}"
 
     def assembled(lines):
-        return [program, "asm", path(f"{lines}.s", source(lines).encode()), f"{work}/{lines}.o"], "object "
+        return [
+            program,
+            "asm",
+            path(f"{lines}.s", source(lines).encode()),
+            f"{work}/{lines}.o",
+        ], "object "
 
     def listed(size):
         return [program, "dis", path(f"{size}.elf", image(size))], ".section s0 # 80000000\n"
 
     def linked(count, symbols, relocations, undefined):
         layout = path("board.layout", LAYOUT.encode())
-        objects = [path(f"{n}.o", linkable(n, count, symbols, relocations, undefined)) for n in range(count)]
+        objects = [
+            path(f"{n}.o", linkable(n, count, symbols, relocations, undefined))
+            for n in range(count)
+        ]
         return [program, "link", layout, f"{work}/linked.elf", *objects], "image "
 
     counted("asm, lines", (25004, 50004), assembled)

@@ -66,12 +66,19 @@ def results(wanted):
     with tempfile.TemporaryDirectory(prefix="weakenings-") as room:
         for part in ("crates.txt", "HANDLES"):
             shutil.copy(TOP / part, room)
-        shutil.copytree(TOP / "crates", f"{room}/crates", ignore=shutil.ignore_patterns("out", "must-fail"))
+        shutil.copytree(
+            TOP / "crates", f"{room}/crates", ignore=shutil.ignore_patterns("out", "must-fail")
+        )
         for crate, name in wanted:
             edits = Path(room, "crates", crate, "must-fail")
             edits.mkdir(exist_ok=True)
             shutil.copy(FOLDER / crate / f"{name}.edit", edits)
-        run = subprocess.run(["rt", "ci", *sorted({crate for crate, _ in wanted})], cwd=room, capture_output=True, text=True)
+        run = subprocess.run(
+            ["rt", "ci", *sorted({crate for crate, _ in wanted})],
+            cwd=room,
+            capture_output=True,
+            text=True,
+        )
         return {(it[1], it[2]): it[3] for it in RESULT.finditer(run.stdout)}
 
 

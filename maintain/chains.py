@@ -19,23 +19,23 @@ def uses(path):
     found = {}
     with open(path) as lines:
         for line in lines:
-            name, _, rest = line.strip().partition(':')
-            if name and not name.startswith('#'):
+            name, _, rest = line.strip().partition(":")
+            if name and not name.startswith("#"):
                 found[name.split()[0]] = rest.split()
     return found
 
 
 def main(words):
-    used = uses(words[0] if words else TOP / 'crates.txt')
+    used = uses(words[0] if words else TOP / "crates.txt")
 
     @lru_cache(None)
     def chain(name):
         return max((chain(low) for low in used[name] if low in used), key=len, default=()) + (name,)
 
     for name in sorted(used, key=lambda name: (len(chain(name)), name)):
-        print(len(chain(name)), ' '.join(chain(name)))
+        print(len(chain(name)), " ".join(chain(name)))
     return 1 if any(len(chain(name)) > MOST for name in used) else 0
 
 
-if __name__ == '__main__':
+if __name__ == "__main__":
     arguments.ended(__doc__, main)

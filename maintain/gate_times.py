@@ -44,7 +44,11 @@ def kind_of(words):
 def edit_of(words):
     """The number of the edit that a prover's process tries, in the order of their names; none where
     it tries none."""
-    found = re.search(r"/rt-edits-[^/]*/(\d+)$", words[words.index("--incremental") + 1]) if "--incremental" in words[:-1] else None
+    found = (
+        re.search(r"/rt-edits-[^/]*/(\d+)$", words[words.index("--incremental") + 1])
+        if "--incremental" in words[:-1]
+        else None
+    )
     return int(found[1]) if found else None
 
 
@@ -58,7 +62,9 @@ def processes():
                 words = f.read().decode(errors="replace").split("\0")
         except OSError:
             continue
-        yield int(number), int(fields[1]), fields[19], (int(fields[11]) + int(fields[12])) / TICK, words
+        yield int(number), int(fields[1]), fields[19], (
+            int(fields[11]) + int(fields[12])
+        ) / TICK, words
 
 
 def look(top, seen):
@@ -101,7 +107,9 @@ def run(command, folder):
         "command": " ".join(command),
         "wall": time.time() - began,
         "processor": used.ru_utime + used.ru_stime,
-        "edits": dict(re.findall(r"^rt: (\w+): trying its must-fail edits \((\d+)\)", text, flags=re.M)),
+        "edits": dict(
+            re.findall(r"^rt: (\w+): trying its must-fail edits \((\d+)\)", text, flags=re.M)
+        ),
         "last": text.rstrip().rpartition("\n")[2],
         "seen": list(seen.values()),
         "fixed sums": sums,
@@ -116,17 +124,27 @@ def table(times):
     for crate, kind, seconds, _ in times["seen"]:
         row = sums.setdefault(crate, dict.fromkeys(KINDS, 0))
         row[kind] += seconds
-    print("| Crate | Proof, s | Tests, s | Edits, s | Number of edits | All, s |\n|---|---|---|---|---|---|")
+    print(
+        "| Crate | Proof, s | Tests, s | Edits, s | Number of edits | All, s |\n|---|---|---|---|---|---|"
+    )
     for crate, row in sorted(sums.items(), key=lambda it: -sum(it[1].values())):
         cells = [f"{row[k]:.0f}" for k in KINDS]
-        print(f"| {crate} | {' | '.join(cells)} | {times['edits'].get(crate, '')} | {sum(row.values()):.0f} |")
+        print(
+            f"| {crate} | {' | '.join(cells)} | {times['edits'].get(crate, '')} | {sum(row.values()):.0f} |"
+        )
     all_of = [sum(row[k] for row in sums.values()) for k in KINDS]
     count = sum(int(n) for n in times["edits"].values())
-    print(f"| all crates | {' | '.join(f'{x:.0f}' for x in all_of)} | {count} | {sum(all_of):.0f} |")
+    print(
+        f"| all crates | {' | '.join(f'{x:.0f}' for x in all_of)} | {count} | {sum(all_of):.0f} |"
+    )
     print(f"| rest | | | | | {max(0, times['processor'] - sum(all_of)):.0f} |")
-    print(f"\n{times['command']}: {times['processor'] / 60:.0f} processor minutes in {times['wall'] / 60:.0f} minutes. {times['last']}")
+    print(
+        f"\n{times['command']}: {times['processor'] / 60:.0f} processor minutes in {times['wall'] / 60:.0f} minutes. {times['last']}"
+    )
     if fixed := times.get("fixed sums"):
-        print(f"A fixed sum took {sum(fixed) / len(fixed):.3f} s of a processor on the mean, {min(fixed):.3f} s at least.")
+        print(
+            f"A fixed sum took {sum(fixed) / len(fixed):.3f} s of a processor on the mean, {min(fixed):.3f} s at least."
+        )
 
 
 def names_of(crate):
@@ -146,11 +164,15 @@ def edits(times, count):
         name = names_of(crate)[edit].removesuffix(".edit")
         print(f"| {crate} | {name} | {sums[crate, edit]:.0f} |")
     print(f"| all crates | each of {len(tried)} | {sum(sums[it] for it in tried):.0f} |")
-    print(f"| all crates | proofs that edits begin and end with | {sum(sums[it] for it in sums if it[1] is None):.0f} |")
+    print(
+        f"| all crates | proofs that edits begin and end with | {sum(sums[it] for it in sums if it[1] is None):.0f} |"
+    )
 
 
 def main():
-    options = argparse.ArgumentParser(description=__doc__, formatter_class=argparse.RawDescriptionHelpFormatter)
+    options = argparse.ArgumentParser(
+        description=__doc__, formatter_class=argparse.RawDescriptionHelpFormatter
+    )
     options.error = lambda why: options.exit(5, f"gate_times.py: {why}\n")
     options.add_argument("--to", type=os.path.abspath, default="/tmp")
     options.add_argument("--from", dest="earlier")

@@ -46,8 +46,13 @@ def read(path):
 
 
 def rows():
-    found = re.findall(r'row!\("([^"]*)", "([^"]*)", (\w+), (0x\w+), (0x\w+)\)', read("tc_isa/src/table.rt"))
-    return [(name, operands, form, int(op1, 16), int(op2, 16)) for name, operands, form, op1, op2 in found]
+    found = re.findall(
+        r'row!\("([^"]*)", "([^"]*)", (\w+), (0x\w+), (0x\w+)\)', read("tc_isa/src/table.rt")
+    )
+    return [
+        (name, operands, form, int(op1, 16), int(op2, 16))
+        for name, operands, form, op1, op2 in found
+    ]
 
 
 def operands(row):
@@ -111,13 +116,26 @@ def name_key(name):
 def index_of_names(all_rows):
     count, keys = len(all_rows), [name_key(r[0]) for r in all_rows]
     first = [keys.index(k) if k in keys else count for k in range(256)]
-    later = [next((j for j in range(i + 1, count) if keys[j] == k), count) for i, k in enumerate(keys)]
-    return {"static FIRST": items("static FIRST", "u8", first), "static NEXT": by_rows("static NEXT", "u8", all_rows, later)}
+    later = [
+        next((j for j in range(i + 1, count) if keys[j] == k), count) for i, k in enumerate(keys)
+    ]
+    return {
+        "static FIRST": items("static FIRST", "u8", first),
+        "static NEXT": by_rows("static NEXT", "u8", all_rows, later),
+    }
 
 
 def replace_item(text, name, new):
     """The text with the item of this name written anew."""
-    end = r"\n    \[\]\n" if name == "table_rows =" else r";\n" if "COUNT" in name else r"\n\];\n" if "static" in name else r"\Z"
+    end = (
+        r"\n    \[\]\n"
+        if name == "table_rows ="
+        else r";\n"
+        if "COUNT" in name
+        else r"\n\];\n"
+        if "static" in name
+        else r"\Z"
+    )
     found = re.search(rf"^{re.escape(name)}.*?{end}", text, flags=re.M | re.S)
     if not found:
         sys.exit(f"no {name}")
@@ -209,16 +227,26 @@ def main():
         return 2
     all_rows = rows()
     uses = ["_".join(f.upper() for f in fields_of(r)) or "NONE" for r in all_rows]
-    wants = ["&[" + ", ".join(f"Want::{OPERANDS[t][1]}" for t in operands(r)) + "]" for r in all_rows]
+    wants = [
+        "&[" + ", ".join(f"Want::{OPERANDS[t][1]}" for t in operands(r)) + "]" for r in all_rows
+    ]
     tables = {
         "tc_isa/specs/Rows.antt": {"table_rows =": listed(all_rows)},
-        "tc_isa/src/table.rt": {"pub const ROW_COUNT": f"pub const ROW_COUNT: usize = {len(all_rows)};\n"},
+        "tc_isa/src/table.rt": {
+            "pub const ROW_COUNT": f"pub const ROW_COUNT: usize = {len(all_rows)};\n"
+        },
         "tc_isa/src/row_uses.rt": {"static USES": by_rows("static USES", "Uses", all_rows, uses)},
         "tc_encode/src/index.rt": index(all_rows),
-        "tc_stmt/src/row_wants.rt": {"pub static WANTS": by_rows("pub static WANTS", "&[Want]", all_rows, wants)},
+        "tc_stmt/src/row_wants.rt": {
+            "pub static WANTS": by_rows("pub static WANTS", "&[Want]", all_rows, wants)
+        },
         "tc_stmt/src/row_index.rt": index_of_names(all_rows),
         "../tools/tcdlib/formats/instructions.txt": {"": for_scripts(all_rows)},
-        "../docs/instructions.md": {re.search(r"^    \d+ encodings", read("../docs/instructions.md"), re.M)[0]: listed_by_name(all_rows)},
+        "../docs/instructions.md": {
+            re.search(r"^    \d+ encodings", read("../docs/instructions.md"), re.M)[
+                0
+            ]: listed_by_name(all_rows)
+        },
     }
     old, touched = {}, set()
     for path, parts in tables.items():
@@ -230,7 +258,9 @@ def main():
                 out.write(text)
             touched.add(path)
     for crate in {p.split("/")[0] for p in touched if p[0] != "."}:
-        subprocess.run(["rt", "fmt"], cwd=f"{CRATES}/{crate}", stdout=subprocess.DEVNULL, check=False)
+        subprocess.run(
+            ["rt", "fmt"], cwd=f"{CRATES}/{crate}", stdout=subprocess.DEVNULL, check=False
+        )
     differ = sorted(p for p in touched if read(p) != old[p])
     if "--check" in sys.argv:
         for path in touched:

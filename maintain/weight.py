@@ -22,8 +22,11 @@ sys.path.insert(0, str(pathlib.Path(__file__).resolve().parent.parent / "tools")
 
 from tcdlib import arguments
 
-TOKEN = re.compile(r"""(?P<ws>\s+)|(?P<com>//[^\n]*)|(?P<raw>r#*".*?"#*)|(?P<str>b?"(?:\\.|[^"\\])*")|(?P<chr>b?'(?:\\.[^']*|[^'\\])')|"""
-                   r"""(?P<life>'[A-Za-z_]\w*)|(?P<id>[A-Za-z_]\w*)|(?P<num>\d[\w.]*)|(?P<op>.)""", re.S)
+TOKEN = re.compile(
+    r"""(?P<ws>\s+)|(?P<com>//[^\n]*)|(?P<raw>r#*".*?"#*)|(?P<str>b?"(?:\\.|[^"\\])*")|(?P<chr>b?'(?:\\.[^']*|[^'\\])')|"""
+    r"""(?P<life>'[A-Za-z_]\w*)|(?P<id>[A-Za-z_]\w*)|(?P<num>\d[\w.]*)|(?P<op>.)""",
+    re.S,
+)
 TESTS = ("tcd_tests", "tcd_tool_tests")
 
 
@@ -59,11 +62,13 @@ def functions_of(path, crate):
     ts, out, stack, pending, i = tokens(text), [], [], None, 0
     while i < len(ts):
         word = ts[i][0]
-        if word in ("impl", "trait") and (i == 0 or ts[i - 1][0] in ("}", ";", "]", "pub", ")", "{")):
+        if word in ("impl", "trait") and (
+            i == 0 or ts[i - 1][0] in ("}", ";", "]", "pub", ")", "{")
+        ):
             j = i + 1
             while j < len(ts) and ts[j][0] not in ("{", ";"):
                 j += 1
-            head = " ".join(t[0] for t in ts[i + 1:j]).split(" where ")[0]
+            head = " ".join(t[0] for t in ts[i + 1 : j]).split(" where ")[0]
             of = head.split(" for ")[-1]
             of = re.sub(r"^<.*?> ", "", of) if of.startswith("<") else of
             names = re.findall(r"[A-Za-z_]\w*", re.sub(r"' ?\w+", "", of))
@@ -92,7 +97,7 @@ def functions_of(path, crate):
             j = i - 1
             while j >= 0 and ts[j][0] in ("pub", "(", ")", "crate", "const", "unsafe", "super"):
                 j -= 1
-            before = [t[0] for t in ts[j + 1:i]]
+            before = [t[0] for t in ts[j + 1 : i]]
             f.public = "pub" in before and "crate" not in before and "super" not in before
             f.attributes = 0
             f.never = False
@@ -103,7 +108,7 @@ def functions_of(path, crate):
                     if depth == 0:
                         break
                     q -= 1
-                f.never = f.never or "never" in text[ts[q][2]:ts[j][3]]
+                f.never = f.never or "never" in text[ts[q][2] : ts[j][3]]
                 f.attributes += 1
                 j = q - 2
             p = i + 2
@@ -118,7 +123,7 @@ def functions_of(path, crate):
             r = close(ts, p, "(", ")") + 1
             while r < len(ts) and ts[r][0] not in ("requires", "ensures", "decreases", "{", ";"):
                 r = close(ts, r, "[", "]") + 1 if ts[r][0] == "[" else r + 1
-            f.signature = lines(text[ts[i][2]:ts[r - 1][3]])
+            f.signature = lines(text[ts[i][2] : ts[r - 1][3]])
             begin = end = ts[r - 1][3]
             while r < len(ts) and ts[r][0] in ("requires", "ensures", "decreases"):
                 r += 1
@@ -130,8 +135,8 @@ def functions_of(path, crate):
             f.words, f.body = [], 0
             if r < len(ts) and ts[r][0] == "{":
                 q = close(ts, r, "{", "}")
-                f.words = [t[0] for t in ts[r:q + 1]]
-                f.body = lines(text[ts[r][2] + 1:ts[q][2]])
+                f.words = [t[0] for t in ts[r : q + 1]]
+                f.body = lines(text[ts[r][2] + 1 : ts[q][2]])
                 r = q
             out.append(f)
             i = r + 1
@@ -171,19 +176,33 @@ def callers_of(texts, found):
             elif before == ":" and i > 2 and f.words[i - 2] == ":":
                 at = f.words[i - 3]
                 for g in methods.get(word, []):
-                    if seen(g, f) and (at == ">" or g.type == at or (at == "Self" and g.type == f.type) or g.trait or len(at) == 1):
+                    if seen(g, f) and (
+                        at == ">"
+                        or g.type == at
+                        or (at == "Self" and g.type == f.type)
+                        or g.trait
+                        or len(at) == 1
+                    ):
                         callers[g].add(f)
                 for g in free.get(word, []):
-                    if seen(g, f) and (at in (g.crate, "super", "crate", "self") or g.path.endswith(f"/{at}.rt")):
+                    if seen(g, f) and (
+                        at in (g.crate, "super", "crate", "self") or g.path.endswith(f"/{at}.rt")
+                    ):
                         callers[g].add(f)
             elif word in free and before != "." and (after in ("(", ":") or before in ("(", ",")):
                 near = [g for g in free[word] if g.path == f.path]
                 if not near and re.search(rf"\b{word}\b", texts[f.path]):
                     near = [g for g in free[word] if g.crate == f.crate]
-                    used = [it for it in re.findall(r"(?m)^\s*(?:pub )?use\s+([^;]*);", texts[f.path]) if re.search(rf"\b{word}\b", it)]
+                    used = [
+                        it
+                        for it in re.findall(r"(?m)^\s*(?:pub )?use\s+([^;]*);", texts[f.path])
+                        if re.search(rf"\b{word}\b", it)
+                    ]
                     root = re.match(r"\s*(\w+)", used[0]).group(1) if used else "crate"
                     if root not in ("crate", "super", "self"):
-                        near = [g for g in free[word] if g.public and g.crate == root] or [g for g in free[word] if g.public and g.crate != f.crate]
+                        near = [g for g in free[word] if g.public and g.crate == root] or [
+                            g for g in free[word] if g.public and g.crate != f.crate
+                        ]
                 for g in near:
                     if g is not f:
                         callers[g].add(f)
@@ -196,10 +215,21 @@ def helpers(found, callers):
     for f in found:
         if f.crate in TESTS or f.public or f.trait or f.path.endswith("laws.rt"):
             continue
-        of = [it for it in callers[f] - {f} if it.crate not in TESTS and "tests" not in os.path.basename(it.path)]
+        of = [
+            it
+            for it in callers[f] - {f}
+            if it.crate not in TESTS and "tests" not in os.path.basename(it.path)
+        ]
         if len(of) == 1 and of[0].crate == f.crate:
             words = of[0].words
-            if sum(1 for i, it in enumerate(words[:-1]) if it == f.name and words[i + 1] in ("(", ":")) == 1:
+            if (
+                sum(
+                    1
+                    for i, it in enumerate(words[:-1])
+                    if it == f.name and words[i + 1] in ("(", ":")
+                )
+                == 1
+            ):
                 out[f] = of[0]
     return out
 
@@ -250,21 +280,46 @@ def main(given):
         return
     if words.crate:
         gone = set(fold(found, into, words.fold))
-        for f in sorted((it for it in into if it.crate == words.crate), key=lambda it: (it.path, it.line)):
-            note = "loop" if has_loop(f) else "inline(never)" if f.never else f"saves {overhead(f)}" if f in gone else "caller would grow too long"
-            print(f"{os.path.relpath(f.path, words.top)}:{f.line} {f.name} ({f.body} lines) < {into[f].name} ({into[f].body}): {note}")
+        for f in sorted(
+            (it for it in into if it.crate == words.crate), key=lambda it: (it.path, it.line)
+        ):
+            note = (
+                "loop"
+                if has_loop(f)
+                else "inline(never)"
+                if f.never
+                else f"saves {overhead(f)}"
+                if f in gone
+                else "caller would grow too long"
+            )
+            print(
+                f"{os.path.relpath(f.path, words.top)}:{f.line} {f.name} ({f.body} lines) < {into[f].name} ({into[f].body}): {note}"
+            )
         return
-    print(f"{'crate':16}{'functions':>10}{'code':>8}{'bodies':>8}{'contracts':>10}{'?':>6}{'helpers':>9}{'fold at ' + str(words.fold):>12}{'lines':>7}")
+    print(
+        f"{'crate':16}{'functions':>10}{'code':>8}{'bodies':>8}{'contracts':>10}{'?':>6}{'helpers':>9}{'fold at ' + str(words.fold):>12}{'lines':>7}"
+    )
     total = collections.Counter()
     gone = fold(found, into, words.fold)
     for crate in sorted({f.crate for f in found} - set(TESTS)):
         own = [f for f in found if f.crate == crate]
-        row = collections.Counter(functions=len(own), code=sum(lines(t) for p, t in texts.items() if f"/crates/{crate}/" in p), bodies=sum(f.body for f in own),
-                                  contracts=sum(f.contract for f in own), asks=sum(f.words.count("?") for f in own), helpers=sum(f.crate == crate for f in into),
-                                  gone=sum(f.crate == crate for f in gone), saved=sum(overhead(f) for f in gone if f.crate == crate))
+        row = collections.Counter(
+            functions=len(own),
+            code=sum(lines(t) for p, t in texts.items() if f"/crates/{crate}/" in p),
+            bodies=sum(f.body for f in own),
+            contracts=sum(f.contract for f in own),
+            asks=sum(f.words.count("?") for f in own),
+            helpers=sum(f.crate == crate for f in into),
+            gone=sum(f.crate == crate for f in gone),
+            saved=sum(overhead(f) for f in gone if f.crate == crate),
+        )
         total += row
-        print(f"{crate:16}{row['functions']:10}{row['code']:8}{row['bodies']:8}{row['contracts']:10}{row['asks']:6}{row['helpers']:9}{row['gone']:12}{row['saved']:7}")
-    print(f"{'all':16}{total['functions']:10}{total['code']:8}{total['bodies']:8}{total['contracts']:10}{total['asks']:6}{total['helpers']:9}{total['gone']:12}{total['saved']:7}")
+        print(
+            f"{crate:16}{row['functions']:10}{row['code']:8}{row['bodies']:8}{row['contracts']:10}{row['asks']:6}{row['helpers']:9}{row['gone']:12}{row['saved']:7}"
+        )
+    print(
+        f"{'all':16}{total['functions']:10}{total['code']:8}{total['bodies']:8}{total['contracts']:10}{total['asks']:6}{total['helpers']:9}{total['gone']:12}{total['saved']:7}"
+    )
 
 
 if __name__ == "__main__":

@@ -33,11 +33,16 @@ def reassembled(program, elf, listing, folder):
     """Whether the listing, its sections at their addresses, gives `elf`; and what `link` prints."""
     sections = re.findall(r"^\.section (\S+) # ([0-9A-F]{8})$", listing, re.M)
     parts = re.split(r"^\.section .*$", listing, flags=re.M)[1:]
-    sizes = [sum(len(code) // 2 for code in re.findall(r"# [0-9A-F]{8} ([0-9A-F]+)$", part, re.M)) for part in parts]
+    sizes = [
+        sum(len(code) // 2 for code in re.findall(r"# [0-9A-F]{8} ([0-9A-F]+)$", part, re.M))
+        for part in parts
+    ]
     entry = int.from_bytes((folder / elf).read_bytes()[24:28], "little")
     # the entry is a label without bytes at its own place, which shares no byte with the others
     places = [f"place {name} {at} {size:08X}\n" for (name, at), size in zip(sections, sizes)]
-    (folder / "again.layout").write_text("".join(["entry begin\n", f"place at_entry {entry:08X} 00000000\n", *places]))
+    (folder / "again.layout").write_text(
+        "".join(["entry begin\n", f"place at_entry {entry:08X} 00000000\n", *places])
+    )
     (folder / "again.s").write_text(listing)
     (folder / "entry.s").write_text(".section at_entry\n.global begin\nbegin:\n")
     for name in ("again", "entry"):

@@ -49,7 +49,12 @@ SECONDS, PATIENCE = 10, 120  # of the processor; by the clock, for machines that
 class Bench:
     def __init__(self, program, folder, quick):
         self.program, self.folder, self.quick = program, folder, quick
-        self.held, self.table, self.wrong, self.zeros = {}, collections.Counter(), [], collections.defaultdict(list)
+        self.held, self.table, self.wrong, self.zeros = (
+            {},
+            collections.Counter(),
+            [],
+            collections.defaultdict(list),
+        )
         self.slowest, self.count = (0.0, ""), 0
 
     def put(self, name, data):
@@ -66,7 +71,12 @@ class Bench:
             self.put(name, data)
 
     def start(self, words, how):
-        settings = {"stdin": subprocess.DEVNULL, "stdout": subprocess.PIPE, "stderr": subprocess.PIPE, "cwd": self.folder}
+        settings = {
+            "stdin": subprocess.DEVNULL,
+            "stdout": subprocess.PIPE,
+            "stderr": subprocess.PIPE,
+            "cwd": self.folder,
+        }
         return subprocess.Popen([self.program, *words], **{**settings, **how})
 
     def ended(self, words, how, meanwhile=None):
@@ -105,7 +115,9 @@ class Bench:
         if not faults and not how:
             faults += beside(self, words, status, out)
         faults += self.folder_faults(want[2] if status in (0, 3) else {}, anything)
-        self.table[group, words[0] if words and words[0] in COMMANDS else "words", label(status, out)] += 1
+        self.table[
+            group, words[0] if words and words[0] in COMMANDS else "words", label(status, out)
+        ] += 1
         if faults:
             self.wrong.append((group, words, {n: d for n, d in seen.items() if n in words}, faults))
         return status, out
@@ -130,7 +142,11 @@ class Bench:
                 else:
                     pathlib.Path(entry.path).write_bytes(self.held[entry.name])
         faults += [f"{name} is gone" for name in self.held if name not in found]
-        faults += [f"{name} isn't written" for name in written if "/" not in name and name not in found and name not in anything]
+        faults += [
+            f"{name} isn't written"
+            for name in written
+            if "/" not in name and name not in found and name not in anything
+        ]
         return faults
 
 
@@ -149,7 +165,9 @@ def label(status, out):
     words = out.split()
     if status == 2:
         return f"2 {b' '.join(words[:3]).decode(errors='replace')}"
-    return f"1 {words[1].decode(errors='replace')}" if status == 1 and len(words) > 1 else str(status)
+    return (
+        f"1 {words[1].decode(errors='replace')}" if status == 1 and len(words) > 1 else str(status)
+    )
 
 
 # The report
@@ -172,9 +190,17 @@ def tables(bench):
         counts = collections.defaultdict(collections.Counter)
         for key, count in bench.table.items():
             counts[key[place]][key[2][0]] += count
-        print(f"\n| {title} | 0 done | 1 refused | 2 bad input | 3 fault | 4 no memory | 5 bad words | a signal | Cases |\n|{'---|' * 9}")
+        print(
+            f"\n| {title} | 0 done | 1 refused | 2 bad input | 3 fault | 4 no memory | 5 bad words | a signal | Cases |\n|{'---|' * 9}"
+        )
         for name, by in sorted(counts.items()):
-            print("|", " | ".join([name, *(str(by[status] or "") for status in "012345s"), str(sum(by.values()))]), "|")
+            print(
+                "|",
+                " | ".join(
+                    [name, *(str(by[status] or "") for status in "012345s"), str(sum(by.values()))]
+                ),
+                "|",
+            )
 
 
 def report(bench, began):
@@ -183,9 +209,14 @@ def report(bench, began):
         print(f"\n  {title}")
         by = collections.defaultdict(list)
         for what, at, why, out in found:
-            by[why or "the same value (a byte that nobody reads, or another spelling)", out.split(b"\n")[0][:50] if title.startswith("check") else b""].append((what, at))
+            by[
+                why or "the same value (a byte that nobody reads, or another spelling)",
+                out.split(b"\n")[0][:50] if title.startswith("check") else b"",
+            ].append((what, at))
         for (why, out), places in sorted(by.items()):
-            print(f"    {len(places):5} {why}{': ' + out.decode() if out else ''}: bytes {ranges(p[1] for p in places)[:300]}")
+            print(
+                f"    {len(places):5} {why}{': ' + out.decode() if out else ''}: bytes {ranges(p[1] for p in places)[:300]}"
+            )
     print("\nCases by kind of input, command and answer")
     groups = collections.defaultdict(list)
     for (group, command, answered), count in sorted(bench.table.items()):
@@ -205,10 +236,20 @@ def report(bench, began):
 def jobs():
     """All that is done, each in a folder of its own: a title, and a function of a bench."""
     yield from [(part.__name__, part) for part in (rows, later_rows, *PARTS)]
-    yield from [(f"put together, {given[0]}", functools.partial(pieces, title=given[0], files=given[1], vary=given[2], words=given[3], make=given[4])) for given in put_together()]
+    yield from [
+        (
+            f"put together, {given[0]}",
+            functools.partial(
+                pieces, title=given[0], files=given[1], vary=given[2], words=given[3], make=given[4]
+            ),
+        )
+        for given in put_together()
+    ]
     for title, words, files, vary, *more in mutated():
         text, most = (*more, False, 700)[:2] if len(more) != 1 else (more[0], 700)
-        yield title, functools.partial(place_of, title=title, words=words, files=files, vary=vary, text=text, most=most)
+        yield title, functools.partial(
+            place_of, title=title, words=words, files=files, vary=vary, text=text, most=most
+        )
 
 
 def done(given):
@@ -219,7 +260,15 @@ def done(given):
     with tempfile.TemporaryDirectory() as folder:
         bench = Bench(program, pathlib.Path(folder), quick)
         part(bench)
-    return title, bench.count, bench.table, bench.wrong, dict(bench.zeros), bench.slowest, time.monotonic() - began
+    return (
+        title,
+        bench.count,
+        bench.table,
+        bench.wrong,
+        dict(bench.zeros),
+        bench.slowest,
+        time.monotonic() - began,
+    )
 
 
 def main():
@@ -231,7 +280,9 @@ def main():
     is_right = len(words) == 1 and given["--jobs"].isdecimal() and int(given["--jobs"]) > 0
     program = programs.of_words(words if is_right else [], __doc__)
     began, whole = time.monotonic(), Bench(program, None, quick)
-    chosen = [(program, quick, n) for n, (title, _) in enumerate(jobs()) if given["--only"] in title]
+    chosen = [
+        (program, quick, n) for n, (title, _) in enumerate(jobs()) if given["--only"] in title
+    ]
     with multiprocessing.get_context("fork").Pool(int(given["--jobs"])) as pool:
         for title, count, table, wrong, zeros, slowest, took in pool.imap(done, chosen):
             whole.count += count

@@ -51,11 +51,23 @@ SAYS = ("tcd_driver.specs.Tool", "ToolSays")
 OTHER_FIELDS = "  -- the fields of other commands are left out here"
 #: What part 2 begins with: which certificates are accepted, and which files are taken as what.
 LATER = (
-    "image_of_file", "GivesPlan",
-    "IsAcceptedWithNeed", "IsAcceptedForTask", "IsLeastOfItsFormat", "IsNoCertAccepted",
-    "CertKeepsCellBounds", "CertData", "certificate_of", "bytes_of_object", "bytes_of_cert",
-    "bytes_of_instructions", "assembled_code", "CallCannotFail", "MayPrintText",
-    "IsDecidedStatus", "reloc_value_refusal",
+    "image_of_file",
+    "GivesPlan",
+    "IsAcceptedWithNeed",
+    "IsAcceptedForTask",
+    "IsLeastOfItsFormat",
+    "IsNoCertAccepted",
+    "CertKeepsCellBounds",
+    "CertData",
+    "certificate_of",
+    "bytes_of_object",
+    "bytes_of_cert",
+    "bytes_of_instructions",
+    "assembled_code",
+    "CallCannotFail",
+    "MayPrintText",
+    "IsDecidedStatus",
+    "reloc_value_refusal",
 )
 #: What a page names and doesn't follow: the ends that aren't Done.
 OTHER_ENDS = re.compile(r"RefusalBy\w+|BadInputOf|AreInputsPresent|InputRequirement")
@@ -141,7 +153,7 @@ NOTATION = (
     ("[], x ∷ xs, xs ++ ys", "a list: empty, x before xs, ys after xs"),
     ("None, Some x; Ok x, Err e", "nothing or x; a result or an error"),
     ("slice_get xs n, slice_index xs n", "the place n, from 0; past the end None, and 0"),
-    ("slice_set xs n x, codes \"..\"", "the list with x at n; the bytes of a text"),
+    ('slice_set xs n x, codes ".."', "the list with x at n; the bytes of a text"),
     ("All P xs, Contains xs x", "P of each x in the list; x is in the list"),
     ("IfSome o P, is_some o, unwrap_or o x", "P of what o has, if any; it has some; it, or else x"),
     ("get m k, insert m k x", "what a map has at k, if any; the map with x at k"),
@@ -330,7 +342,7 @@ class Sources:
         for module in self.modules.values():
             if module.name == HEADLINES or module.name.startswith(HEADLINES + "."):
                 for name in filter(lambda it: it.startswith(begin), module.items):
-                    found[name[len(begin):].lower()] = module.items[name]
+                    found[name[len(begin) :].lower()] = module.items[name]
         return found
 
     def saying(self, record):
@@ -560,8 +572,10 @@ class Part:
             if item.key in seen:
                 continue
             seen.add(item.key)
-            if item.name in stops or item.key in stops or (
-                OTHER_ENDS.fullmatch(item.name) and item not in roots
+            if (
+                item.name in stops
+                or item.key in stops
+                or (OTHER_ENDS.fullmatch(item.name) and item not in roots)
             ):
                 self.stopped.append(item)
                 continue
@@ -725,9 +739,11 @@ def as_markdown(title, parts):
 
 def linked(text, targets):
     """A text of a definition in HTML; the names of other definitions are links."""
+
     def link(found):
         name = found[0].split(".")[0]
         return f'<a href="#{targets[name]}">{found[0]}</a>' if name in targets else found[0]
+
     return TOKEN.sub(link, html.escape(text, quote=False))
 
 

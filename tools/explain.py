@@ -52,9 +52,7 @@ JUDGES = ("cert", "check", "report", "cfg", "ship")
 #: so much of a line of a file is printed
 MOST_TEXT = 120
 #: a finding has each of these; None if it isn't known
-FIELDS = tuple(
-    "rule file line text address function frame message change needed notes".split(" ")
-)
+FIELDS = tuple("rule file line text address function frame message change needed notes".split(" "))
 
 
 def finding(rule, meaning, message="", **more):

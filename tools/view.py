@@ -122,12 +122,9 @@ class View:
 
     def of_others(self, line, older):
         """A page on a certificate that isn't one of this executable and plan."""
-        return (
-            "<p class='head bad'>The certificate isn't this executable's</p>"
-            + self.page.note(
-                f"It is refused: `{older}`. A new one would be accepted: `{line}`. The one that "
-                f"was given is of other files.{MAYBE_OF_OTHERS}"
-            )
+        return "<p class='head bad'>The certificate isn't this executable's</p>" + self.page.note(
+            f"It is refused: `{older}`. A new one would be accepted: `{line}`. The one that "
+            f"was given is of other files.{MAYBE_OF_OTHERS}"
         )
 
     def text(self):

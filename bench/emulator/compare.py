@@ -17,7 +17,9 @@ def linked(tcd, work, layout):
         subprocess.run([tcd, "asm", f"{HERE}/{name}.s", f"{work}/{name}.o"], check=True)
         objects.append(f"{work}/{name}.o")
     subprocess.run([tcd, "link", f"{HERE}/{layout}", f"{work}/{layout}.elf", *objects], check=True)
-    read = subprocess.run(["readelf", "-hlW", f"{work}/{layout}.elf"], capture_output=True, text=True, check=True)
+    read = subprocess.run(
+        ["readelf", "-hlW", f"{work}/{layout}.elf"], capture_output=True, text=True, check=True
+    )
     assert not read.stderr, read.stderr
     return f"{work}/{layout}.elf"
 
@@ -27,7 +29,9 @@ def in_machine(registers, elf):
         plan = file.read()
     with open(elf, "rb") as file:
         given = struct.pack("<H", len(plan)) + plan + file.read()
-    printed = subprocess.run([registers], input=given, capture_output=True, check=True).stdout.decode()
+    printed = subprocess.run(
+        [registers], input=given, capture_output=True, check=True
+    ).stdout.decode()
     return {line.split()[0]: int(line.split()[1]) for line in printed.splitlines()}
 
 
@@ -46,8 +50,21 @@ def asked(path, line):
 
 def in_qemu(elf, work):
     path = f"{work}/monitor"
-    with subprocess.Popen(["qemu-system-tricore", "-M", "tricore_testboard", "-display", "none", "-serial", "none", "-kernel", elf,
-                           "-monitor", f"unix:{path},server=on,wait=off"]) as qemu:
+    with subprocess.Popen(
+        [
+            "qemu-system-tricore",
+            "-M",
+            "tricore_testboard",
+            "-display",
+            "none",
+            "-serial",
+            "none",
+            "-kernel",
+            elf,
+            "-monitor",
+            f"unix:{path},server=on,wait=off",
+        ]
+    ) as qemu:
         time.sleep(3)
         text = asked(path, b"info registers")
         qemu.kill()

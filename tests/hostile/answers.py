@@ -14,7 +14,19 @@ from tcdlib.formats import Bad
 FAULT = None  # in place of the bytes of a file that can't be read or written
 KEY = rb"(start|call|irq|sys|aln) ([0-9A-F]{8}) prio ([0-9]{1,3}) is ([01])"
 KINDS = {b"start": 0, b"call": 1, b"irq": 2, b"sys": 3, b"aln": 4}
-NEVER_MADE = (3, 5, 6, 7, 8, 9, 10, 12, 13, 14, 15)  # the rules that no certificate may be able to keep
+NEVER_MADE = (
+    3,
+    5,
+    6,
+    7,
+    8,
+    9,
+    10,
+    12,
+    13,
+    14,
+    15,
+)  # the rules that no certificate may be able to keep
 ADDRESS = re.compile("[0-9A-F]{8}")
 MOST_TURNS = 20000  # of a script that is also played by tools/tcdlib/machine.py
 
@@ -72,7 +84,13 @@ def spare_of(board):
 def check(files, words):
     image, board = image_and_plan(files, words)
     nodes = nodes_of(files, words[3])
-    return None, functools.partial(judged, start_of(image[0], board), nodes, board, "certified %d of %d areas\n"), {}
+    return (
+        None,
+        functools.partial(
+            judged, start_of(image[0], board), nodes, board, "certified %d of %d areas\n"
+        ),
+        {},
+    )
 
 
 def refusal(text):
@@ -95,7 +113,11 @@ def judged(start, nodes, board, line, status, text, more=()):
         return False
     if rule == 1:
         return key == start and at == start[1]
-    return (2 <= rule <= 14 or rule in more) and key in nodes and (at == key[1] or at in [p[0] for p in nodes[key][3]])
+    return (
+        (2 <= rule <= 14 or rule in more)
+        and key in nodes
+        and (at == key[1] or at in [p[0] for p in nodes[key][3]])
+    )
 
 
 def report(files, words):
@@ -121,7 +143,11 @@ def reported(start, nodes, board, status, text):
         "areas": board["csa"]["areas"], "calls": [{"longest": n, "prio": p} for n, p in zip(longest, prios)], "certified": nodes[start][1],
         "nodes": [{"key": key_text(key), "need": nodes[key][1], "points": len(nodes[key][3])} for key in sorted(nodes)], "reserve": board["csa"]["reserve"],
     }  # fmt: skip
-    return len(longest) == len(prios) and max(longest) < len(nodes) and text == (json.dumps(wanted, separators=(",", ":")) + "\n").encode()
+    return (
+        len(longest) == len(prios)
+        and max(longest) < len(nodes)
+        and text == (json.dumps(wanted, separators=(",", ":")) + "\n").encode()
+    )
 
 
 def boot(files, words):
@@ -136,7 +162,13 @@ def booted(start, nodes, board, fault, status, text):
     if status == 0 or text.startswith(b"refused boot"):
         right = start in nodes and nodes[start][1] <= spare_of(board)
         events = 53 + 3 * board["csa"]["areas"]
-        line = f"refused boot {fault}\n" if fault else f"boot {events} events certified {nodes[start][1]} of {spare_of(board)} areas\n" if right else ""
+        line = (
+            f"refused boot {fault}\n"
+            if fault
+            else f"boot {events} events certified {nodes[start][1]} of {spare_of(board)} areas\n"
+            if right
+            else ""
+        )
         return right and (status, text) == (1 if fault else 0, line.encode())
     return judged(start, nodes, board, "", status, text)
 
@@ -146,7 +178,11 @@ def cells(files, words):
     found = readers.cells(given(files, words[3], "cells"), board)
     nodes = nodes_of(files, words[4])
     line = f"certified %d of %d areas with {len(found)} cells\n"
-    return None, functools.partial(judged, start_of(image[0], board), nodes, board, line, more=(16,)), {}
+    return (
+        None,
+        functools.partial(judged, start_of(image[0], board), nodes, board, line, more=(16,)),
+        {},
+    )
 
 
 def tasks_of(files, words):
@@ -170,11 +206,22 @@ def tasks_judged(image, board, found, nodes, status, text):
     if fault is not None:
         return (status, text) == (1, b"refused switch at %08X\n" % fault)
     spare = spare_of(board)
-    said = re.fullmatch(rb"certified ([0-9]+) of ([0-9]+) areas in ([0-9]+) tasks\n|refused sum ([0-9]+) of ([0-9]+) areas\n", text)
+    said = re.fullmatch(
+        rb"certified ([0-9]+) of ([0-9]+) areas in ([0-9]+) tasks\n|refused sum ([0-9]+) of ([0-9]+) areas\n",
+        text,
+    )
     if said:
         total = int(said.group(1) or said.group(4))
-        line = b"certified %d of %d areas in %d tasks\n" % (total, spare, len(found[2])) if status == 0 else b"refused sum %d of %d areas\n" % (total, spare)
-        return text == line and status == (0 if total <= spare else 1) and (not nodes or total == sum_of_needs(board, found, nodes))
+        line = (
+            b"certified %d of %d areas in %d tasks\n" % (total, spare, len(found[2]))
+            if status == 0
+            else b"refused sum %d of %d areas\n" % (total, spare)
+        )
+        return (
+            text == line
+            and status == (0 if total <= spare else 1)
+            and (not nodes or total == sum_of_needs(board, found, nodes))
+        )
     refused = re.fullmatch(rb"(refused .*) of task ([0-6])\n", text)
     if not refused or int(refused.group(2)) >= len(found[2]):
         return False
@@ -200,7 +247,11 @@ def sum_of_needs(board, found, nodes):
 def cert(files, words):
     image, board = image_and_plan(files, words)
     start = start_of(image[0], board)
-    return None, functools.partial(made, start, board, (), "certified %d of %d areas\n"), {words[3]: functools.partial(has_start, start, (1, 2))}
+    return (
+        None,
+        functools.partial(made, start, board, (), "certified %d of %d areas\n"),
+        {words[3]: functools.partial(has_start, start, (1, 2))},
+    )
 
 
 def made(start, board, more, line, status, text):
@@ -208,7 +259,11 @@ def made(start, board, more, line, status, text):
     spare = spare_of(board)
     if status == 0:
         found = re.match(rb"certified ([0-9]+) of", text)
-        return bool(found) and int(found.group(1)) <= spare and text == (line % (int(found.group(1)), spare)).encode()
+        return (
+            bool(found)
+            and int(found.group(1)) <= spare
+            and text == (line % (int(found.group(1)), spare)).encode()
+        )
     rule, _, key = refusal(text)
     return status == 1 and rule in (*NEVER_MADE, *more) and frame_of(start, board, key)
 
@@ -262,7 +317,15 @@ def graph(text):
     found = [LINE.fullmatch(line) for line in text.split(b"\n")[:-1]]
     if not found or None in found or not text.endswith(b"\n"):
         return None
-    return [((KINDS[f[1]], int(f[2], 16), int(f[3]), int(f[4])), int(f[5], 16), f[6] or f[8], int(f[7] or b"0", 16)) for f in found]
+    return [
+        (
+            (KINDS[f[1]], int(f[2], 16), int(f[3]), int(f[4])),
+            int(f[5], 16),
+            f[6] or f[8],
+            int(f[7] or b"0", 16),
+        )
+        for f in found
+    ]
 
 
 def drawn(start, board, status, text):
@@ -274,25 +337,40 @@ def drawn(start, board, status, text):
         return False
     # interrupts are ordered by priority; a vector doesn't show it if it shares bits with the table
     order = [(key, at, WAYS.index(way), 0 if way == b"irq" else to) for key, at, way, to in lines]
-    return order == sorted(order) and len(set(lines)) == len(lines) and all(frame_of(start, board, key) for key, *_ in lines)
+    return (
+        order == sorted(order)
+        and len(set(lines)) == len(lines)
+        and all(frame_of(start, board, key) for key, *_ in lines)
+    )
 
 
 def cellcert(files, words):
     image, board = image_and_plan(files, words)
     found = readers.cells(given(files, words[3], "cells"), board)
     start, line = start_of(image[0], board), f"certified %d of %d areas with {len(found)} cells\n"
-    return None, functools.partial(made, start, board, (16,), line), {words[4]: functools.partial(has_start, start, (2,))}
+    return (
+        None,
+        functools.partial(made, start, board, (16,), line),
+        {words[4]: functools.partial(has_start, start, (2,))},
+    )
 
 
 def taskcert(files, words):
     image, board, found = tasks_of(files, words)
-    written = {name: functools.partial(has_start, (0, entry, 0, 0), (2,)) for name, (entry, _) in zip(words[4:], found[2])}
+    written = {
+        name: functools.partial(has_start, (0, entry, 0, 0), (2,))
+        for name, (entry, _) in zip(words[4:], found[2])
+    }
     return None, functools.partial(tasks_judged, image, board, found, []), written
 
 
 def gen(_, words):
     count = int(words[1])
-    return 0, f"functions {count} nodes {count + 34} points {4 * count + 120} certified {48 + count.bit_length()} of 240 areas\n", {}
+    return (
+        0,
+        f"functions {count} nodes {count + 34} points {4 * count + 120} certified {48 + count.bit_length()} of 240 areas\n",
+        {},
+    )
 
 
 # Everything else
@@ -301,7 +379,11 @@ def gen(_, words):
 def bootgen(files, words):
     board = read_plan(given(files, words[1], "plan"))
     entry, at = (int(word, 16) for word in words[2:4])
-    return 0, "boot 56 instructions\n", {words[4]: readers.listing([(at, readers.boot_code(board, entry))]).encode()}
+    return (
+        0,
+        "boot 56 instructions\n",
+        {words[4]: readers.listing([(at, readers.boot_code(board, entry))]).encode()},
+    )
 
 
 def run(files, words):
@@ -315,10 +397,17 @@ def run(files, words):
 
 def driven(turns, status, text):
     """Whether a line of `run` can be right for so many turns."""
-    found = re.fullmatch(rb"events (\d+) peak (\d+) (running|dead (fcd|fcu|csu|ctyp|notlisted|nocode|noarea) at [0-9A-F]{8})\n", text)
+    found = re.fullmatch(
+        rb"events (\d+) peak (\d+) (running|dead (fcd|fcu|csu|ctyp|notlisted|nocode|noarea) at [0-9A-F]{8})\n",
+        text,
+    )
     if status or not found or int(found.group(2)) > 4096:
         return False
-    return int(found.group(1)) == turns if found.group(3) == b"running" else 1 <= int(found.group(1)) <= turns
+    return (
+        int(found.group(1)) == turns
+        if found.group(3) == b"running"
+        else 1 <= int(found.group(1)) <= turns
+    )
 
 
 def asm(files, words):
@@ -328,7 +417,10 @@ def asm(files, words):
 
 def link(files, words):
     places = readers.layout(given(files, words[1], "layout"))
-    objects = [readers.ObjectFile(given(files, w, "object", place=f" at {i}"), i).read() for i, w in enumerate(words[3:])]
+    objects = [
+        readers.ObjectFile(given(files, w, "object", place=f" at {i}"), i).read()
+        for i, w in enumerate(words[3:])
+    ]
     found = readers.link(places, objects)
     return 0, f"image {len(found)} bytes\n", {words[2]: found}
 
@@ -347,7 +439,9 @@ ASKED = {
     "ship": lambda words: words[3] != words[4],
     "gen": lambda words: re.fullmatch("[1-9][0-9]{0,2}", words[1]) and int(words[1]) <= 500,
     "boot": lambda words: ADDRESS.fullmatch(words[4]),
-    "bootgen": lambda words: ADDRESS.fullmatch(words[2]) and ADDRESS.fullmatch(words[3]) and int(words[3], 16) <= 0xFFFFFF20,
+    "bootgen": lambda words: ADDRESS.fullmatch(words[2])
+    and ADDRESS.fullmatch(words[3])
+    and int(words[3], 16) <= 0xFFFFFF20,
     "taskcert": lambda words: len(set(words[4:])) == len(words) - 4,
 }
 
@@ -355,7 +449,11 @@ ASKED = {
 def answer(words, files):
     """The status, the text (or a test of status and text), and the files written."""
     command, least, most = COMMANDS.get(words[0] if words else "", (None, 0, 0))
-    if command is None or not least <= len(words) <= most or not ASKED.get(words[0], lambda _: True)(words):
+    if (
+        command is None
+        or not least <= len(words) <= most
+        or not ASKED.get(words[0], lambda _: True)(words)
+    ):
         return 5, "bad words\n", {}
     try:
         status, text, written = command(files, words)
@@ -371,4 +469,8 @@ def answer(words, files):
 
 def fits(want, status, text):
     """Whether a status and a text are those of an answer."""
-    return want[1](status, text) if callable(want[1]) else (status, text) == (want[0], want[1].encode())
+    return (
+        want[1](status, text)
+        if callable(want[1])
+        else (status, text) == (want[0], want[1].encode())
+    )

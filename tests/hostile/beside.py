@@ -11,7 +11,14 @@ from hostile import rules
 from hostile.answers import graph, key_text, read_cert, read_elf, read_plan, tasks_of
 from tcdlib import formats as readers
 
-FILES = {"cert": (2, 1), "report": (3, 0), "cfg": (2, 0), "boot": (3, 0), "cells": (4, 0), "cellcert": (3, 1)}
+FILES = {
+    "cert": (2, 1),
+    "report": (3, 0),
+    "cfg": (2, 0),
+    "boot": (3, 0),
+    "cells": (4, 0),
+    "cellcert": (3, 1),
+}
 
 
 def names(words):
@@ -27,7 +34,11 @@ def names(words):
 def beside(bench, words, status, out):
     """What doesn't fit to the answer to these words, where the inputs can be read again."""
     found = names(words) if words and status in (0, 1) else None
-    if not found or set(found[0]) & set(found[1]) or not all((bench.folder / name).is_file() for name in found[0] + found[1] * (status == 0)):
+    if (
+        not found
+        or set(found[0]) & set(found[1])
+        or not all((bench.folder / name).is_file() for name in found[0] + found[1] * (status == 0))
+    ):
         return []
     if any((bench.folder / name).is_symlink() or "/" in name for name in found[0] + found[1]):
         return []
@@ -57,7 +68,11 @@ class Other:
     def says(self, wanted, *words):
         """Whether a command has this status and this text."""
         answered = self.bench.ended(list(words), {})
-        return [] if answered == (*wanted, b"") else [f"{' '.join(words)} says {answered[:2]!r} in place of {wanted!r}"]
+        return (
+            []
+            if answered == (*wanted, b"")
+            else [f"{' '.join(words)} says {answered[:2]!r} in place of {wanted!r}"]
+        )
 
     def made(self, status, out, elf, plan):
         """`cert` has to make a certificate if one was made, else to refuse with the same line."""
@@ -88,7 +103,11 @@ def after_cfg(other, words, status, out):
     if status or faults:
         return faults
     points = {(node[0], point[0]) for node in read_cert(other.bytes(name))[1] for point in node[3]}
-    faults = [] if {line[:2] for line in graph(out)} == points else ["the graph has other points than the certificate"]
+    faults = (
+        []
+        if {line[:2] for line in graph(out)} == points
+        else ["the graph has other points than the certificate"]
+    )
     return faults + longest_rows(other, words[1:3], name, graph(out))
 
 
@@ -110,13 +129,20 @@ def longest_rows(other, inputs, name, lines):
     for key in calls:
         wanted[key[2]] = max(wanted.get(key[2], 0), row(key))
     found = [{"longest": count, "prio": prio} for prio, count in sorted(wanted.items())]
-    return [] if json.loads(text)["calls"] == found else [f"report says {text[:200]!r}, the graph has {found}"]
+    return (
+        []
+        if json.loads(text)["calls"] == found
+        else [f"report says {text[:200]!r}, the graph has {found}"]
+    )
 
 
 def after_ship(other, words, status, out):
     if status == 0:
         return other.says((0, out), "check", words[3], words[1], words[4])
-    objects = [readers.ObjectFile(readers.Source(other.bytes(name)).read(), i).read() for i, name in enumerate(words[5:])]
+    objects = [
+        readers.ObjectFile(readers.Source(other.bytes(name)).read(), i).read()
+        for i, name in enumerate(words[5:])
+    ]
     elf = other.put("elf", readers.link(readers.layout(other.bytes(words[2])), objects))
     return other.made(status, out, elf, words[1])[0]
 
@@ -126,7 +152,11 @@ def after_boot(other, words, status, out):
         return other.says((1, out), "check", *words[1:4])
     numbers = re.search(rb"certified \d+ of \d+ areas\n", out)
     answered = other.bench.ended(["check", *words[1:4]], {})
-    return [] if answered[0] == 0 and (status == 1 or answered[1] == numbers.group()) else [f"check says {answered[:2]!r} beside {out!r}"]
+    return (
+        []
+        if answered[0] == 0 and (status == 1 or answered[1] == numbers.group())
+        else [f"check says {answered[:2]!r} beside {out!r}"]
+    )
 
 
 def line_of(rule, fault):
@@ -139,7 +169,12 @@ def with_cells(other, words):
     board = read_plan(other.bytes(words[2]))
     found = readers.cells(other.bytes(words[3]), board)
     board = readers.with_cells(board, found)
-    return read_elf(other.bytes(words[1])), found, board, other.put("json", json.dumps(board).encode())
+    return (
+        read_elf(other.bytes(words[1])),
+        found,
+        board,
+        other.put("json", json.dumps(board).encode()),
+    )
 
 
 def after_cells(other, words, status, out):
@@ -147,7 +182,11 @@ def after_cells(other, words, status, out):
     answered = other.bench.ended(["check", words[1], plan, words[4]], {})
     if answered[0] == 0:
         fault = rules.cells_fault(read_cert(other.bytes(words[4])), image, board, found)
-        wanted = (1, line_of(16, fault) + b"\n") if fault else (0, answered[1][:-1] + b" with %d cells\n" % len(found))
+        wanted = (
+            (1, line_of(16, fault) + b"\n")
+            if fault
+            else (0, answered[1][:-1] + b" with %d cells\n" % len(found))
+        )
         return [] if (status, out) == wanted else [f"{out!r} in place of {wanted}"]
     return [] if answered == (status, out, b"") else [f"check says {answered[:2]!r} beside {out!r}"]
 
@@ -156,7 +195,9 @@ def is_of_both(cert):
     """Whether the least certificate of version 2 has the same states as this one: it is of version
     2, or has no span but any word."""
     version, nodes = cert
-    return version == 2 or not any(isinstance(value, tuple) for node in nodes for point in node[3] for value in point[5])
+    return version == 2 or not any(
+        isinstance(value, tuple) for node in nodes for point in node[3] for value in point[5]
+    )
 
 
 def after_cellcert(other, words, status, out):
@@ -168,9 +209,15 @@ def after_cellcert(other, words, status, out):
         if faults or not is_of_both(read_cert(other.bytes(name))):
             return faults
         fault = rules.cells_fault(read_cert(other.bytes(name)), image, board, found)
-        return [] if fault and out == line_of(16, fault) + b"\n" else [f"{out!r} in place of {fault}"]
+        return (
+            [] if fault and out == line_of(16, fault) + b"\n" else [f"{out!r} in place of {fault}"]
+        )
     answered = other.bench.ended(["cert", words[1], plan, other.put("cert", b"")], {})
-    return [] if answered[0] == 0 or answered[:2] == (1, out) else [f"cert says {answered[:2]!r} beside {out!r}"]
+    return (
+        []
+        if answered[0] == 0 or answered[:2] == (1, out)
+        else [f"cert says {answered[:2]!r} beside {out!r}"]
+    )
 
 
 def views(other, words):
@@ -178,7 +225,9 @@ def views(other, words):
     image, board, found = tasks_of({name: other.bytes(name) for name in words[1:4]}, words)
     for u in range(len(found[2])):
         elf, plan = readers.view_image(image, found, u), readers.view_plan(board, found, u)
-        yield found, read_elf(elf), plan, other.put(f"{u}.elf", elf), other.put(f"{u}.json", json.dumps(plan).encode())
+        yield found, read_elf(elf), plan, other.put(f"{u}.elf", elf), other.put(
+            f"{u}.json", json.dumps(plan).encode()
+        )
 
 
 def after_tasks(other, words, status, out):
@@ -186,10 +235,18 @@ def after_tasks(other, words, status, out):
         return []
     for u, (found, view, board, elf, plan) in enumerate(views(other, words)):
         answered = other.bench.ended(["check", elf, plan, words[4 + u]], {})
-        fault = None if answered[0] else rules.task_fault(read_cert(other.bytes(words[4 + u])), view, board, found)
+        fault = (
+            None
+            if answered[0]
+            else rules.task_fault(read_cert(other.bytes(words[4 + u])), view, board, found)
+        )
         line = answered[1][:-1] if answered[0] else line_of(17, fault) if fault else None
         if line:
-            return [] if (status, out) == (1, line + b" of task %d\n" % u) else [f"{out!r} in place of {line!r} of task {u}"]
+            return (
+                []
+                if (status, out) == (1, line + b" of task %d\n" % u)
+                else [f"{out!r} in place of {line!r} of task {u}"]
+            )
     return [] if not out.startswith(b"refused K") else [f"nothing is against a task beside {out!r}"]
 
 
@@ -201,15 +258,25 @@ def after_taskcert(other, words, status, out):
     for u, (found, view, board, elf, plan) in enumerate(views(other, words)):
         name = other.put("cert", b"")
         answered = other.bench.ended(["cert", elf, plan, name], {})
-        named, made = out.endswith(b" of task %d\n" % u), None if answered[0] else read_cert(other.bytes(name))
+        named, made = out.endswith(b" of task %d\n" % u), None if answered[0] else read_cert(
+            other.bytes(name)
+        )
         if made and not is_of_both(made):
             if named:
-                return [] if out.startswith(b"refused K17 ") else [f"{out!r} where cert makes a certificate of the view"]
+                return (
+                    []
+                    if out.startswith(b"refused K17 ")
+                    else [f"{out!r} where cert makes a certificate of the view"]
+                )
             continue
         fault = made and rules.task_fault(made, view, board, found)
         wanted = line_of(17, fault) if fault else answered[1][:-1] if answered[0] else b""
         if wanted or named:
-            return [] if out == wanted + b" of task %d\n" % u else [f"{out!r} in place of {wanted!r} of task {u}"]
+            return (
+                []
+                if out == wanted + b" of task %d\n" % u
+                else [f"{out!r} in place of {wanted!r} of task {u}"]
+            )
     return [] if out.startswith(b"refused sum ") else [f"cert makes all views beside {out!r}"]
 
 

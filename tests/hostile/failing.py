@@ -44,7 +44,18 @@ def failing_files(bench):
     for words, places, files in forms().values():
         bench.only(files)
         for at in places:
-            for name in ("missing", "", "nowhere/file", "e/file" if "e" in files else f"{words[1]}/file", "n" * 300, "n/" * 3000, "\n", "-", "--", "/proc/self/mem"):
+            for name in (
+                "missing",
+                "",
+                "nowhere/file",
+                "e/file" if "e" in files else f"{words[1]}/file",
+                "n" * 300,
+                "n/" * 3000,
+                "\n",
+                "-",
+                "--",
+                "/proc/self/mem",
+            ):
                 bench.case("a file that isn't there", swapped(words, at, name), {name: FAULT})
             with special(bench, os.mkdir) as name:
                 bench.case("a directory", swapped(words, at, name), {name: FAULT})
@@ -61,20 +72,36 @@ def failing_files(bench):
                     bench.put(words[other], files[words[other]])
         for at in places if words[0] != "check" or not bench.quick else ():
             if words[at] not in CERTS:
-                bench.case("a file without end", swapped(words, at, "/dev/zero"), {"/dev/zero": bytes(readers.FILE_LIMIT + 1)})
+                bench.case(
+                    "a file without end",
+                    swapped(words, at, "/dev/zero"),
+                    {"/dev/zero": bytes(readers.FILE_LIMIT + 1)},
+                )
 
 
 def pipes(bench, words, at, data):
     with special(bench, os.mkfifo) as name:
         for text in (data, b"", data[: len(data) // 2]):
-            bench.case("a pipe", swapped(words, at, name), {name: text}, meanwhile=lambda text=text: feed(bench.folder / name, text))
+            bench.case(
+                "a pipe",
+                swapped(words, at, name),
+                {name: text},
+                meanwhile=lambda text=text: feed(bench.folder / name, text),
+            )
         wait = 0.3
-        bench.case("a pipe that waits", swapped(words, at, name), {name: data}, meanwhile=lambda: feed(bench.folder / name, data, wait))
+        bench.case(
+            "a pipe that waits",
+            swapped(words, at, name),
+            {name: data},
+            meanwhile=lambda: feed(bench.folder / name, data, wait),
+        )
 
 
 def failing_outputs(bench):
     """Outputs that can't be written or are inputs, and a standard output that is full or closed."""
-    for command, place in [(command, place) for command, places in OUTPUTS.items() for place in places]:
+    for command, place in [
+        (command, place) for command, places in OUTPUTS.items() for place in places
+    ]:
         words, _, files = forms()[command]
         bench.only(files)
         for name in ("", "nowhere/x", f"{words[1]}/x", "/dev/full", "n" * 300):
@@ -111,7 +138,11 @@ def full_outputs():
         os.close(reader)
         return {"stdout": writer, "preexec_fn": None}
 
-    return (lambda: {"stdout": os.open("/dev/full", os.O_WRONLY)}, broken_pipe, lambda: {"preexec_fn": lambda: os.close(1)})
+    return (
+        lambda: {"stdout": os.open("/dev/full", os.O_WRONLY)},
+        broken_pipe,
+        lambda: {"preexec_fn": lambda: os.close(1)},
+    )
 
 
 # Limits
@@ -138,13 +169,25 @@ def limits(bench):
                 continue
             for size in (limit + 1,) if bench.quick else (limit, limit + 1, 1 << 40):
                 sparse(bench, size)
-                bench.case("a file at or above its limit", swapped(words, at, "big"), {"big": bytes(min(size, limit + 1))})
+                bench.case(
+                    "a file at or above its limit",
+                    swapped(words, at, "big"),
+                    {"big": bytes(min(size, limit + 1))},
+                )
             full = None if bench.quick else filled(words, name, files[name])
             if full:
                 (bench.folder / "big").write_bytes(full)
-                bench.case("a file at or above its limit", swapped(words, at, "big"), want=answer(words, files))
+                bench.case(
+                    "a file at or above its limit",
+                    swapped(words, at, "big"),
+                    want=answer(words, files),
+                )
                 (bench.folder / "big").write_bytes(full + b"\n")
-                bench.case("a file at or above its limit", swapped(words, at, "big"), {"big": bytes(limit + 1)})
+                bench.case(
+                    "a file at or above its limit",
+                    swapped(words, at, "big"),
+                    {"big": bytes(limit + 1)},
+                )
             (bench.folder / "big").unlink(missing_ok=True)
     if not bench.quick:
         bench.only(forms()["check"][2])
@@ -166,15 +209,34 @@ def many_words(bench):
     empty = readers.object_bytes([], [], [])
     bench.only({"l": L1, "o": empty, "p": P8, "e": TWO, "t": TASKS, "s": b""})
     long = (4, 65536) if bench.quick else (4, 100, 65534, 65535, 65536, 70000)
-    for command, line in (("link", "bad link 6\n"), ("ship", "bad link 6\n"), ("tasks", "bad tasks 7\n"), ("taskcert", "bad tasks 7\n")):
-        head = {"link": ["link", "l", "x"], "ship": ["ship", "p", "l", "x", "y"]}.get(command, [command, "e", "p", "t"])
-        for count in long if command != "taskcert" else (1004, 65536) if bench.quick else (1004, 65535, 65536):
+    for command, line in (
+        ("link", "bad link 6\n"),
+        ("ship", "bad link 6\n"),
+        ("tasks", "bad tasks 7\n"),
+        ("taskcert", "bad tasks 7\n"),
+    ):
+        head = {"link": ["link", "l", "x"], "ship": ["ship", "p", "l", "x", "y"]}.get(
+            command, [command, "e", "p", "t"]
+        )
+        for count in (
+            long
+            if command != "taskcert"
+            else (1004, 65536)
+            if bench.quick
+            else (1004, 65535, 65536)
+        ):
             rest = {"link": ["o"], "ship": ["s"], "tasks": ["c"]}.get(command)
-            words = (head + (rest * count if rest else [f"c{i}" for i in range(count)]))[: max(count, len(head) + 1)]
+            words = (head + (rest * count if rest else [f"c{i}" for i in range(count)]))[
+                : max(count, len(head) + 1)
+            ]
             good = len(words) <= 65535
             bench.case("many words", words, want=(2, line, {}) if good else (5, "bad words\n", {}))
             if command in ("link", "ship"):
-                bench.case("many words", words[:-1] + ["m"], want=(3, "", {}) if good else (5, "bad words\n", {}))
+                bench.case(
+                    "many words",
+                    words[:-1] + ["m"],
+                    want=(3, "", {}) if good else (5, "bad words\n", {}),
+                )
 
 
 def little_memory(bench):
@@ -189,7 +251,9 @@ def little_memory(bench):
             bench.only({"s": S1 + b".byte 1, 2, 3, 4\n" * 2000})
         wanted, least = answer(words, bench.held), None
         for size in range(1 << 18, 24 << 20, (4 << 20) if bench.quick else (1 << 18)):
-            how = {"preexec_fn": lambda size=size: resource.setrlimit(resource.RLIMIT_AS, (size, size))}
+            how = {
+                "preexec_fn": lambda size=size: resource.setrlimit(resource.RLIMIT_AS, (size, size))
+            }
             try:
                 first = bench.ended(["--help"], how)
             except (OSError, subprocess.SubprocessError):
@@ -198,9 +262,17 @@ def little_memory(bench):
                 continue
             least = least or size
             none = [(4, b"")] + [(-signal.SIGSEGV, b"")] * (size < least + (1 << 20))
-            test = lambda status, text, none=none: (status, text) in none or fits(wanted, status, text)
+            test = lambda status, text, none=none: (status, text) in none or fits(
+                wanted, status, text
+            )
             before = dict(bench.held)
-            bench.case("little memory", words, want=(None, test, wanted[2]), how=how, anything=tuple(wanted[2]))
+            bench.case(
+                "little memory",
+                words,
+                want=(None, test, wanted[2]),
+                how=how,
+                anything=tuple(wanted[2]),
+            )
             bench.only(before)
 
 

@@ -3,13 +3,33 @@ import functools
 import re
 
 from hostile.answers import answer, driven, fits, read_plan
-from hostile.inputs import C0, CELLS, COUNTS, I1, L1, P0, P8, S1, T1, TASKS, TWO, cells_cert, changed, first_cert, nested, task_cert, with_boot
+from hostile.inputs import (
+    C0,
+    CELLS,
+    COUNTS,
+    I1,
+    L1,
+    P0,
+    P8,
+    S1,
+    T1,
+    TASKS,
+    TWO,
+    cells_cert,
+    changed,
+    first_cert,
+    nested,
+    task_cert,
+    with_boot,
+)
 from tcdlib import formats as readers
 
 
 def made_rows(i7, p7):
     """Images, plans, and what `cert` prints of them, worked out by hand from docs/rules.md."""
-    code = lambda *parts: readers.elf_bytes(0x80000000, [(at, bytes.fromhex(held)) for at, held in parts])
+    code = lambda *parts: readers.elf_bytes(
+        0x80000000, [(at, bytes.fromhex(held)) for at, held in parts]
+    )
     one = P0.replace(b'"irqs":[]', b'"irqs":[10]').replace(b'"ie":0', b'"ie":1')
     table = "8F3F00F1910000F801FF02F699FF20002D0F00003C00" + "00" * 10 + "300000803200008034000080"
     main = "start 80000000 prio 0 is 0"
@@ -25,7 +45,10 @@ def made_rows(i7, p7):
         (code((0x80000000, "AD3080003C00"), (0x800001C0, "EE02FFFF0080")), P0, f"refused K12 at 80000000 in {main}"),
         (code((0x80000000, "AD3080003C00"), (0x800001C0, "EE02FFFF0080")), P0.replace(b'"traps":[]', b'"traps":["sys"]'), "certified 1 of 2 areas"),
     ]  # fmt: skip
-    return [("cert", {"e": elf, "p": board}, int(line.startswith("refused")), line + "\n") for elf, board, line in cases]
+    return [
+        ("cert", {"e": elf, "p": board}, int(line.startswith("refused")), line + "\n")
+        for elf, board, line in cases
+    ]
 
 
 def rows(bench):
@@ -75,24 +98,53 @@ def rows(bench):
     ]  # fmt: skip
     for command, files, status, text in tried:
         files = {"e": I1, "p": P0, "c": c1, "s": T1, **files}
-        words = {"check": ["check", "e", "p", "c"], "run": ["run", "e", "p", "s"], "asm": ["asm", "s", "o"], "link": ["link", "l", "x", "o"], "dis": ["dis", "e"], "cert": ["cert", "e", "p", "x"]}[command]
-        bench.only({n: d for n, d in files.items() if n in words and n != ("o" if command == "asm" else "")})
+        words = {
+            "check": ["check", "e", "p", "c"],
+            "run": ["run", "e", "p", "s"],
+            "asm": ["asm", "s", "o"],
+            "link": ["link", "l", "x", "o"],
+            "dis": ["dis", "e"],
+            "cert": ["cert", "e", "p", "x"],
+        }[command]
+        bench.only(
+            {
+                n: d
+                for n, d in files.items()
+                if n in words and n != ("o" if command == "asm" else "")
+            }
+        )
         want = answer(words, bench.held)
         if text.endswith("dead"):
             want = (None, functools.partial(driven, 100000), {})
         elif callable(want[1]) or (want[0], want[1]) == (status, text):
             want = (status, text, want[2])
         else:
-            bench.wrong.append(("a row as data", words, {}, [f"the reader says {want[:2]}, the row {status} {text!r}"]))
+            bench.wrong.append(
+                (
+                    "a row as data",
+                    words,
+                    {},
+                    [f"the reader says {want[:2]}, the row {status} {text!r}"],
+                )
+            )
         bench.case("a row as data", words, want=want)
     bench.only({"e": I1, "p": P0})
-    bench.case("a row as data", ["cert", "e", "p", "x"], want=(0, "certified 1 of 2 areas\n", {"x": c1}))
+    bench.case(
+        "a row as data", ["cert", "e", "p", "x"], want=(0, "certified 1 of 2 areas\n", {"x": c1})
+    )
     for n in range(0, 169, 13 if bench.quick else 1):
         bench.put("c", c1[:n])
         status, text = bench.case("a row as data", ["check", "e", "p", "c"])
         at = int(text.split()[-1]) if re.fullmatch(rb"bad cert 1 at \d+\n", text) else n + 1
         if at > n:
-            bench.wrong.append(("a row as data", ["check", "e", "p", "c"], {}, [f"{n} bytes of the certificate: {text!r}"]))
+            bench.wrong.append(
+                (
+                    "a row as data",
+                    ["check", "e", "p", "c"],
+                    {},
+                    [f"{n} bytes of the certificate: {text!r}"],
+                )
+            )
 
 
 def later_rows(bench):
@@ -101,11 +153,20 @@ def later_rows(bench):
     boot = with_boot()
     on = P0.replace(b'"ie":0', b'"ie":1')
     many = b"".join(b"cell D0008%03X 00000000 00000001\n" % (8 * n + 4) for n in range(17))
-    sixteen = b'"devices":[' + b",".join(b'{"at":%d,"len":4,"lo":0,"hi":1}' % (0xF0000000 + 16 * n) for n in range(16)) + b"]"
+    sixteen = (
+        b'"devices":['
+        + b",".join(b'{"at":%d,"len":4,"lo":0,"hi":1}' % (0xF0000000 + 16 * n) for n in range(16))
+        + b"]"
+    )
     full = P8.replace(b'"devices":[]', sixteen)
     main, start = "start 80000000 prio 0 is 0", "80000000 prio 0 is 0"
     mask = changed(COUNTS, COUNTS.index(bytes.fromhex("8F3F00F1")) + 1, 0x7F)
-    small = [f"start {start}: 80000000 call 80000008", f"start {start}: 80000000 back 80000004", f"start {start}: 80000004 to 80000004", "call 80000008 prio 0 is 0: 80000008 ret"]
+    small = [
+        f"start {start}: 80000000 call 80000008",
+        f"start {start}: 80000000 back 80000004",
+        f"start {start}: 80000004 to 80000004",
+        "call 80000008 prio 0 is 0: 80000008 ret",
+    ]
     tried = [
         (["boot", "e", "p", "c", "80000800"], {"e": boot, "p": P0, "c": first_cert()}, 0, "boot 65 events certified 1 of 2 areas\n"),
         (["boot", "e", "p", "c", "80000800"], {"e": boot.replace(b"\x1b", b"\x9b", 1), "p": P0, "c": C0}, 1, "refused boot 4 at 80000804\n"),
@@ -164,7 +225,18 @@ def later_rows(bench):
         bench.only(files)
         want = answer(words, files)
         if not fits(want, status, text.encode()):
-            bench.wrong.append(("a row as data", words, {}, [f"the readers say {want[:2]}, the row {status} {text!r}"]))
+            bench.wrong.append(
+                (
+                    "a row as data",
+                    words,
+                    {},
+                    [f"the readers say {want[:2]}, the row {status} {text!r}"],
+                )
+            )
         bench.case("a row as data", words, want=(status, text, want[2] if status == 0 else {}))
-    if readers.boot_code(read_plan(P0), 0x80000000)[:16] != bytes.fromhex("7B0000001B000000CDC0E20F0D00C004"):
-        bench.wrong.append(("a row as data", ["bootgen"], {}, ["the readers' sequence begins otherwise"]))
+    if readers.boot_code(read_plan(P0), 0x80000000)[:16] != bytes.fromhex(
+        "7B0000001B000000CDC0E20F0D00C004"
+    ):
+        bench.wrong.append(
+            ("a row as data", ["bootgen"], {}, ["the readers' sequence begins otherwise"])
+        )

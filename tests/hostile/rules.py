@@ -20,7 +20,9 @@ class Point:
         self.board, self.most, self.at = board, 64 if version == 1 else 128, point[0]
         self.values = dict(zip(NAMES, point[5]))
         held = [readers.byte_at(image[1], self.at + i) for i in range(4)]
-        self.name, self.operands, _ = machine.DECODER.decode(bytes(held[: held.index(None)] if None in held else held))
+        self.name, self.operands, _ = machine.DECODER.decode(
+            bytes(held[: held.index(None)] if None in held else held)
+        )
         self.plain = self.name.replace("16", "", 1)
 
     def value(self, register):
@@ -60,10 +62,19 @@ class Point:
             return list(range(first, last + 1, step))
         marks = {0, *(1 << n for n in range(33))}
         areas = self.board["csa"]
-        for r in self.board["rom"] + self.board["ram"] + self.board["devices"] + [{"at": areas["at"], "len": 64 * areas["areas"]}]:
+        for r in (
+            self.board["rom"]
+            + self.board["ram"]
+            + self.board["devices"]
+            + [{"at": areas["at"], "len": 64 * areas["areas"]}]
+        ):
             marks |= {r["at"], r["at"] + r["len"]}
         marks = sorted(marks)
-        return step, marks[bisect.bisect_right(marks, first) - 1], marks[bisect.bisect_right(marks, last)] - 1
+        return (
+            step,
+            marks[bisect.bisect_right(marks, first) - 1],
+            marks[bisect.bisect_right(marks, last)] - 1,
+        )
 
 
 def meets(value, low, high):
@@ -108,7 +119,9 @@ def stays_apart(point, key, board, found):
         return False
     if point.plain.startswith("ld"):
         spots = ((areas["at"], 64 * areas["areas"]), (switch, 72))
-        return not any(meets(point.address(), at - point.size() + 1, at + length - 1) for at, length in spots)
+        return not any(
+            meets(point.address(), at - point.size() + 1, at + length - 1) for at, length in spots
+        )
     if point.plain == "mfcr":
         return point.operands[1][1] not in LINKS
     return not (point.plain == "bisr" and key[2:] == (0, 0))

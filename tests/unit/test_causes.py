@@ -53,9 +53,7 @@ class Rings(unittest.TestCase):
         self.assertEqual(told, ("call 80000008 call 8000000E", None))
 
     def test_a_handler_that_lowers_its_priority(self):
-        found = listing(
-            (0x80000000, "enable", "j .+0"), (VECTOR_10, "bisr16 5", "rslcx", "rfe16")
-        )
+        found = listing((0x80000000, "enable", "j .+0"), (VECTOR_10, "bisr16 5", "rslcx", "rfe16"))
         told = ring(found, "irq 80000540 prio 10 is 1", "80000542")
         self.assertEqual(told, ("irq 80000540", "80000540"))
 

@@ -33,8 +33,12 @@ ENDED_BY = {
 }
 BLOCKS = {"p", "div", "table", "pre", "ul", "ol", "h1", "h2", "h3", "details"}
 DRAWN = {"svg", "g", "path", "polygon", "ellipse", "text"}
-TAGS = BLOCKS | VOID | IMPLIED | DRAWN | set(
-    "html title style script nav a b i small code span caption li summary label".split()
+TAGS = (
+    BLOCKS
+    | VOID
+    | IMPLIED
+    | DRAWN
+    | set("html title style script nav a b i small code span caption li summary label".split())
 )
 ATTRIBUTES = set(
     "class id href title style colspan scope role aria-label lang charset name content type "
@@ -153,8 +157,7 @@ class Certified(Pages):
         # examples/README.md: blink, syscall 2, put, ready
         self.recorded()
         known = names.Map(
-            (at, name, "kernel.s", 1)
-            for at, name in ((0x80000000, "main"), (0x80000008, "blink"))
+            (at, name, "kernel.s", 1) for at, name in ((0x80000000, "main"), (0x80000008, "blink"))
         )
         page = self.page(known)
         self.assertIn("4 of 4 areas are in use at most", page.text)

@@ -277,7 +277,6 @@ class Walk:
                 ]
         return []
 
-
     def lowering(self, steps):
         """The first point at which a handler of these steps lowers CCPN below its own priority."""
         prios = {step.frame.prio for step in steps}

@@ -11,7 +11,7 @@ SECONDS = 20
 #: the drawings of a page have at most so many characters together; later frames are only listed
 MOST_CHARACTERS = 300_000
 HEAD = (
-    'digraph { bgcolor=transparent; node [shape=box, fontname=monospace, fontsize=10, '
+    "digraph { bgcolor=transparent; node [shape=box, fontname=monospace, fontsize=10, "
     'margin="0.08,0.04"]; edge [fontname=monospace, fontsize=9];'
 )
 #: what a drawing has and the page's style gives, or that the page doesn't need

@@ -6,9 +6,33 @@ It shares nothing with the product except the table of instructions, which tcdli
 from tcdlib import formats as readers
 
 WORD = 0xFFFFFFFF
-PCXI, PSW, BIV, BTV, ISP, ICR, FCX, LCX = 0xFE00, 0xFE04, 0xFE20, 0xFE24, 0xFE28, 0xFE2C, 0xFE38, 0xFE3C
+PCXI, PSW, BIV, BTV, ISP, ICR, FCX, LCX = (
+    0xFE00,
+    0xFE04,
+    0xFE20,
+    0xFE24,
+    0xFE28,
+    0xFE2C,
+    0xFE38,
+    0xFE3C,
+)
 # The registers of a context in the order of its words, behind the words that it begins with.
-UPPER = ("a10", "a11", "d8", "d9", "d10", "d11", "a12", "a13", "a14", "a15", "d12", "d13", "d14", "d15")
+UPPER = (
+    "a10",
+    "a11",
+    "d8",
+    "d9",
+    "d10",
+    "d11",
+    "a12",
+    "a13",
+    "a14",
+    "a15",
+    "d12",
+    "d13",
+    "d14",
+    "d15",
+)
 LOWER = ("a11", "a2", "a3", "d0", "d1", "d2", "d3", "a4", "a5", "a6", "a7", "d4", "d5", "d6", "d7")
 # Of a layout of PCXI, the lowest bits of PCPN, PIE and UL.
 LAYOUTS = {"1.3": (24, 23, 22), "1.6": (22, 21, 20)}
@@ -120,7 +144,9 @@ class Decoder:
         if held in self.known:
             return self.known[held]
         for row in readers.BY_CODE.get(held[0], ()) if held else ():
-            if row.length <= len(held) and row.spelled(int.from_bytes(held[: row.length], "little")):
+            if row.length <= len(held) and row.spelled(
+                int.from_bytes(held[: row.length], "little")
+            ):
                 word = int.from_bytes(held[: row.length], "little")
                 found = (row.name, [operand(row, text, word) for text in row.operands], row.length)
                 self.known[held] = found
@@ -147,7 +173,12 @@ def operand(row, text, word):
         return "t", 2 * (values[0] if row.form == "Sbr" else readers.signed(values[0], row.width))
     if text == "U":
         k = values[0]
-        return "u", (k >> 14) << 28 | k & 0x3FFF if row.form == "Abs" else (k >> 20) << 28 | (k & 0xFFFFF) << 1
+        return (
+            "u",
+            (k >> 14) << 28 | k & 0x3FFF
+            if row.form == "Abs"
+            else (k >> 20) << 28 | (k & 0xFFFFF) << 1,
+        )
     if text.startswith("["):
         offset = readers.signed(values[1], row.width) if text.endswith("sk") else 0
         return "m", values[0], offset, "+" in text
@@ -158,7 +189,14 @@ def operand(row, text, word):
 
 
 DECODER = Decoder()
-SIZES = {"b": (1, True), "bu": (1, False), "h": (2, True), "hu": (2, False), "w": (4, False), "a": (4, False)}
+SIZES = {
+    "b": (1, True),
+    "bu": (1, False),
+    "h": (2, True),
+    "hu": (2, False),
+    "w": (4, False),
+    "a": (4, False),
+}
 
 
 class Event:
@@ -177,7 +215,9 @@ class Machine:
         self.memory = Memory([*ranges, (areas["at"], 64 * areas["areas"])])
         self.core, self.end, self.stored = board["core"], None, None
         self.d, self.a = [0] * 16, [0] * 16
-        self.pc = self.psw = self.pcxi = self.fcx = self.lcx = self.ccpn = self.biv = self.btv = self.isp = 0
+        self.pc = (
+            self.psw
+        ) = self.pcxi = self.fcx = self.lcx = self.ccpn = self.biv = self.btv = self.isp = 0
         self.ie = False
 
     @staticmethod
@@ -194,7 +234,11 @@ class Machine:
         for n, name in ((0, "a0"), (1, "a1"), (8, "a8"), (9, "a9")):
             m.a[n] = board["globals"][name]
         m.biv, m.btv, m.isp = board["biv"], board["btv"], board["isp"]
-        m.ie, m.ccpn, m.psw = bool(board["start"]["ie"]), board["start"]["ccpn"], 2 << 10 | board["start"]["is"] << 9
+        m.ie, m.ccpn, m.psw = (
+            bool(board["start"]["ie"]),
+            board["start"]["ccpn"],
+            2 << 10 | board["start"]["is"] << 9,
+        )
         return m
 
     def put_rom(self, image, board):
@@ -298,7 +342,13 @@ class Machine:
         return DECODER.decode(held)
 
     def value(self, given):
-        return self.d[given[1]] if given[0] == "d" else self.a[given[1]] if given[0] == "a" else given[1] & WORD
+        return (
+            self.d[given[1]]
+            if given[0] == "d"
+            else self.a[given[1]]
+            if given[0] == "a"
+            else given[1] & WORD
+        )
 
     def put(self, given, value):
         (self.d if given[0] == "d" else self.a)[given[1]] = value & WORD
@@ -336,7 +386,9 @@ class Machine:
         else:
             data = event.input.to_bytes(4, "little")
             held = [self.memory.get((x + i) & WORD) for i in range(size)]
-            value = int.from_bytes(bytes(data[i] if b is None else b for i, b in enumerate(held)), "little")
+            value = int.from_bytes(
+                bytes(data[i] if b is None else b for i, b in enumerate(held)), "little"
+            )
             if extends and value >> 8 * size - 1:
                 value -= 1 << 8 * size
         if raised:
@@ -352,7 +404,10 @@ class Machine:
             x, y = operands if len(operands) == 2 else values
             self.put(operands[0], int(ALU[plain](self.value(x), self.value(y))))
         elif plain in ("addi", "addih"):
-            self.put(operands[0], self.value(values[0]) + (values[1][1] << (16 if plain == "addih" else 0)))
+            self.put(
+                operands[0],
+                self.value(values[0]) + (values[1][1] << (16 if plain == "addih" else 0)),
+            )
         elif plain in ("mov", "mov.u"):
             self.put(operands[0], self.value(values[0]))
         elif plain == "movh":
@@ -370,7 +425,16 @@ class Machine:
 
     def jumps(self, name, operands, after):
         """Branches and jumps: whether it is one."""
-        conditions = {"jeq": "eq", "jne": "ne", "jlt": "lt", "jge": "ge", "jlt.u": "lt.u", "jge.u": "ge.u", "jeq.a": "eq", "jne.a": "ne"}
+        conditions = {
+            "jeq": "eq",
+            "jne": "ne",
+            "jlt": "lt",
+            "jge": "ge",
+            "jlt.u": "lt.u",
+            "jge.u": "ge.u",
+            "jeq.a": "eq",
+            "jne.a": "ne",
+        }
         target = self.target(operands[-1]) if operands and operands[-1][0] in "tu" else None
         if name in ("jz.d15", "jnz.d15"):
             taken = (self.d[15] == 0) == (name == "jz.d15")
@@ -429,7 +493,15 @@ class Machine:
     def core_register(self, number, given):
         if number == ICR:
             return self.ccpn | self.ie << 8 | given & ~0x1FF
-        known = {PCXI: self.pcxi, PSW: self.psw, BIV: self.biv, BTV: self.btv, ISP: self.isp, FCX: self.fcx, LCX: self.lcx}
+        known = {
+            PCXI: self.pcxi,
+            PSW: self.psw,
+            BIV: self.biv,
+            BTV: self.btv,
+            ISP: self.isp,
+            FCX: self.fcx,
+            LCX: self.lcx,
+        }
         return known.get(number, given)
 
     def put_core_register(self, number, value):
@@ -503,7 +575,9 @@ def drive(machine, board, text, seen=None):
             seen(machine)
         if machine.end:
             break
-    return f"events {events} peak {peak} " + (f"dead {machine.end} at {machine.pc:08X}" if machine.end else "running")
+    return f"events {events} peak {peak} " + (
+        f"dead {machine.end} at {machine.pc:08X}" if machine.end else "running"
+    )
 
 
 def line_of_run(elf, plan, text):

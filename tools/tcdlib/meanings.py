@@ -216,9 +216,7 @@ SOURCES = {
         "instructions alone; jump to another section with the 32-bit instruction",
     ),
     "11": Meaning("a 16-bit jump that is too far", "take the 32-bit instruction"),
-    "12": Meaning(
-        "a post-increment whose base and value are one register", "use another register"
-    ),
+    "12": Meaning("a post-increment whose base and value are one register", "use another register"),
     "13": Meaning(
         "more than 64 sections, 65,535 symbols or relocations, or 16,777,216 bytes",
         "split the source",

@@ -6,7 +6,20 @@ docs/formats.md names as the table. All are reached by this module. Here is what
 files: what the linker writes, cells as devices, views of tasks, and the code that tcd knows.
 """
 # flake8: noqa: F401
-from tcdlib.formats.binary import CERT_LIMIT, FILE_LIMIT, WORDS, Bad, Certificate, ObjectFile, elf, elf_bytes, le, le32, number, object_bytes
+from tcdlib.formats.binary import (
+    CERT_LIMIT,
+    FILE_LIMIT,
+    WORDS,
+    Bad,
+    Certificate,
+    ObjectFile,
+    elf,
+    elf_bytes,
+    le,
+    le32,
+    number,
+    object_bytes,
+)
 from tcdlib.formats.sources import BY_CODE, K, ROWS, Source, code, listing, put, signed, taken
 from tcdlib.formats.texts import cells, in_one, layout, plan, ranges_without, script, tasks
 
@@ -48,7 +61,10 @@ def link(plan_of_places, objects):
             if kind == 2:
                 owners.setdefault(name, []).append(o)
                 at_global.setdefault(name, (o, section, offset))
-    twice = next((s[0] for _, symbols, _ in objects for s in symbols if s[1] == 2 and len(owners[s[0]]) > 1), None)
+    twice = next(
+        (s[0] for _, symbols, _ in objects for s in symbols if s[1] == 2 and len(owners[s[0]]) > 1),
+        None,
+    )
     if twice is not None:
         raise Bad(f"link 1 name {twice.decode()}")
     for _, symbols, relocations in objects:
@@ -78,13 +94,18 @@ def link(plan_of_places, objects):
             name, defined, i, at = symbols[symbol]
             value = (address(o, i, at) if defined else address(*at_global[name])) + addend
             space, start = spaces[sections[section][0]], bases[o, section] + offset
-            fault, word = patched(number(space, start, 4), kind, value % WORDS, address(o, section, offset))
+            fault, word = patched(
+                number(space, start, 4), kind, value % WORDS, address(o, section, offset)
+            )
             if fault:
                 raise Bad(f"link 5 at {o} {section} {offset} {fault}")
             space[start : start + 4] = word.to_bytes(4, "little")
     if entry not in at_global:
         raise Bad("link 6")
-    return elf_bytes(address(*at_global[entry]), [(at, bytes(spaces[name])) for name, at, _ in places if spaces[name]])
+    return elf_bytes(
+        address(*at_global[entry]),
+        [(at, bytes(spaces[name])) for name, at, _ in places if spaces[name]],
+    )
 
 
 # Cells, and code that tcd knows: the switch routine, the boot sequence
@@ -95,7 +116,12 @@ def with_cells(board, found):
     ram = board["ram"]
     for at, _, _ in found:
         ram = ranges_without(ram, at, 4)
-    return {**board, "ram": ram, "devices": board["devices"] + [{"at": at, "len": 4, "lo": lo, "hi": hi} for at, lo, hi in found]}
+    return {
+        **board,
+        "ram": ram,
+        "devices": board["devices"]
+        + [{"at": at, "len": 4, "lo": lo, "hi": hi} for at, lo, hi in found],
+    }
 
 
 def high(x):
@@ -133,8 +159,15 @@ def routine_fault(image, board, found):
 def view_image(image, found, u):
     """The executable of a task's view."""
     changes = {4: "mfcr d0, 0", 6: "mfcr d1, 0", 7: "nop", 11: "nop", 13: "mfcr d1, 0", 14: "nop"}
-    put_there = {found[0] + 4 * n + i: byte for n, line in changes.items() for i, byte in enumerate(code([line]))}
-    segments = [(at, bytes(put_there.get(at + i, byte) for i, byte in enumerate(held))) for at, held in image[1]]
+    put_there = {
+        found[0] + 4 * n + i: byte
+        for n, line in changes.items()
+        for i, byte in enumerate(code([line]))
+    }
+    segments = [
+        (at, bytes(put_there.get(at + i, byte) for i, byte in enumerate(held)))
+        for at, held in image[1]
+    ]
     return elf_bytes(found[2][u][0], segments)
 
 
@@ -150,12 +183,39 @@ def boot_code(board, entry):
     """The bytes of the boot sequence."""
     areas, start = board["csa"], board["start"]
     first = (areas["at"] >> 28) << 16 | (areas["at"] & 0xFFFFFFF) >> 6
-    core = lambda number, x: [f"movh d0, {high(x)}", f"addi d0, d0, {low(x)}", f"mtcr {number}, d0", "isync"]
+    core = lambda number, x: [
+        f"movh d0, {high(x)}",
+        f"addi d0, d0, {low(x)}",
+        f"mtcr {number}, d0",
+        "isync",
+    ]
     addr = lambda r, x: [f"movh.a {r}, {high(x)}", f"lea.l {r}, [{r}]{low(x)}"]
-    lines = core(0xFE2C, start["ccpn"]) + core(0xFE00, 0) + core(0xFE38, first) + core(0xFE3C, first + areas["areas"] - areas["reserve"])
-    lines += core(0xFE20, board["biv"]) + core(0xFE24, board["btv"]) + core(0xFE28, board["isp"]) + core(0xFE04, 0xB7F if start["is"] else 0x97F)
-    lines += [f"movh d0, {high(first)}", f"addi d0, d0, {low(first)}", *addr("a2", areas["at"]), f"mov d1, {areas['areas'] - 1}", "mov.a a3, d1"]
-    lines += ["addi d0, d0, 1", "st.w [a2+]64, d0", "loop a3, .-8", "mov d1, 0", "st.w.l [a2]-64, d1"]
+    lines = (
+        core(0xFE2C, start["ccpn"])
+        + core(0xFE00, 0)
+        + core(0xFE38, first)
+        + core(0xFE3C, first + areas["areas"] - areas["reserve"])
+    )
+    lines += (
+        core(0xFE20, board["biv"])
+        + core(0xFE24, board["btv"])
+        + core(0xFE28, board["isp"])
+        + core(0xFE04, 0xB7F if start["is"] else 0x97F)
+    )
+    lines += [
+        f"movh d0, {high(first)}",
+        f"addi d0, d0, {low(first)}",
+        *addr("a2", areas["at"]),
+        f"mov d1, {areas['areas'] - 1}",
+        "mov.a a3, d1",
+    ]
+    lines += [
+        "addi d0, d0, 1",
+        "st.w [a2+]64, d0",
+        "loop a3, .-8",
+        "mov d1, 0",
+        "st.w.l [a2]-64, d1",
+    ]
     lines += [line for name, x in board["globals"].items() for line in addr(name, x)]
     return code(lines + addr("a10", board["sp"]) + addr("a15", entry) + ["ji a15"])
 
@@ -166,7 +226,11 @@ def boot_fault(image, board, at):
         return "1"
     if at % 2 or image[0] % 2:
         return "2"
-    if not in_one(board["rom"], at, 224) or any(byte_at(image[1], at + i) is None for i in range(224)):
+    if not in_one(board["rom"], at, 224) or any(
+        byte_at(image[1], at + i) is None for i in range(224)
+    ):
         return "3"
     wanted = boot_code(board, image[0])
-    return next((f"4 at {at + i:08X}" for i in range(224) if byte_at(image[1], at + i) != wanted[i]), None)
+    return next(
+        (f"4 at {at + i:08X}" for i in range(224) if byte_at(image[1], at + i) != wanted[i]), None
+    )

@@ -57,12 +57,23 @@ def elf(data):
         for j, b, _, other in loads[n + 1 :]:
             if a < b + other and b < a + length:
                 raise Bad(f"elf 7 at {i} {j}")
-    return number(data, 24, 4), [(address, data[offset : offset + filled]) for _, address, offset, filled in loads]
+    return number(data, 24, 4), [
+        (address, data[offset : offset + filled]) for _, address, offset, filled in loads
+    ]
 
 
 def elf_bytes(entry, segments):
     """The executable that tcd writes."""
-    out = b"\x7fELF\x01\x01\x01" + bytes(9) + le(2, 2) + le(44, 2) + le(1, 4) + le(entry, 4) + le(52, 4) + bytes(8)
+    out = (
+        b"\x7fELF\x01\x01\x01"
+        + bytes(9)
+        + le(2, 2)
+        + le(44, 2)
+        + le(1, 4)
+        + le(entry, 4)
+        + le(52, 4)
+        + bytes(8)
+    )
     out += le(52, 2) + le(32, 2) + le(len(segments), 2) + bytes(6)
     at = 52 + 32 * len(segments)
     for address, held in segments:
@@ -134,7 +145,11 @@ class Certificate(Fields):
         given, at = self.take(1)
         if given > 1 or given and kind not in (1, 3):
             self.bad(4, at)
-        leaving = (self.at_most(1, 1, 4), self.take(1)[0], [self.value() for _ in range(14)]) if given else None
+        leaving = (
+            (self.at_most(1, 1, 4), self.take(1)[0], [self.value() for _ in range(14)])
+            if given
+            else None
+        )
         count, at = self.take(4)
         self.points += count
         if self.points > 65536:

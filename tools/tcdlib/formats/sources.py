@@ -108,12 +108,23 @@ def listing(segments):
         while at < len(held):
             length = 4 if held[at] & 1 else 2
             word = number(held, at, length)
-            row = next((r for r in BY_CODE.get(held[at], ()) if len(held) - at >= length and r.spelled(word)), None)
+            row = next(
+                (
+                    r
+                    for r in BY_CODE.get(held[at], ())
+                    if len(held) - at >= length and r.spelled(word)
+                ),
+                None,
+            )
             if row:
                 text = f"{row.name} {', '.join(operand_text(row, o, word) for o in row.operands)}".rstrip()
             else:
                 length = min(2, len(held) - at)
-                text = f".half 0x{number(held, at, 2):04X}" if length == 2 else f".byte 0x{held[at]:02X}"
+                text = (
+                    f".half 0x{number(held, at, 2):04X}"
+                    if length == 2
+                    else f".byte 0x{held[at]:02X}"
+                )
             out.append(f"{text} # {address + at:08X} {held[at : at + length].hex().upper()}")
             at += length
     return "".join(line + "\n" for line in out)
@@ -121,7 +132,10 @@ def listing(segments):
 
 # Sources
 
-TOKEN = re.compile(rb"(?P<blank>[ \t]+|#.*)|(?P<number>0x[0-9a-fA-F]+|[0-9]+)|(?P<word>[A-Za-z_.$][A-Za-z0-9_.$]*)|(?P<mark>[,:\[\]+-])", re.S)
+TOKEN = re.compile(
+    rb"(?P<blank>[ \t]+|#.*)|(?P<number>0x[0-9a-fA-F]+|[0-9]+)|(?P<word>[A-Za-z_.$][A-Za-z0-9_.$]*)|(?P<mark>[,:\[\]+-])",
+    re.S,
+)
 DATA = {b".byte": 1, b".half": 2, b".word": 4}
 NAMES = {row.name.encode() for row in ROWS}
 REGISTER = re.compile(rb"([da])(0|[1-9]|1[0-5])")
@@ -196,7 +210,13 @@ class Source:
         for line in self.lines:
             self.line(line)
         self.known, self.final = dict(self.labels), True
-        self.labels, self.sections, self.symbols, self.relocations, self.current = {}, {}, {}, [], None
+        self.labels, self.sections, self.symbols, self.relocations, self.current = (
+            {},
+            {},
+            {},
+            [],
+            None,
+        )
         for n, line in enumerate(self.lines, 1):
             rules = self.line(line)
             if rules:
@@ -209,7 +229,10 @@ class Source:
             kind = 0 if name not in self.labels else 2 if name in self.globals else 1
             section, offset = self.labels.get(name, (None, 0))
             symbols.append((name, kind, names.index(section) if kind else 0, offset))
-        relocations = sorted((names.index(s), at, kind, order.index(name), added % WORDS) for s, at, kind, name, added in self.relocations)
+        relocations = sorted(
+            (names.index(s), at, kind, order.index(name), added % WORDS)
+            for s, at, kind, name, added in self.relocations
+        )
         return object_bytes(parts, symbols, relocations)
 
     current = None
@@ -228,7 +251,11 @@ class Source:
                 rules += self.statement(items[0][1], items[1:])
             except Wrong as e:
                 rules.append(e.args[0])
-        if sum(map(len, self.sections.values())) > FILE_LIMIT or len(self.symbols) > 65535 or len(self.relocations) > 65535:
+        if (
+            sum(map(len, self.sections.values())) > FILE_LIMIT
+            or len(self.symbols) > 65535
+            or len(self.relocations) > 65535
+        ):
             rules.append(13)
         return rules
 
@@ -241,7 +268,10 @@ class Source:
         else:
             self.see(name)
         if name not in self.labels:
-            self.labels[name] = self.current, len(self.sections[self.current]) if self.current is not None else 0
+            self.labels[name] = (
+                self.current,
+                len(self.sections[self.current]) if self.current is not None else 0,
+            )
         return rules
 
     def see(self, name):
@@ -309,7 +339,15 @@ class Source:
                 bad = self.name_rules(name, added) + ([] if width == 4 else [10])
                 if not bad and self.current is not None:
                     self.see(name)
-                    self.relocations.append((self.current, len(self.sections[self.current]) + len(out) - 4, 7, name, added))
+                    self.relocations.append(
+                        (
+                            self.current,
+                            len(self.sections[self.current]) + len(out) - 4,
+                            7,
+                            name,
+                            added,
+                        )
+                    )
                 rules += bad
             else:
                 rules.append(10 if kind in ("hi", "lo") else 3)
@@ -334,12 +372,24 @@ class Source:
         for row in ROWS:
             if row.name == name:
                 length = row.length
-                if len(row.operands) == len(operands) and all(map(self.fits, row.operands, operands)):
+                if len(row.operands) == len(operands) and all(
+                    map(self.fits, row.operands, operands)
+                ):
                     rules, word, waiting = self.encoded(row, operands)
                     if not rules:
                         seen = [self.see(n) for n in waiting[1]]
-                        for kind, symbol_name, added in waiting[0] if self.current is not None else ():
-                            self.relocations.append((self.current, len(self.sections[self.current]), kind, symbol_name, added))
+                        for kind, symbol_name, added in (
+                            waiting[0] if self.current is not None else ()
+                        ):
+                            self.relocations.append(
+                                (
+                                    self.current,
+                                    len(self.sections[self.current]),
+                                    kind,
+                                    symbol_name,
+                                    added,
+                                )
+                            )
                         return self.emit(word.to_bytes(length, "little"))
                     best.append(min(rules))
         return [min(best) if best else 3] + self.emit(bytes(length))
@@ -349,7 +399,9 @@ class Source:
         if operand[0] in "DA" or operand == "a10":
             return kind == "word"
         if operand.startswith("["):
-            return kind == ("memory+" if "+" in operand else "memory") and (operand.endswith("k") or not value[2])
+            return kind == ("memory+" if "+" in operand else "memory") and (
+                operand.endswith("k") or not value[2]
+            )
         if operand == "T":
             return kind in ("word", "sum", "hi", "lo")
         return kind in ("number", "word", "sum", "hi", "lo")
@@ -426,7 +478,11 @@ class Source:
 
     def plain(self, row, operand, value):
         if operand == "U":
-            k = value >> 28 << 14 | value & 0x3FFF if row.form == "Abs" else value >> 28 << 20 | value >> 1 & 0xFFFFF
+            k = (
+                value >> 28 << 14 | value & 0x3FFF
+                if row.form == "Abs"
+                else value >> 28 << 20 | value >> 1 & 0xFFFFF
+            )
             free = 0x3FFF if row.form == "Abs" else 0x1FFFFE
             return ([] if 0 <= value < WORDS and value & ~free & 0x0FFFFFFF == 0 else [5]), k
         width = {"sk4": 4, "uk4": 4, "n": 2}.get(operand, row.width)

@@ -34,17 +34,43 @@ def json_value(data):
     """JSON: of equal keys the last counts; a number is None unless it is a whole one of 64 bits."""
     try:
         text = data.decode("utf-8")
-        pairs = re.sub(r"\\u[dD][89abAB][0-9a-fA-F]{2}\\u[dD][c-fC-F][0-9a-fA-F]{2}", "x", text.replace("\\\\", "x"))
-        if is_too_deep(text) or re.search(r"\\u[dD][89a-fA-F]", pairs):  # half of a pair of surrogates
+        pairs = re.sub(
+            r"\\u[dD][89abAB][0-9a-fA-F]{2}\\u[dD][c-fC-F][0-9a-fA-F]{2}",
+            "x",
+            text.replace("\\\\", "x"),
+        )
+        if is_too_deep(text) or re.search(
+            r"\\u[dD][89a-fA-F]", pairs
+        ):  # half of a pair of surrogates
             raise ValueError
-        return json.loads(text, parse_int=whole_number, parse_float=whole_number, parse_constant=no_number)
+        return json.loads(
+            text, parse_int=whole_number, parse_float=whole_number, parse_constant=no_number
+        )
     except ValueError:
         raise Bad("plan 1") from None
 
 
 RANGES = {"rom": ("at", "len"), "ram": ("at", "len"), "devices": ("at", "len", "lo", "hi")}
-OBJECTS = {"csa": ("at", "areas", "reserve"), "start": ("ie", "ccpn", "is"), "globals": ("a0", "a1", "a8", "a9")}
-OUTER = ("rom", "ram", "devices", "csa", "sp", "isp", "biv", "btv", "irqs", "traps", "start", "globals", "core")
+OBJECTS = {
+    "csa": ("at", "areas", "reserve"),
+    "start": ("ie", "ccpn", "is"),
+    "globals": ("a0", "a1", "a8", "a9"),
+}
+OUTER = (
+    "rom",
+    "ram",
+    "devices",
+    "csa",
+    "sp",
+    "isp",
+    "biv",
+    "btv",
+    "irqs",
+    "traps",
+    "start",
+    "globals",
+    "core",
+)
 
 
 def plan_number(value):
@@ -58,7 +84,9 @@ def inner_objects(root, key):
     """The objects of a key that are looked into, or None where its form is another."""
     value = root.get(key)
     if key in RANGES:
-        return value if isinstance(value, list) and all(isinstance(v, dict) for v in value) else None
+        return (
+            value if isinstance(value, list) and all(isinstance(v, dict) for v in value) else None
+        )
     return [value] if isinstance(value, dict) else None
 
 
@@ -86,9 +114,15 @@ def plan_value_fault(root, key):
     value = root[key]
     if key == "irqs":
         numbers = [plan_number(v) for v in value] if isinstance(value, list) else [None]
-        good = all(n is not None and 1 <= n <= 255 for n in numbers) and all(a < b for a, b in zip(numbers, numbers[1:]))
+        good = all(n is not None and 1 <= n <= 255 for n in numbers) and all(
+            a < b for a, b in zip(numbers, numbers[1:])
+        )
     elif key == "traps":
-        good = isinstance(value, list) and all(v in ("sys", "aln") for v in value) and len(value) == len(set(value))
+        good = (
+            isinstance(value, list)
+            and all(v in ("sys", "aln") for v in value)
+            and len(value) == len(set(value))
+        )
     elif key == "core":
         good = value in ("1.3", "1.6")
     else:
@@ -117,17 +151,30 @@ def plan(data):
         fault = plan_value_fault(root, key) if key in root else None
         if fault:
             raise Bad(f"plan 4 key {fault}")
-    got = {key: [{n: plan_number(o[n]) for n in names} for o in root[key]] for key, names in RANGES.items()}
-    got.update({key: {n: plan_number(root[key][n]) for n in names} for key, names in OBJECTS.items()})
+    got = {
+        key: [{n: plan_number(o[n]) for n in names} for o in root[key]]
+        for key, names in RANGES.items()
+    }
+    got.update(
+        {key: {n: plan_number(root[key][n]) for n in names} for key, names in OBJECTS.items()}
+    )
     got.update({key: plan_number(root[key]) for key in ("sp", "isp", "biv", "btv")})
-    got.update(irqs=[plan_number(v) for v in root["irqs"]], traps=sorted(root["traps"]), core=root.get("core", "1.3"))
+    got.update(
+        irqs=[plan_number(v) for v in root["irqs"]],
+        traps=sorted(root["traps"]),
+        core=root.get("core", "1.3"),
+    )
     plan_limits(got)
     return got
 
 
 def plan_limits(got):
     for key, most in (("rom", 16), ("ram", 16), ("devices", 16), ("irqs", 32)):
-        if len(got[key]) > most or key in ("rom", "ram") and sum(r["len"] for r in got[key]) > 4194304:
+        if (
+            len(got[key]) > most
+            or key in ("rom", "ram")
+            and sum(r["len"] for r in got[key]) > 4194304
+        ):
             raise Bad(f"plan 5 key {key}")
     at, areas, reserve = (got["csa"][n] for n in ("at", "areas", "reserve"))
     if not 1 <= areas <= 4096 or not 1 <= reserve <= areas or at % 64 or at == 0 or at >> 22 & 63:
@@ -159,12 +206,19 @@ def script(data, board):
     turns = 0
     for n, line in lines_of(data):
         words = line.split(b" ")
-        numbers = [int(w) if len(w) < 11 else WORDS for w in words[1:] if re.fullmatch(b"0|[1-9][0-9]*", w)]
+        numbers = [
+            int(w) if len(w) < 11 else WORDS for w in words[1:] if re.fullmatch(b"0|[1-9][0-9]*", w)
+        ]
         shape = (words[0], len(words) - 1, len(numbers))
         known = shape in ((b"step", 1, 1), (b"irq", 1, 1), (b"aln", 1, 1), (b"in", 3, 3))
         if line == b"":
             continue
-        if not known or max(numbers) >= WORDS or words[0] == b"step" and not 1 <= numbers[0] <= 100000:
+        if (
+            not known
+            or max(numbers) >= WORDS
+            or words[0] == b"step"
+            and not 1 <= numbers[0] <= 100000
+        ):
             raise Bad(f"script 1 at {n}")
         if words[0] == b"irq" and numbers[0] > 255 or words[0] == b"aln" and numbers[0] > 1:
             raise Bad(f"script 1 at {n}")
@@ -218,7 +272,11 @@ def layout(data):
 def hex_numbers(line, word, count):
     """The numbers of a line `WORD X ..`, each of eight upper-case hex digits, or None."""
     words = line.split(b" ")
-    good = len(words) == count + 1 and words[0] == word and all(re.fullmatch(b"[0-9A-F]{8}", w) for w in words[1:])
+    good = (
+        len(words) == count + 1
+        and words[0] == word
+        and all(re.fullmatch(b"[0-9A-F]{8}", w) for w in words[1:])
+    )
     return [int(w, 16) for w in words[1:]] if good else None
 
 
@@ -232,7 +290,11 @@ def ranges_without(ranges, at, length):
     out = []
     for r in ranges:
         end = r["at"] + r["len"]
-        out += [{"at": a, "len": b - a} for a, b in ((r["at"], min(end, at)), (max(r["at"], at + length), end)) if a < b]
+        out += [
+            {"at": a, "len": b - a}
+            for a, b in ((r["at"], min(end, at)), (max(r["at"], at + length), end))
+            if a < b
+        ]
     return out
 
 
