@@ -28,7 +28,7 @@ LINK = re.compile(r"\]\(([^)\s]+)\)")
 FENCED = re.compile(r"^```.*?^```$", re.M | re.S)
 HEADING = re.compile(r"^#+ (.*)$", re.M)
 #: where a name without a folder is looked for, too
-SEARCHED = ("docs", "tools", "tools/tcdlib", "tests", "tests/unit", "maintain", "bench")
+SEARCHED = ("docs", "tools", "tools/tcdlib", "tests", "tests/unit", "maintain", "bench", "bench/machines")
 COLUMNS, CELL, WORDS = 100, 200, 1500
 
 

@@ -1,10 +1,10 @@
-"""The weakenings of bench/weakenings fit the code of today."""
+"""The weakenings of tests/weakenings fit the code of today."""
 import sys
 import unittest
 
 import beside
 
-sys.path.insert(0, str(beside.TOP / "bench"))
+sys.path.insert(0, str(beside.TOP / "tests"))
 import weakenings
 
 

@@ -26,14 +26,14 @@ import random
 import sys
 import tempfile
 
-sys.path.insert(0, str(pathlib.Path(__file__).resolve().parent.parent / "tools"))
+sys.path.insert(0, str(pathlib.Path(__file__).resolve().parents[2] / "tools"))
 from tcdlib import formats as readers
 from tcdlib import machine
 from boots import Bench, board
 from tcdlib.machine import Event, Machine, address_of, chain, link_of
 from tcdlib.program import of_words
 
-EXAMPLE = pathlib.Path(__file__).resolve().parent.parent / "examples" / "two_tasks"
+EXAMPLE = pathlib.Path(__file__).resolve().parents[2] / "examples" / "two_tasks"
 START_UP, SWITCH, TEXT, FIRST_TASK = 0x80006000, 0x80000040, 0x80000400, 0x80001000
 RANDOM_SCRIPTS, RANDOM_STARTS, EVENTS = 30, 10, 3000
 

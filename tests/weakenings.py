@@ -1,9 +1,9 @@
 #!/usr/bin/env python3
-"""Tries every weakening of bench/weakenings/: an edit that the prover has to refuse.
+"""Tries every weakening of tests/weakenings/: an edit that the prover has to refuse.
 
-    bench/weakenings.py                    all of them, in a copy of the repository
-    bench/weakenings.py NAME ..            those of crates or weakenings with these names
-    bench/weakenings.py --list             what each one turns, without trying it
+    tests/weakenings.py                    all of them, in a copy of the repository
+    tests/weakenings.py NAME ..            those of crates or weakenings with these names
+    tests/weakenings.py --list             what each one turns, without trying it
 
 A weakening is a file CRATE/NAME.edit in the form of the crates' own must-fail edits. It turns a
 definition that the claim of a command or of a public function stands on, or code whose contract
@@ -24,7 +24,7 @@ import time
 from pathlib import Path
 
 TOP = Path(__file__).resolve().parent.parent
-FOLDER = TOP / "bench" / "weakenings"
+FOLDER = TOP / "tests" / "weakenings"
 RESULT = re.compile(r"rt: must-fail (\w+)/(\w+)\.edit: (.*)")
 
 

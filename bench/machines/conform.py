@@ -1,7 +1,7 @@
 #!/usr/bin/env python3
 """Compares the reference machine with QEMU's, one instruction at a time.
 
-    python3 bench/conform.py [--each N] [--sequences N] [--alone N] [--seed S] [--row NAME]
+    python3 bench/machines/conform.py [--each N] [--sequences N] [--alone N] [--seed S] [--row NAME]
 
 It needs rt and qemu-system-tricore (Debian: qemu-system-misc).
 
@@ -34,7 +34,7 @@ import sys
 import tempfile
 import time
 
-TOP = pathlib.Path(__file__).resolve().parent.parent
+TOP = pathlib.Path(__file__).resolve().parents[2]
 sys.path.insert(0, str(TOP / "tools"))
 from tcdlib import formats as readers
 from tcdlib.machine import DECODER, LAYOUTS, Event, Machine, address_of, link_of

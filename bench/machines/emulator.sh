@@ -1,10 +1,11 @@
 #!/bin/sh
-# Assembles and links bench/emulator/main.s with tcd, lets readelf read the executable, runs it in
-# the reference machine and in QEMU's TriCore board, and compares all registers at its end:
-# bench/emulator.sh [PROGRAM]. Without a program it builds crates/tcd. Needs rt, readelf, python3
-# and qemu-system-tricore.
+# Assembles and links bench/machines/emulator/main.s with tcd, lets readelf read the executable,
+# runs it in the reference machine and in QEMU's TriCore board, and compares all registers at its
+# end: bench/machines/emulator.sh [PROGRAM]. Without a program it builds crates/tcd. Needs rt,
+# readelf, python3 and qemu-system-tricore.
 set -eu
-. "$(dirname "$0")/program.sh"
+top=$(cd "$(dirname "$0")/../.." && pwd)
+. "$top/bench/program.sh"
 mkdir -p "$work/crates/registers/src"
 for crate in tcd_base elf_image tc_isa tc_encode csa_chain tc_mem tcd_plan tc_machine; do
     mkdir "$work/crates/$crate"
@@ -69,4 +70,4 @@ fn main(rt: HostRuntime) -> io::Result<()> {
 }
 PROGRAM
 (cd "$work/crates/registers" && rt run </dev/null >"$work/log" 2>&1) || { cat "$work/log"; exit 1; }
-PYTHONDONTWRITEBYTECODE=1 python3 "$top/bench/emulator/compare.py" "$program" "$work/crates/registers/out/registers" "$work"
+PYTHONDONTWRITEBYTECODE=1 python3 "$top/bench/machines/emulator/compare.py" "$program" "$work/crates/registers/out/registers" "$work"
