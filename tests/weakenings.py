@@ -3,13 +3,16 @@
 
     tests/weakenings.py                    all of them, in a copy of the repository
     tests/weakenings.py NAME ..            those of crates or weakenings with these names
+    tests/weakenings.py --since COMMIT     those that are new or whose crate changed since then, or a
+                                           crate below it: before a change lands
     tests/weakenings.py --list             what each one turns, without trying it
 
 A weakening is a file CRATE/NAME.edit in the form of the crates' own must-fail edits. It turns a
 definition that the claim of a command or of a public function stands on, or code whose contract
 says otherwise. Some mend the proofs too, so that only a law refuses them. The gate tries the ones
-in crates/*/must-fail; these are tried when their crate changes. One takes 10 to 60 seconds, and its
-crate is proved twice. What `rt ci` proved on this machine isn't proved again.
+in crates/*/must-fail; these are tried when their crate changes, and all of them before a release.
+One takes 10 to 60 seconds, and its crate is proved twice. What `rt ci` proved on this machine isn't
+proved again.
 
 The table says of each what it turns and what refused it. Status 0: all refused. 1: one is proved,
 so a contract or a law is too weak. 2: one isn't there, doesn't apply, or wasn't tried.
@@ -32,6 +35,36 @@ def weakenings(names):
     """All (crate, name) in order, or those whose crate or name is among the names."""
     all_of_them = [(it.parent.name, it.stem) for it in sorted(FOLDER.glob("*/*.edit"))]
     return [it for it in all_of_them if not names or set(it) & set(names)]
+
+
+def changed_since(commit):
+    """The files under crates/ and tests/weakenings/ that differ from a commit, and their crates."""
+    told = subprocess.run(
+        ["git", "diff", "--name-only", commit, "--", "crates", "tests/weakenings"],
+        cwd=TOP,
+        capture_output=True,
+        text=True,
+        check=True,
+    )
+    files = {Path(line) for line in told.stdout.splitlines()}
+    return files, {
+        it.parts[1] for it in files if it.parts[2:3] in (("src",), ("specs",), ("proofs",))
+    }
+
+
+def touched(wanted, commit):
+    """Those of the weakenings that a change since a commit may have let through."""
+    files, changed = changed_since(commit)
+    below = {}
+    for line in (TOP / "crates.txt").read_text(encoding="utf-8").splitlines():
+        name, colon, uses = line.partition(":")
+        if colon and not line.startswith("#"):
+            below[name.split()[0]] = {name.split()[0], *uses.split()}
+    return [
+        (crate, name)
+        for crate, name in wanted
+        if below[crate] & changed or Path("tests/weakenings", crate, f"{name}.edit") in files
+    ]
 
 
 def turns(crate, name):
@@ -86,10 +119,15 @@ def main():
     parser = argparse.ArgumentParser(description=__doc__.split("\n")[0])
     parser.add_argument("names", nargs="*", help="crates or weakenings")
     parser.add_argument("--list", action="store_true", help="print what each one turns")
+    parser.add_argument("--since", metavar="COMMIT", help="only what changed since then may touch")
     words = parser.parse_args()
     wanted = weakenings(words.names)
     if unknown := set(words.names) - {name for pair in wanted for name in pair}:
         parser.error(f"no weakening and no crate with one is named {min(unknown)}")
+    try:
+        wanted = touched(wanted, words.since) if words.since else wanted
+    except subprocess.CalledProcessError:
+        parser.error(f"git knows no commit {words.since!a}")
     bad = {it: why for it in wanted if (why := misfit(*it))}
     for (crate, name), why in bad.items():
         print(f"{crate} {name}: doesn't apply: {why}")
