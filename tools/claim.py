@@ -11,15 +11,16 @@ or of a file of the folder of that name. When it holds, the field of the command
 (crates/tcd_driver/specs/Tool.antt). The page begins with this field.
 The page shows the definitions below it, each once, with its file and line and the comment above
 it. A definition comes before those that it uses; a type of values comes after the first definition
-that uses it. The page has two parts:
+that uses it. The page has three parts:
 
 1. What a Done means: the field, the record, and all that they rest on.
-2. When it comes: which files are taken, and as which image and plan; which certificates are
-   accepted. Part 1 names these definitions and doesn't follow them.
+2. How bytes become an image and a plan: of which files part 1 speaks.
+3. When it comes: which certificates are accepted, and which other files are taken as what.
+A part names the definitions of later ones and doesn't follow them.
 
-What a refusal and bad input mean is on neither part; `--root` follows such a definition.
+What a refusal and bad input mean is on no part; `--root` follows such a definition.
 
-Above both parts a table says how definitions are written. A type or constant of src/ is shown as it
+Above the parts a table says how definitions are written. A type or constant of src/ is shown as it
 is declared there; a type by its value, if definitions see only that. The rows of the instruction
 table are shown beside their meanings, and the bounds of a form beside its spelling. If two
 definitions of a page have one name, their modules are beside it. The words of the kit are listed
@@ -49,10 +50,10 @@ HEADLINES = "tcd_driver.specs.Headlines"
 #: What the tool says of each command: a field of this record.
 SAYS = ("tcd_driver.specs.Tool", "ToolSays")
 OTHER_FIELDS = "  -- the fields of other commands are left out here"
-#: What part 2 begins with: which certificates are accepted, and which files are taken as what.
+#: What part 2 begins with.
+READ = ("image_of_file", "GivesPlan")
+#: What part 3 begins with: which certificates are accepted, and which files are taken as what.
 LATER = (
-    "image_of_file",
-    "GivesPlan",
     "IsAcceptedWithNeed",
     "IsAcceptedForTask",
     "IsLeastOfItsFormat",
@@ -131,7 +132,7 @@ PINNED_NOTE = (
     "  -- leave one result for each argument. So how {1} is computed isn't followed here:",
 )
 
-#: How a definition is read, above both parts.
+#: How a definition is read, above the parts.
 NOTATION = (
     (
         "record R (x : T) where ..",
@@ -710,11 +711,11 @@ def told_apart(part, item, twice):
 
 def not_followed(part, parts):
     """The names that a part stops at: those that another part has, and the others."""
-    shown = {it.key for _, other in parts for it in other.items}
-    for begin, is_shown in (("Followed in part 2", True), ("Followed on neither part", False)):
-        names = dict.fromkeys(it.name for it in part.stopped if (it.key in shown) == is_shown)
+    places = {it.key: number for number, (_, it) in enumerate(parts, 1) for it in it.items}
+    for number in [*range(1, len(parts) + 1), None]:
+        names = dict.fromkeys(it.name for it in part.stopped if places.get(it.key) == number)
         if names:
-            yield begin, names
+            yield f"Followed in part {number}" if number else "Followed on no part", names
 
 
 def as_markdown(title, parts):
@@ -780,12 +781,18 @@ def count_of(part):
 
 
 def parts_of(sources, roots, stops):
-    """Both parts of a page: what is claimed, and what was not followed in it."""
+    """The parts of a page: what is claimed, and what was not followed in it."""
     first = Part(sources, roots, stops)
     parts = [("What a Done means", first)]
     later = [it for it in first.stopped if not OTHER_ENDS.fullmatch(it.name)]
+    read = [it for it in later if it.name in READ]
+    known = [it.key for it in first.items]
+    if read:
+        second = Part(sources, read, stops - set(READ), known)
+        parts.append(("How bytes become an image and a plan", second))
+        later = [it for it in [*later, *second.stopped] if it not in read]
+        known += [it.key for it in second.items]
     if later:
-        known = [it.key for it in first.items]
         parts.append(("When it comes", Part(sources, later, (), known)))
     return parts
 
@@ -839,7 +846,7 @@ def main(words):
     try:
         sources = Sources(TOP)
         about, roots = roots_of(sources, wanted)
-        parts = parts_of(sources, roots, set(wanted.stop or (() if wanted.root else LATER)))
+        parts = parts_of(sources, roots, set(wanted.stop or (() if wanted.root else READ + LATER)))
         if wanted.page:
             title = "What is claimed: " + ", ".join(it.name for it in about)
             make = as_html if wanted.page.endswith(".html") else as_markdown
