@@ -164,8 +164,8 @@ class Explainer:
         if rule == "3" and address == key.entry and key.kind in meanings.NO_CODE_AT_ENTRY:
             meaning = meanings.NO_CODE_AT_ENTRY[key.kind]
             more = self.callers(key) if key.kind == "call" else {}
-        elif rule == "3":
-            more = self.callers(key, address)
+        elif rule == "3" and (more := self.callers(key, address)):
+            meaning = meanings.NO_CODE_AT_JUMP
         if rule == "14" and not task:
             meaning, more = self.no_areas(address, key)
         if rule in ON_ADDRESSES:

@@ -9,9 +9,9 @@
                                                   ADDRESS NAME+OFFSET FILE:LINE
 
 Name all sources, in the order in which their objects were linked. tcd links them again in a scratch
-folder: if that doesn't give ELF, no name is printed. Only data may differ that was written into ELF
-after the link, as a checksum is: standard error names its lines. A section that begins without a
-label, as vectors mostly do, is called by its own name.
+folder: if that doesn't give ELF, no name is printed. Only 64 bytes of data may differ, of lines
+`.byte`, `.half` or `.word`: a checksum may be written into ELF after the link. Standard error names
+these lines. A section that begins without a label, as vectors mostly do, is called by its own name.
 
 Exit status: 0 done, 2 a file or a program that can't be used, 5 wrong arguments.
 """
@@ -28,6 +28,8 @@ from tcdlib.sources import Unusable, shown
 
 #: a label farther before an address than this says nothing about it
 NEAR = 1 << 20
+#: so many bytes may be written into an executable after the link: checksums, numbers, a signature
+MOST_PATCHED = 64
 ELF_HEADER, SECTION_HEADER, SYMBOL = 52, 40, 16
 SYMBOL_TABLE, FIRST_RESERVED, ABSOLUTE = 2, 0xFF00, 0xFFF1
 #: a section of the file's bytes, and flags: it is in memory, and it is code
@@ -131,8 +133,8 @@ def linked(program, layout, paths, folder):
     return elf
 
 
-def patched(again, elf, layout, paths):
-    """The lines of data that were written after the link; None if more differs than such lines."""
+def differences(again, elf):
+    """The addresses of the bytes in which two executables differ; None if it is more than bytes."""
     try:
         entry, segments = read_image(sources.bytes_of(again))
         other, held = read_image(sources.bytes_of(elf))
@@ -140,18 +142,39 @@ def patched(again, elf, layout, paths):
         return None
     if entry != other or [(at, len(b)) for at, b in segments] != [(at, len(b)) for at, b in held]:
         return None
+    return (
+        at + place
+        for (at, ours), (_, theirs) in zip(segments, held)
+        for place in (range(len(ours)) if ours != theirs else ())
+        if ours[place] != theirs[place]
+    )
+
+
+def patched(again, elf, layout, paths):
+    """The lines of data that were written after the link; None if more differs than such lines."""
+    found = differences(again, elf)
+    if found is None:
+        return None
     known, lines = read(layout, paths), {}
-    for (at, ours), (_, theirs) in zip(segments, held):
-        for place in range(len(ours)):
-            if ours[place] == theirs[place]:
-                continue
-            line = known.line(at + place)
-            text = sources.statement_of(*line) if line else ""
-            text = sources.LABEL.sub("", text, count=1).strip()
-            if text.partition(" ")[0] not in sources.DATA_SIZES:
-                return None
-            lines[line] = None
+    for count, at in enumerate(found):
+        line = known.line(at)
+        text = sources.statement_of(*line) if line else ""
+        word = sources.LABEL.sub("", text, count=1).split()[:1]
+        if not word or word[0] not in sources.DATA_SIZES:
+            return None
+        if count == MOST_PATCHED:
+            raise Unusable(
+                f"{shown(elf)}: more than {MOST_PATCHED} bytes of data differ from what "
+                f"{listed(layout, paths)} link to, so names could be wrong: name all sources in "
+                "linked order, or build it again"
+            )
+        lines[line] = None
     return list(lines)
+
+
+def listed(layout, paths):
+    """A layout and its sources in a sentence."""
+    return f"{shown(layout)} and {shown(' '.join(map(str, paths)))}"
 
 
 def demand(program, elf, layout, paths):
@@ -169,10 +192,9 @@ def demand(program, elf, layout, paths):
         print(f"{shown(elf)}: other data than in {places}{more}", file=sys.stderr)
         return
     if not is_same:
-        listed = shown(" ".join(map(str, paths)))
         raise Unusable(
-            f"{shown(elf)}: {shown(layout)} and {listed} don't link to it, so names would be "
-            "wrong: name all sources in linked order, or build it again"
+            f"{shown(elf)}: {listed(layout, paths)} don't link to it, so names would be wrong: "
+            "name all sources in linked order, or build it again"
         )
 
 

@@ -86,6 +86,36 @@ class Rings(unittest.TestCase):
         found = causes.Tables(listing((0x80000000, *code), (0x80000800, *words)))
         self.assertEqual(found.targets("80000010"), ["80000020", "80000024"])
 
+    def test_a_table_of_records(self):
+        code = ["movh.a a15, 32768", "lea.l a15, [a15]2048", "addsc.a a15, a15, d0, 3"]
+        code += ["ld.a a15, [a15]0", "calli a15", "j .+0", "ret16", "nop16", "ret16"]
+        # records of a function, 80000018 and 8000001C, and of a number, which isn't a target
+        words = [".word 0x18000080", ".word 0x1C000080", ".word 0x1C000080", ".word 0x18000080"]
+        tables = causes.Tables(listing((0x80000000, *code), (0x80000800, *words)))
+        self.assertEqual(tables.targets("80000010"), ["80000018", "8000001C"])
+        rows = [(0x80000800, 0x80000018), (0x80000808, 0x8000001C)]
+        self.assertEqual([*tables.entries("80000010", ())], rows)
+
+    def test_a_ring_through_a_table_of_records(self):
+        code = ["movh.a a15, 32768", "lea.l a15, [a15]2048", "addsc.a a15, a15, d0, 3"]
+        code += ["ld.a a15, [a15]4", "calli a15", "j .+0"]
+        words = [".word 0x18000080", ".word 0x00000080", ".word 0x18000080", ".word 0x18000080"]
+        found = listing(
+            (0x80000000, *code), (0x80000018, "call .-24", "ret16"), (0x80000800, *words)
+        )
+        told = ring(found, "call 80000018 prio 0 is 0", "80000018")
+        self.assertEqual(told, ("call 80000000 call 80000018", None))
+
+    def test_jumps_to_an_address(self):
+        code = ["movh.a a2, 32768", "lea.l a2, [a2]2048", "ld.a a2, [a2]4", "ji a2"]
+        words = [".word 0x07000000", ".word 0x00200080"]
+        found = listing((0x80000000, *code), (0x80000800, *words))
+        key = frames.key_of("start 80000000 prio 0 is 0")
+        for address, callers in (("80002000", [("8000000C", 0x80000804)]), ("80003000", [])):
+            self.assertEqual(causes.callers(found, PLAN, "80000000", key, address), callers)
+        other = frames.key_of("call 80000000 prio 0 is 0")
+        self.assertEqual(causes.callers(found, PLAN, "80000000", other, "80002000"), [])
+
     def test_no_ring(self):
         found = listing((0x80000000, "call .+8", "j .+0", "ret16"))
         self.assertEqual(ring(found, "call 80000008 prio 0 is 0", "80000008"), ("", None))

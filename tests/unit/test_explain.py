@@ -278,6 +278,7 @@ class Documents(unittest.TestCase):
     def test_meanings_are_plain_sentences(self):
         tables = [table for table, _ in NUMBERS.values()]
         tables += [meanings.NO_AREAS, meanings.NO_CODE_AT_ENTRY, meanings.BY_FRAME]
+        tables.append({"ji": meanings.NO_CODE_AT_JUMP})
         tables += [meanings.DEATHS, meanings.STATUSES]
         for table in tables:
             for number, meaning in table.items():
@@ -419,6 +420,42 @@ class WithProgram(beside.InFolder):
         self.assertEqual((told["rule"], told["file"], told["text"]), ("K3", "main.s", "calli a14"))
         self.assertEqual(len(told["notes"]), 1)  # the index of the second goes up to 1
         self.assertIn("the word at six+8", told["notes"][0]["message"])
+
+    def test_a_call_past_the_end_of_a_table_of_records(self):
+        self.example("device_table")
+        lines = [".section text", ".global main", "main:", "movh.a a12, 0xF020", "ld.w d15, [a12]0"]
+        lines += ["movh.a a14, hi:rows", "lea.l a14, [a14]lo:rows", "addsc.a a14, a14, d15, 3"]
+        lines += ["ld.a a14, [a14]0", "calli a14", "j main", "f: ret16", "nop16"]
+        lines += ["rows: .word f, 1, f, 2, f, 3, f, 4, f, 5, 0x1C0, 6", ""]
+        self.put("main.s", "\n".join(lines))
+        self.linked(["main.s"])
+        words = ("cert", "firmware.elf", "board.json", "firmware.cert")
+        told = self.explained(["main.s"], *words)
+        self.assertEqual((told["rule"], told["line"], told["text"]), ("K3", 10, "calli a14"))
+        self.assertEqual(told["message"], meanings.NO_CODE_AT_ENTRY["call"].means)
+        (note,) = told["notes"]
+        self.assertIn(
+            "the word at rows+40 (8000004C) of its table, which is 000001C0", note["message"]
+        )
+
+    def test_a_jump_by_a_word_that_is_no_code(self):
+        self.example("one_call")
+        lines = [".section text", ".global main", "main:", "movh.a a2, hi:header"]
+        lines += [
+            "lea.l a2, [a2]lo:header",
+            "ld.a a2, [a2]4",
+            "ji a2",
+            "header: .word 7, 0x80002000",
+        ]
+        self.put("main.s", "\n".join(lines) + "\n")
+        self.linked(["main.s"])
+        words = ("cert", "firmware.elf", "board.json", "firmware.cert")
+        told = self.explained(["main.s"], *words)
+        self.assertEqual((told["rule"], told["line"], told["text"]), ("K3", 7, "ji a2"))
+        self.assertEqual(told["message"], meanings.NO_CODE_AT_JUMP.means)
+        self.assertEqual(told["address"], "80002000")
+        (note,) = told["notes"]
+        self.assertIn("`ji` may take the word at header+4 (80000014)", note["message"])
 
     def test_other_variants(self):
         for example, variant, rule, file, words in (

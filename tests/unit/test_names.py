@@ -4,6 +4,7 @@ import struct
 import unittest
 
 import beside
+from tcdlib import formats
 from tcdlib import frames
 import names
 from tcdlib.sources import Unusable
@@ -151,6 +152,119 @@ class OfTheExecutable(beside.InFolder):
             self.assertEqual((done.returncode, done.stdout), (2, ""), words)
             self.assertIn("the output is also an input", done.stderr)
             self.assertEqual(len(done.stderr.splitlines()), 1, words)
+
+
+PATCHED = """.section text
+.global main
+main: nop
+      j main
+.section data
+sum:	.word	0, 0
+number: .half 1, 2  # of the board
+key:  .byte 0, 0, 0, 0
+room: .space 4
+many: .word 0, 0, 0, 0, 0, 0, 0, 0, 0, 0, 0, 0, 0, 0, 0, 0
+"""
+#: where this is linked, and the layout
+TEXT, DATA = 0x80000000, 0x80000100
+PLACES = "entry main\nplace text 80000000 00000100\nplace data 80000100 00000100\n"
+
+
+@beside.needs_program
+class Patched(beside.InFolder):
+    """Executables that data was written into after the link."""
+
+    def setUp(self):
+        super().setUp()
+        self.put("main.s", PATCHED)
+        self.put("board.layout", PLACES)
+        self.linked(["main.s"])
+
+    def printed(self, changes, flip=0, sources=("main.s",)):
+        """What names.py prints of firmware.elf with these bytes at addresses, and another entry."""
+        entry, segments = formats.elf((self.folder / "firmware.elf").read_bytes())
+        held = {at: bytearray(data) for at, data in segments}
+        for at, data in changes:
+            base = max(begin for begin in held if begin <= at)
+            held[base][at - base : at - base + len(data)] = data
+        segments = [(at, bytes(data)) for at, data in held.items()]
+        self.put("patched.elf", formats.elf_bytes(entry ^ flip, segments))
+        words = ["patched.elf", "board.layout", *sources, "--tcd", beside.program()]
+        done = self.script("names.py", *words)
+        self.assertLessEqual(len(done.stderr.splitlines()), 1, done.stderr)
+        self.assertEqual(done.returncode, 0 if done.stdout else 2)
+        return done
+
+    def test_data(self):
+        for changes, lines in (
+            ([], ""),
+            ([(DATA, b"\1\2\3\4")], "main.s:6"),
+            ([(DATA + 7, b"\1")], "main.s:6"),
+            ([(DATA + 8, b"\7\7")], "main.s:7"),
+            (
+                [(DATA, b"\1"), (DATA + 8, b"\7"), (DATA + 12, b"\7")],
+                "main.s:6, main.s:7, main.s:8",
+            ),
+            ([(DATA + 20, b"\1" * 64)], "main.s:10"),
+        ):
+            done = self.printed(changes)
+            self.assertIn("80000100 sum main.s:6", done.stdout, changes)
+            told = f"patched.elf: other data than in {lines}\n" if lines else ""
+            self.assertEqual(done.stderr, told)
+
+    def test_what_is_no_data(self):
+        for changes, flip in (
+            ([(TEXT, b"\1")], 0),
+            ([(TEXT + 5, b"\1")], 0),
+            ([(DATA + 16, b"\1")], 0),
+            ([(DATA, b"\1"), (TEXT, b"\1")], 0),
+            ([], 4),
+            ([(DATA, b"\1")], 4),
+        ):
+            done = self.printed(changes, flip)
+            self.assertIn("don't link to it, so names would be wrong", done.stderr, (changes, flip))
+
+    def test_more_bytes_than_a_checksum_or_a_signature_has(self):
+        done = self.printed([(DATA, b"\1"), (DATA + 20, b"\1" * 64)])
+        told = (
+            "patched.elf: more than 64 bytes of data differ from what board.layout and main.s link"
+        )
+        self.assertIn(told, done.stderr)
+
+    def test_sources_in_another_order(self):
+        for name, data in (("a.s", "one: .word 1\n"), ("b.s", "two: .word 2\n"), ("c.s", " nop\n")):
+            self.put(name, f".section data\n{data}")
+        self.linked(["main.s", "a.s", "b.s", "c.s"])
+        swapped = self.printed([], sources=["main.s", "b.s", "a.s", "c.s"])
+        self.assertEqual(swapped.stderr, "patched.elf: other data than in b.s:2, a.s:2\n")
+        moved = self.printed([], sources=["main.s", "a.s", "c.s", "b.s"])
+        self.assertIn("don't link to it", moved.stderr)
+
+    def test_each_script_says_it(self):
+        self.example("nested_interrupts")
+        self.put("main.s", (self.folder / "main.s").read_text() + "\n.section text\nsum: .word 0\n")
+        sources = ["main.s", "handlers.s"]
+        self.linked(sources)
+        data = (self.folder / "firmware.elf").read_bytes()
+        place = names.read("board.layout", sources)
+        at = next(row[0] for row in place.labels if row[1] == "sum") - 0x80000000
+        base = data.index(struct.pack("<I", 0x80000000), 52) - 8 + 4
+        offset = struct.unpack_from("<I", data, base)[0] + at
+        self.put("firmware.elf", data[:offset] + b"\1" + data[offset + 1 :])
+        files = ("firmware.elf", "board.json", "firmware.cert")
+        self.tcd("cert", *files)
+        names_from, program = ["board.layout", *sources], beside.program()
+        told = "firmware.elf: other data than in main.s:"
+        for script, words in (
+            ("explain.py", [*names_from, "--", program, "check", *files]),
+            ("view.py", [program, *files, "page.html", *names_from]),
+            ("worst_run.py", [*files, "--tcd", program, "--names", *names_from]),
+            ("growth.py", [program, *files, *names_from, "--most", "99"]),
+            ("evidence.py", [program, "case", *files, "--names", *names_from]),
+        ):
+            done = self.script(script, *words)
+            self.assertEqual(done.returncode, 0, (script, done.stderr))
+            self.assertIn(told, done.stderr, script)
 
 
 def elf_with(symbols):

@@ -155,6 +155,13 @@ NO_CODE_AT_ENTRY = {
     ),
 }
 
+#: what rule 3 means behind a `ji` that may take such a word
+NO_CODE_AT_JUMP = Meaning(
+    "a jump takes a word that is no code",
+    "bound the index of the table that the `ji` reads, and let each of its words be the address of "
+    "code in rom",
+)
+
 #: the causes of K14
 NO_AREAS = {
     "areas": Meaning(
