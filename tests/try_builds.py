@@ -3,9 +3,10 @@
 
 PROGRAM is the built tcd (crates/tcd/out/tcd). With Make, each target of motor_control/Makefile, for
 the firmware beside it, for start_up (a boot sequence), tasks_start_up (tasks) and cells; that a
-refusal ends the build and leaves no certificate, and that an output that is also an input is
-refused. With CMake, the same targets of motor_control and its tests, whose report has to hold
-`certified 20 of 20 areas`. What isn't installed isn't tried, which is printed.
+refusal ends the build, names its line (without tools/ it is tcd's line alone) and leaves no
+certificate, and that an output that is also an input is refused. With CMake, the same targets of
+motor_control and its tests, whose report has to hold `certified 20 of 20 areas`, and a refusal.
+What isn't installed isn't tried, which is printed.
 
 Exit status: 0 all is well, 1 something isn't, 2 no such program, 5 wrong arguments.
 """
@@ -70,6 +71,16 @@ MAKES = {
         ),
     ),
 }
+CELLS = MAKES["cells"][0]
+TASKS = ("-f", "../motor_control/Makefile", "SOURCES=main.s show.s switch.s", "TASKS=board.tasks",
+         "CERTS=measure.cert show.cert")  # fmt: skip
+#: builds that are refused: the example, its variant, settings, the rule, and the file and the text
+#: of its line
+REFUSED = (
+    ("motor_control", "broken", (), "K14", "faults.s", "call   gates_off"),
+    ("cells", "broken", CELLS, "K16", "key.s", "st.w.l [a15]lo:mode, d0"),
+    ("two_tasks", "broken_load", TASKS, "K17", "show.s", "ld.bu  d2, [a15]0"),
+)
 #: what `make clean` leaves of what targets wrote
 KEPT = {"needs.json", "evidence"}
 #: settings with which an output is also an input
@@ -120,14 +131,30 @@ def make(bench):
     bench.holds("make clean leaves the rest", bench.files() == bench.before | KEPT)
 
 
+def has_place(bench, printed, rule, file, text, folder=""):
+    """Whether a build prints the line of a refusal as compilers print it."""
+    lines = (bench.folder / file).read_text().splitlines()
+    numbers = [n for n, line in enumerate(lines, 1) if text in line]
+    fronts = tuple(f"{folder}{file}:{n}: error: {rule} at " for n in numbers)
+    return any(line.startswith(fronts) for line in printed.splitlines())
+
+
 def refused(bench):
-    """A fault in a source ends the build, and the certificate of the older executable is gone."""
-    bench.does("make all", CERTIFIED, *bench.make("all"))
-    shutil.copy(scratch.EXAMPLES / "motor_control" / "broken" / "faults.s", bench.folder)
-    for target in ("all", "explain"):
-        printed, status = bench.ran(*bench.make(target))
-        bench.holds(f"a refusal ends {target}", status == 2 and "refused K14" in printed, printed)
-        bench.holds("a refusal leaves no certificate", "firmware.cert" not in bench.files())
+    """A fault in a source ends the build and is named, and the older certificates are gone."""
+    _, variant, settings, rule, file, text = next(row for row in REFUSED if row[0] == bench.example)
+    bench.does("make all", "", *bench.make("all", *settings))
+    broken = scratch.EXAMPLES / bench.example / variant / file
+    shutil.copy(broken, bench.folder)
+    for target, more in (("all", ()), ("explain", ()), ("all", ("TOOLS=none",))):
+        printed, status = bench.ran(*bench.make(target, *settings), *more)
+        what = f"a refusal ends {target} {' '.join(more)}"
+        bench.holds(what, status == 2 and f"refused {rule} at" in printed, printed)
+        is_told = has_place(bench, printed, rule, file, text)
+        bench.holds(f"{what} with its line", is_told == (not more), printed)
+        left = [name for name in bench.files() if name.endswith(".cert")]
+        bench.holds(f"{what} and leaves no certificate", not left, str(left))
+    shutil.copy(scratch.EXAMPLES / bench.example / file, bench.folder)
+    bench.does("make all without tools", "", *bench.make("all", *settings), "TOOLS=none")
 
 
 def clashes(bench):
@@ -149,6 +176,16 @@ def cmake(bench):
     report = bench.folder / "build" / "areas.xml"
     text = report.read_text() if report.exists() else ""
     bench.holds("the report has the line of `check`", CERTIFIED in text, text)
+    shutil.copy(scratch.EXAMPLES / "motor_control" / "broken" / "faults.s", bench.folder)
+    folder, (_, _, _, *found) = f"{bench.folder.resolve()}/", REFUSED[0]
+    for tools in (TOOLS, "none"):
+        bench.ran("cmake", "-B", "build", f"-DTOOLS={tools}")
+        printed, status = bench.ran("cmake", "--build", "build")
+        is_told = has_place(bench, printed, *found, folder) == (tools == TOOLS)
+        what = status != 0 and "refused K14 at" in printed and is_told
+        bench.holds(f"a refusal with TOOLS={tools}", what, printed)
+        left = (bench.folder / "build" / "firmware.cert").exists()
+        bench.holds("a refusal leaves no certificate", not left)
     printed, status = bench.ran("cmake", f"-DTCD={bench.program}", ".")
     is_told = status == 1 and "folder of its own" in printed
     bench.holds("a build beside its inputs", is_told, printed)
@@ -165,7 +202,8 @@ def has(tool):
 def main(arguments):
     program, tried, wrong = tcd.of_words(arguments, __doc__, 1), 0, []
     builds = [("make", make, example) for example in MAKES]
-    builds += [("make", refused, "motor_control"), ("make", clashes, "motor_control")]
+    builds += [("make", refused, row[0]) for row in REFUSED]
+    builds += [("make", clashes, "motor_control")]
     for tool, build, example in [*builds, ("ctest", cmake, "motor_control")]:
         if not has(tool):
             print(f"{build.__name__} is not tried: {tool} isn't installed, or is too old")
