@@ -136,11 +136,11 @@ class Explainer:
 
     # Places
 
-    def at(self, address):
-        """Where an address is."""
-        at = int(address, 16)
+    def at(self, address, key=None):
+        """Where an address of a frame is."""
+        at, entry = int(address, 16), key and int(key.entry, 16)
         file, line = self.known.line(at) or (None, None)
-        function = self.known.name(at) if self.known else None
+        function = self.known.name(at, entry) if self.known else None
         return {"address": address, "file": file, "line": line, "function": function}
 
     def find(self, line, status):
@@ -169,7 +169,7 @@ class Explainer:
         if rule == "14" and not task:
             meaning, more = self.no_areas(address, key)
         if rule in ON_ADDRESSES:
-            more = {"notes": self.origins(address)}
+            more = {"notes": self.origins(address, key)}
         message = meaning.means
         if more.get("needed"):
             message += f": {more['needed']} are needed"
@@ -178,7 +178,7 @@ class Explainer:
         if self.name in GIVEN and meaning.change and AGAIN not in meaning.change:
             meaning = meanings.Meaning(meaning.means, meaning.change + OLDER)
         frame = frame_name(key, self.known)
-        place = {**self.at(address), **more}
+        place = {**self.at(address, key), **more}
         return finding(f"K{rule}", meaning, message, frame=frame, **place)
 
     def no_areas(self, address, key):
@@ -193,7 +193,10 @@ class Explainer:
             return meanings.NO_AREAS["certificate"] if is_given else meanings.RULES["14"], {}
         has_interrupt = any(step.way == "irq" for step in self.ring.steps)
         meaning = meanings.NO_AREAS["interrupt" if has_interrupt else "recursion"]
-        notes = [self.note(step.point, entry_name(step, self.known)) for step in self.ring.steps]
+        notes = [
+            self.note(step.point, entry_name(step, self.known), step.frame)
+            for step in self.ring.steps
+        ]
         if self.ring.lowering:
             message = "the handler lowers the priority below its own"
             notes.append(self.note(self.ring.lowering, message))
@@ -229,11 +232,11 @@ class Explainer:
         areas, reserve = plans.areas_of(self.word("PLAN"))
         return areas - reserve
 
-    def note(self, address, message):
+    def note(self, address, message, key=None):
         """What is said of an address beside the fault's own."""
-        return {**self.at(address), "message": message}
+        return {**self.at(address, key), "message": message}
 
-    def origins(self, address):
+    def origins(self, address, key):
         """Notes on the instructions from which the address of an access or a call comes."""
         with tempfile.TemporaryDirectory() as folder:
             try:
@@ -244,7 +247,7 @@ class Explainer:
         for register, point in origins.origins(listing, address):
             file, line = self.known.line(int(point, 16)) or (None, 0)
             text = (sources.statement_of(file, line) if file else "") or listing.texts[point]
-            notes.append(self.note(point, f"{register} comes from `{text}`"))
+            notes.append(self.note(point, f"{register} comes from `{text}`", key))
         return notes or None
 
     def judge_areas(self, address, key):

@@ -5,7 +5,7 @@
                                                   ADDRESS NAME FILE:LINE
     names.py ELF                                  the same from the symbols (.symtab) of an
                                                   executable that another linker wrote
-    names.py .. --at 80000034 ..                  prints what is at each address:
+    names.py .. --at 80000034 --at 8000004E       prints what is at each address:
                                                   ADDRESS NAME+OFFSET FILE:LINE
 
 Name all sources, in the order in which their objects were linked. tcd links them again in a scratch
@@ -64,12 +64,18 @@ class Map:
         base = self.labels[found][0]
         return self.at[base][0], address - base
 
-    def name(self, address):
-        """`speed_loop`, `speed_loop+12`, or the address if no label is known."""
+    def name(self, address, entry=None):
+        """`speed_loop`, `speed_loop+12`, or the address if no label is known.
+
+        In a function that begins at `entry`, a label inside it is shown as `speed_loop (again+4)`.
+        """
         found = self.label(address)
         if not found:
             return f"{address:08X}"
-        return found[0] + (f"+{found[1]}" if found[1] else "")
+        label, distance = found
+        text = label + (f"+{distance}" if distance else "")
+        is_inside = entry in self.at and address - distance != entry
+        return f"{self.at[entry][0]} ({text})" if is_inside else text
 
     def line(self, address):
         """The file and the line of the statement that covers an address, or None."""
@@ -322,7 +328,7 @@ def main(given):
     """Prints what is asked for, and gives the exit status."""
     parser = arguments.Parser("elf")
     parser.add_names()
-    parser.add_argument("--at", nargs="+", type=address)
+    parser.add_argument("--at", action="append", type=address)
     parser.add_argument("--tcd", default="tcd")
     given = parser.parsed(given)
     if given.names:

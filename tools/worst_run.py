@@ -94,8 +94,8 @@ def script_of(best, board, devices_read):
 
 
 def name_of(known):
-    """A function that names an address."""
-    return lambda at: f"{known.name(at)} ({at:08X})" if known else f"{at:08X}"
+    """A function that names an address, of a function that begins at another one."""
+    return lambda at, of=None: f"{known.name(at, of)} ({at:08X})" if known else f"{at:08X}"
 
 
 def ways_of(graph, node, point, base, name):
@@ -141,7 +141,7 @@ def why_not(search, name):
         yield f"  {name(node.key[1])}, entered with {deepest} areas in use ({frame})"
         for point in sorted(graph.goals(node, deepest).fires)[:MOST_POINTS]:
             ways = ", ".join(ways_of(graph, node, point, deepest, name)[:3])
-            yield f"    no run took, at {name(point)}: {ways}"
+            yield f"    no run took, at {name(point, node.key[1])}: {ways}"
             taken = taken_from(search, node, node.ways[point]) - {None}
             if node.key[0] == "call" and taken and not taken & vias:
                 is_joined = True

@@ -116,6 +116,15 @@ class Lines(beside.InFolder):
             line = f"refused K9 at 8000000C in {key}"
             self.assertEqual(found(line, known=known)["frame"], told)
 
+    def test_labels_inside_of_functions(self):
+        known = names.Map([(0x80000008, "diagnose", "a.s", 3), (0x80000010, "next", "a.s", 5)])
+        for key, told in (
+            ("call 80000008 prio 0 is 0", "diagnose (next+8)"),
+            ("irq 80000540 prio 10 is 1", "next+8"),
+        ):
+            line = f"refused K12 at 80000018 in {key}"
+            self.assertEqual(found(line, known=known)["function"], told)
+
     def test_rule_3_by_the_kind_of_frame(self):
         for kind, word in (("irq", "irqs"), ("sys", "sys"), ("aln", "aln"), ("call", "table")):
             line = f"refused K3 at 80000540 in {kind} 80000540 prio 10 is 1"

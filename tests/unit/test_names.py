@@ -53,6 +53,21 @@ class Read(beside.InFolder):
         path = self.put("s.s", ".section t\nzeta:\nalpha: nop\n")
         self.assertEqual(names.read("l", [path]).name(0x80000004), "zeta+4")
 
+    def test_a_label_inside_of_a_function(self):
+        path = self.put("s.s", ".section t\ndiagnose: nop\nnext: nop\n nop\nother: nop\n")
+        known = names.read("l", [path])
+        begin = 0x80000000
+        for at, entry, name in (
+            (begin, begin, "diagnose"),
+            (begin + 4, begin, "diagnose (next)"),
+            (begin + 8, begin, "diagnose (next+4)"),
+            (begin + 8, begin + 4, "next+4"),
+            (begin + 8, None, "next+4"),
+            (begin + 8, 0x70000000, "next+4"),
+            (0x10, begin, "00000010"),
+        ):
+            self.assertEqual(known.name(at, entry), name)
+
     def test_faults_of_the_script(self):
         for words, status in (
             (["--help"], 0),
@@ -86,11 +101,14 @@ class OfTheExecutable(beside.InFolder):
 
     def printed(self, *names_from, at=("80000034", "0x8000000a")):
         words = ["firmware.elf", *names_from, "--tcd", beside.program()]
-        return self.script("names.py", *words, *(["--at", *at] if at else []))
+        return self.script("names.py", *words, *(word for each in at for word in ("--at", each)))
 
     def test_the_script(self):
         found = self.printed(*self.names_from).stdout
         self.assertEqual(found, "80000034 count handlers.s:35\n8000000A work+2 main.s:10\n")
+        words = ["--tcd", beside.program(), "--at", "80000034", "firmware.elf", *self.names_from]
+        before = self.script("names.py", *words).stdout
+        self.assertEqual(before, "80000034 count handlers.s:35\n")
         first = self.printed(*self.names_from, at=()).stdout.splitlines()[0]
         self.assertEqual(first, "80000000 main main.s:6")
 

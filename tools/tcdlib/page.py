@@ -58,9 +58,9 @@ class Page:
 
     # Names and links
 
-    def name(self, address):
-        """The name of an address: a label, and the distance to it."""
-        return self.known.name(int(address, 16))
+    def name(self, address, key=None):
+        """The name of an address, of a frame: a label, and the distance to it."""
+        return self.known.name(int(address, 16), key and int(key.entry, 16))
 
     def place(self, address):
         """The file and line of an address, or an empty text."""
@@ -91,11 +91,11 @@ class Page:
         text = esc(text or address)
         return f"<a href=#a{address}>{text}</a>" if address in self.listing.texts else text
 
-    def where(self, address):
-        """An address as a link with its name, file and line."""
+    def where(self, address, key=None):
+        """An address, of a frame, as a link with its name, file and line."""
         file = self.place(address)
         small = f" <small>{esc(file)}</small>" if file else ""
-        return self.to_code(address, self.name(address)) + small
+        return self.to_code(address, self.name(address, key)) + small
 
     def code(self, at, linked=True):
         """An instruction with its target by name, and halves of addresses in hex digits."""
@@ -143,14 +143,14 @@ class Page:
 
     def ladder(self, chain, last, held):
         """A row for each area of the chain: how many are in use, who uses it, what is entered, by
-        what, and the point. And how many each priority uses."""
+        what, the point and its frame. And how many each priority uses."""
         rows, shares = [], collections.OrderedDict()
         for step in chain:
             rows += self.saves(step.frame, step.saved, len(rows))
             how = "interrupt" if step.way == "irq" else "call" if step.way == "call" else ""
             how = how or f"<code>{self.code(step.point)}</code>"
             into = self.to_frame(step.into)
-            rows.append((len(rows) + 1, step.into.who, into, how, step.point))
+            rows.append((len(rows) + 1, step.into.who, into, how, step.point, step.frame.key))
         rows += self.saves(last, held, len(rows))
         for _, who, *_ in rows:
             shares[who] = shares.get(who, 0) + 1
@@ -168,7 +168,7 @@ class Page:
             point = points[0] if points else None
             how = f"<code>{self.code(point)}</code>" if point else ""
             what = "<small>its lower context</small>"
-            rows.append((used + held + 1, frame.who, what, how, point))
+            rows.append((used + held + 1, frame.who, what, how, point, frame.key))
         return rows
 
     def bar(self, shares, used):
@@ -193,8 +193,8 @@ class Page:
         head = table_head("in use", "enters", "by", "from")
         caption = "<caption>Entry by entry, how the areas come into use.</caption>"
         out = [f"<table class=ladder>{caption}{head}"]
-        for number, who, into, how, point in rows:
-            where = self.where(point) if point else ""
+        for number, who, into, how, point, key in rows:
+            where = self.where(point, key) if point else ""
             row = f"<td><b>{number}</b><td>{into}<td>{how}<td>{where}"
             look = f"p{self.colours[who]}"
             if number == self.graph.usable + 1:
@@ -380,9 +380,10 @@ class Page:
         out = [RING_HEAD, "<ol class=ring>"]
         for step in ring.steps:
             self.marked.add(step.point)
+            at = self.where(step.point, step.frame)
             out.append(
                 f"<li><p><b>{esc(self.long_name(step.frame))}</b> {ENTERING[step.way]} "
-                f"<b>{esc(self.long_name(step.into))}</b>, at {self.where(step.point)}</p>"
+                f"<b>{esc(self.long_name(step.into))}</b>, at {at}</p>"
                 f"{self.near(step.point, 2, 1)}</li>"
             )
         first = esc(self.long_name(ring.steps[0].frame))
