@@ -38,6 +38,7 @@ CASES = {
         2: [
             "board.layout main.s -- none cert firmware.elf board.json x.cert",
             "-- P cert firmware.elf board.json firmware.elf",
+            "-- P check firmware.elf twice.json firmware.cert",
         ],
     },
     "view.py": {
@@ -48,6 +49,8 @@ CASES = {
             "P firmware.elf board.json firmware.cert page.html board.layout sum.s main.s",
             "P firmware.elf board.json firmware.cert firmware.cert",
             "P firmware.elf board.json firmware.cert board.layout",
+            "P firmware.elf twice.json firmware.cert page.html",
+            "P firmware.elf nan.json firmware.cert page.html",
         ],
     },
     "worst_run.py": {
@@ -58,6 +61,8 @@ CASES = {
             "cut.elf board.json firmware.cert --tcd P",
             "firmware.elf none.json firmware.cert --tcd P",
             "firmware.elf cut.json firmware.cert --tcd P",
+            "firmware.elf twice.json firmware.cert --tcd P",
+            "firmware.elf nan.json firmware.cert --tcd P",
             "firmware.elf board.json none.cert --tcd P",
             "firmware.elf board.json cut.cert --tcd P",
             f"{FILES} --in 7 0 0",
@@ -73,6 +78,8 @@ CASES = {
         5: ["", "P case a", "--again P case a", "P case a b c --boot 0 --cells c"],
         2: [
             "none case firmware.elf board.json firmware.cert",
+            "P case firmware.elf twice.json firmware.cert",
+            "P case firmware.elf nan.json firmware.cert",
             "P case none.elf board.json firmware.cert",
             "P case firmware.elf cut.json firmware.cert",
             "P case firmware.elf board.json firmware.cert --cells none.cells",
@@ -91,6 +98,8 @@ CASES = {
             f"{BUILD} board.layout sum.s main.s --most 9",
             f"{BUILD} --most 9 --tasks board.layout 0",
             "none firmware.elf board.json firmware.cert --most 9",
+            "P firmware.elf twice.json firmware.cert --most 9",
+            "P firmware.elf nan.json firmware.cert --most 9",
             "P firmware.elf board.json cut.cert --most 9",
         ],
     },
@@ -103,11 +112,20 @@ CASES = {
         2: [
             "-- none cert firmware.elf board.json x.cert",
             "-- P cert firmware.elf board.json board.json",
+            "-- P cert firmware.elf twice.json x.cert",
         ],
     },
     "known.py": {
         5: ["", "firmware.elf --bogus", "firmware.elf --vectors x y"],
-        2: ["none.elf", "cut.elf", "firmware.elf none.json", "firmware.elf cut.json", "board.json"],
+        2: [
+            "none.elf",
+            "cut.elf",
+            "firmware.elf none.json",
+            "firmware.elf cut.json",
+            "firmware.elf twice.json",
+            "firmware.elf nan.json",
+            "board.json",
+        ],
     },
     "try_worst.py": {5: [""], 2: ["none", "P none"]},
     "try_pages.py": {5: ["", "P P"], 2: ["none"]},
@@ -135,6 +153,9 @@ def prepared(program, folder):
     for name in ("firmware.elf", "board.json", "firmware.cert"):
         data = (folder / name).read_bytes()
         (folder / f"cut.{name.split('.')[1]}").write_bytes(data[: len(data) // 2])
+    plan = (folder / "board.json").read_text()
+    (folder / "twice.json").write_text(plan.replace('"irqs": []', '"irqs": [10], "irqs": []'))
+    (folder / "nan.json").write_text(plan.replace('"areas": 4', '"areas": NaN'))
 
 
 def fault_of(program, script, text, wanted, folder):

@@ -205,7 +205,7 @@ class Bundle:
         entry, segments = judged.read(self.path(self.elf), readers.elf)
         if self.record["command"] != "tasks":
             return readers.elf_bytes(entry ^ 4, segments)
-        board = judged.read(self.path(self.plan), readers.plan)
+        board = judged.board_of(self.path(self.plan))
         tasks = self.path(self.record["more"])
         at = judged.read(tasks, lambda data: readers.tasks(data, board))[0]
         changed = [

@@ -21,7 +21,8 @@ which is null or has rule, file, line, text, address, function, frame, message, 
 areas that would be enough) and notes (address, file, line, function and message of each).
 
 Exit status: that of the command; 2 if there is no such program, if LAYOUT and SOURCEs aren't those
-of its executable, or if a file that it writes is one that is read; 5 wrong arguments.
+of its executable, if a file that it writes is one that is read, or if its plan has a key twice; 5
+wrong arguments.
 """
 import json
 import os
@@ -502,6 +503,8 @@ def parsed(given):
 def ran(given, command):
     """Runs the command: how it ended."""
     demand_apart(given, command)
+    for path in of_command(command, ["PLAN"]):
+        plans.demand_single_keys(path)
     return tcd.run(command[0], *command[1:])
 
 

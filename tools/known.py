@@ -284,7 +284,7 @@ def main(given):
     """Counts, prints, and gives the exit status."""
     given = parsed(given)
     entry, segments = judged.read(given.elf, readers.elf)
-    board = judged.read(given.plan, readers.plan) if given.plan else None
+    board = judged.board_of(given.plan) if given.plan else None
     symbols = judged.read(given.elf, functions)
     image = Image(segments)
     starts = {entry, *vectors(image, board, given.vectors)}

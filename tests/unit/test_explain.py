@@ -248,6 +248,8 @@ class Files(beside.InFolder):
             self.assertIn("JSON", told["message"])
             if number:
                 self.assertEqual(told["line"], number)
+        self.put("board.json", '{"sp": NaN}')
+        self.assertEqual(found("bad plan 1", CERT, 2)["message"], "not JSON: NaN is no number")
         for text in (b"\xff\xfe", b"[]", b""):
             self.put("board.json", text)
             self.assertIn("JSON", found("bad plan 1", CERT, 2)["message"])

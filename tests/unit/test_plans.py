@@ -19,6 +19,32 @@ class Reading(beside.InFolder):
             with self.assertRaises(Unusable, msg=text):
                 plans.read(self.put("p", text))
 
+    def test_a_key_twice(self):
+        for text, key in (
+            ('{"irqs": [], "irqs": []}', "irqs"),
+            ('{"csa": {"at": 1, "areas": 2, "at": 1}}', "at"),
+            ('{"rom": [{"len": 4, "len": 8}], "x": 1, "x": 2}', "len"),
+            ('{"a\\u001b": 1, "a\\u001b": 1}', "a\\x1b"),
+        ):
+            with self.assertRaises(plans.Twice) as caught:
+                plans.read(self.put("p", text))
+            self.assertEqual(str(caught.exception), f"p: a key is there twice: {key}")
+
+    def test_numbers_that_json_has_not(self):
+        for word in (
+            "NaN",
+            "Infinity",
+            "-Infinity",
+            "1e999",
+            "-1e999",
+            "1." + "9" * 5000 + "e9999",
+        ):
+            with self.assertRaises(Unusable) as caught:
+                plans.read(self.put("p", f'{{"csa": {{"areas": {word}}}}}'))
+            told = str(caught.exception)
+            self.assertTrue(told.startswith(f"p: not JSON: {word[:20]} is "), told)
+            self.assertLess(len(told), 80)
+
 
 class Room(unittest.TestCase):
     """Plans with as many areas as there can be."""

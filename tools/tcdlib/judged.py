@@ -8,6 +8,7 @@ import pathlib
 import tempfile
 
 from tcdlib import formats as readers
+from tcdlib import plans
 from tcdlib import program as tcd
 from tcdlib.frames import Listing
 from tcdlib.sources import Unusable, bytes_of, shown
@@ -28,6 +29,12 @@ def read(path, reader):
         raise Unusable(f"{shown(path)}: bad {e} (docs/errors.md says what it means)") from None
 
 
+def board_of(path):
+    """The plan of a file as numbers, as tcd reads it; a key that is there twice is refused."""
+    plans.demand_single_keys(path)
+    return read(path, readers.plan)
+
+
 class Judged:
     """An executable and a plan, and those that `report` and `cfg` get in their place.
 
@@ -41,8 +48,9 @@ class Judged:
         self.folder, self.cells, self.tasks = pathlib.Path(folder), cells, None
         #: what `cells` printed of a certificate
         self.line = None
+        plans.demand_single_keys(plan)
         if cells:
-            board = read(plan, readers.plan)
+            board = board_of(plan)
             found = read(cells, lambda data: readers.cells(data, board))
             self.plan = self.put("cells.json", readers.with_cells(board, found))
         elif tasks:
@@ -78,7 +86,7 @@ class Judged:
 
     def board(self):
         """The plan that `run` gets, as numbers."""
-        return read(self.played, readers.plan)
+        return board_of(self.played)
 
     def made_again(self, cert):
         """The command that makes a certificate, its line, and whether it refuses."""

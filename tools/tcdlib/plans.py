@@ -1,6 +1,7 @@
 """Plans: their numbers, how many areas they have, and where their keys stand."""
 import collections
 import json
+import math
 
 from tcdlib.sources import Unusable, bytes_of, shown
 
@@ -9,30 +10,53 @@ MOST_AREAS, AREA = 4096, 64
 SEGMENT, SEGMENT_AREAS = 1 << 28, 1 << 22
 
 
+class Twice(Unusable):
+    """A plan with an object that has a key twice."""
+
+
+def finite(text):
+    """A number of JSON with a point or an exponent."""
+    if math.isinf(value := float(text)):
+        raise ValueError(f"{text[:20]} is too large")
+    return value
+
+
+def no_number(text):
+    """What Python reads as a number and JSON doesn't have."""
+    raise ValueError(f"{text} is no number")
+
+
+#: how numbers of a plan are read
+NUMBERS = {"parse_float": finite, "parse_constant": no_number}
+
+
 def read(path):
-    """A plan as JSON, or Unusable."""
+    """A plan as JSON, or Unusable. A key that is there twice is refused: tcd silently takes the
+    last."""
+
+    def pairs(items):
+        counts = collections.Counter(key for key, _ in items)
+        if twice := sorted(key for key, count in counts.items() if count > 1):
+            raise Twice(f"{shown(path)}: a key is there twice: {shown(', '.join(twice[:4]))}")
+        return dict(items)
+
     try:
-        plan = json.loads(bytes_of(path))
+        plan = json.loads(bytes_of(path), object_pairs_hook=pairs, **NUMBERS)
     except (ValueError, RecursionError) as e:
-        raise Unusable(f"{shown(path)}: not JSON: {e}") from None
+        raise Unusable(f"{shown(path)}: not JSON: {shown(e)}") from None
     if not isinstance(plan, dict):
         raise Unusable(f"{shown(path)}: not a JSON object")
     return plan
 
 
 def demand_single_keys(path):
-    """Raises Unusable if an object of a plan has a key twice: tcd silently takes the last."""
-
-    def pairs(items):
-        counts = collections.Counter(key for key, _ in items)
-        if twice := sorted(key for key, count in counts.items() if count > 1):
-            raise Unusable(f"{shown(path)}: a key is there twice: {shown(', '.join(twice))}")
-        return dict(items)
-
+    """Raises Twice if a plan has a key twice. What else is wrong with it, tcd says."""
     try:
-        json.loads(bytes_of(path), object_pairs_hook=pairs)
-    except (ValueError, RecursionError) as e:
-        raise Unusable(f"{shown(path)}: not JSON: {e}") from None
+        read(path)
+    except Twice:
+        raise
+    except Unusable:
+        pass
 
 
 def number(value):
@@ -68,7 +92,7 @@ def with_room(plan):
 def json_fault(text):
     """What Python's reader says of a plan that isn't JSON, and its line."""
     try:
-        json.loads(text)
+        json.loads(text, **NUMBERS)
     except (ValueError, RecursionError) as e:
         return f"not JSON: {getattr(e, 'msg', e)}", getattr(e, "lineno", None)
     return None
