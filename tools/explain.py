@@ -26,7 +26,6 @@ wrong arguments.
 """
 import json
 import os
-import pathlib
 import re
 import sys
 import tempfile
@@ -124,12 +123,7 @@ class Explainer:
 
     def words(self, role):
         """The words of the command in a role of meanings.COMMANDS, such as PLAN or SOURCE."""
-        for place, word in enumerate(meanings.COMMANDS.get(self.name, "").split(" ")):
-            if word == role:
-                return self.command[2 + place : 3 + place]
-            if word == f"{role}..":
-                return self.command[2 + place :]
-        return []
+        return tcd.words_in(self.command[1:], role)
 
     def word(self, role):
         """The first word in a role, or None."""
@@ -290,7 +284,9 @@ class Explainer:
             code = sources.raw_line(path, int(line)).split("#")[0]
             meaning = next((each for mark, each in meanings.SEEN.items() if mark in code), meaning)
             bad = code[meanings.SOURCE_CHARACTERS.match(code).end() :][:1]
-            if bad and meaning is meanings.SOURCES["1"]:
+            if line == "1" and sources.has_mark(path):
+                meaning = meanings.MARK
+            elif bad and meaning is meanings.SOURCES["1"]:
                 meaning = meanings.Meaning(f"`{bad}` in a line, which no line may have")
         return finding(f"source {number}", meaning, file=path, line=int(line) if line else None)
 
@@ -305,6 +301,8 @@ class Explainer:
         meaning, file = table.get(number, UNKNOWN), self.word(role)
         if kind == "layout" and number == "1" and self.is_after_last(file, int(line or 0)):
             meaning = meanings.NO_ENTRY
+        elif number == "1" and line == "1" and sources.has_mark(file):
+            meaning = meanings.MARK
         elif number == "1" and sources.raw_line(file, int(line or 0)).endswith("\r"):
             meaning = meanings.CARRIAGE_RETURN
         return finding(f"{kind} {number}", meaning, file=file, line=int(line) if line else None)
@@ -391,9 +389,11 @@ class Explainer:
                 message, line = plans.json_fault(text) or (message, None)
         except (Unusable, TypeError, UnicodeDecodeError):
             text = ""
+        if number == "1" and sources.has_mark(path):
+            meaning, message, line = meanings.MARK, meanings.MARK.means, 1
         if key:
             message = f"{key}: {message}"
-            line = plans.key_line(text, key)
+            line = (plans.missing_line if number == "2" else plans.key_line)(text, key)
         if first:
             message += f" (ranges {first} and {second}, from 0 over rom, ram, devices and areas)"
         return finding(f"plan {number}", meaning, message, file=path, line=line)
@@ -427,11 +427,8 @@ class Explainer:
     def without_line(self, status):
         """A status without a line."""
         meaning = meanings.STATUSES[status]
-        roles = [role for role in meanings.READ if role not in meanings.WRITTEN.get(self.name, ())]
-        words = [word for role in roles for word in self.words(role)]
-        missing = [word for word in words if not pathlib.Path(word).exists()]
-        more = f"; not there: {', '.join(missing)}" if missing and status == tcd.NO_FILE else ""
-        return finding(f"status {status}", meaning, meaning.means + more)
+        more = tcd.lacking(self.command[1:]) if status == tcd.NO_FILE else ""
+        return finding(f"status {status}", meaning, meaning.means + (more and f"; {more}"))
 
 
 UNKNOWN = meanings.Meaning("a fault that explain.py doesn't know; see docs/errors.md")

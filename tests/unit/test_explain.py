@@ -171,6 +171,33 @@ class Lines(beside.InFolder):
         check = [PROGRAM, "check", *CERT[2:]]
         self.assertTrue(found("", check, 3)["message"].endswith("board.json, f.cert"))
 
+    def test_words_that_are_folders_or_lie_in_missing_ones(self):
+        for name in ("f.elf", "board.json", "main.s"):
+            self.put(name, "")
+        (self.folder / "out").mkdir()
+        for words, told in (
+            (("cert", "f.elf", "board.json", "out"), "; a folder: out"),
+            (
+                ("cert", "f.elf", "board.json", "no/f.cert"),
+                "; in a folder that isn't there: no/f.cert",
+            ),
+            (
+                ("cert", "f.elf", "out", "f.elf/x"),
+                "a folder: out; in a folder that isn't there: f.elf/x",
+            ),
+            (("asm", "main.s", "out/main.o"), "was closed"),
+            (("asm", "none.s", "none.o"), "; not there: none.s"),
+            (("asm", "no/main.s", "main.o"), "; in a folder that isn't there: no/main.s"),
+            (
+                ("taskcert", "f.elf", "board.json", "t", "a", "no/b"),
+                "isn't there: no/b; not there: t",
+            ),
+            (("asm", "a" * 5000, "x.o"), f"; not there: {'a' * 5000}"),
+            (("asm", "a\0b", "x.o"), "; not there: a\0b"),
+        ):
+            message = found("", [PROGRAM, *words], 3)["message"]
+            self.assertTrue(message.endswith(told), (words, message))
+
 
 class Files(beside.InFolder):
     """Places in files that the line alone doesn't have."""
@@ -241,6 +268,33 @@ class Files(beside.InFolder):
         for key, number in (("csa.at", 5), ("csa.areas", 6), ("rom.at", 3), ("sp", None)):
             self.assertEqual(found(f"bad plan 4 key {key}", CERT, 2)["line"], number, key)
 
+    def test_a_missing_key_of_a_plan(self):
+        text = '\n{\n"rom": [{"at": 0, "len": 4},\n{"at": 4}],\n"csa":\n{"at": 64},\n"ram": []}'
+        self.put("board.json", text)
+        for key, number in (("sp", 2), ("rom.len", 4), ("csa.areas", 6), ("globals", 2)):
+            self.assertEqual(found(f"bad plan 2 key {key}", CERT, 2)["line"], number, key)
+        for text in ("", "x", '{"csa": 3}'):
+            self.put("board.json", text)
+            self.assertIsNone(found("bad plan 2 key csa.at", CERT, 2)["line"])
+
+    def test_byte_order_marks(self):
+        asm = [PROGRAM, "asm", "main.s", "main.o"]
+        for mark in (b"\xef\xbb\xbf", b"\xff\xfe", b"\xfe\xff"):
+            for name, line, command in (
+                ("board.json", "bad plan 1", CERT),
+                ("main.s", "bad source 1 at 0 1", asm),
+                ("board.layout", "bad layout 1 at 1", LINK),
+                ("turns.script", "bad script 1 at 1", RUN),
+                ("f.cells", "bad cells 1 at 1", CELLS),
+                ("f.tasks", "bad tasks 1 at 1", TASKS),
+            ):
+                self.put(name, mark + b"{}")
+                told = found(line, command, 2)
+                self.assertEqual((told["message"], told["line"]), (meanings.MARK.means, 1), name)
+                self.assertEqual(told["change"], meanings.MARK.change)
+                self.put(name, b"x\n" + mark)
+                self.assertNotEqual(found(line, command, 2)["message"], meanings.MARK.means)
+
     def test_a_plan_that_is_no_json(self):
         for text, number in (('{\n "sp": x\n}', 2), ('{"sp": 0x10}', 1), ("[" * 100000, None)):
             self.put("board.json", text)
@@ -250,7 +304,7 @@ class Files(beside.InFolder):
                 self.assertEqual(told["line"], number)
         self.put("board.json", '{"sp": NaN}')
         self.assertEqual(found("bad plan 1", CERT, 2)["message"], "not JSON: NaN is no number")
-        for text in (b"\xff\xfe", b"[]", b""):
+        for text in (b"\xff\xfd", b"[]", b""):
             self.put("board.json", text)
             self.assertIn("JSON", found("bad plan 1", CERT, 2)["message"])
 
@@ -289,7 +343,7 @@ class Documents(unittest.TestCase):
     def test_meanings_are_plain_sentences(self):
         tables = [table for table, _ in NUMBERS.values()]
         tables += [meanings.NO_AREAS, meanings.NO_CODE_AT_ENTRY, meanings.BY_FRAME]
-        tables.append({"ji": meanings.NO_CODE_AT_JUMP})
+        tables.append({"ji": meanings.NO_CODE_AT_JUMP, "mark": meanings.MARK})
         tables += [meanings.DEATHS, meanings.STATUSES]
         for table in tables:
             for number, meaning in table.items():

@@ -236,6 +236,10 @@ SOURCES = {
 CARRIAGE_RETURN = Meaning(
     "the line ends with a carriage return", r"end lines with a line feed alone: `tr -d '\r'`"
 )
+#: a fault at the front of a text
+MARK = Meaning(
+    "the file begins with a byte order mark (BOM)", "save it as UTF-8 without a byte order mark"
+)
 #: `bad source 1`, by what is seen in the line
 SEEN = {
     "\r": CARRIAGE_RETURN,

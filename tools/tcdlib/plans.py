@@ -2,6 +2,7 @@
 import collections
 import json
 import math
+import re
 
 from tcdlib.sources import Unusable, bytes_of, shown
 
@@ -96,6 +97,19 @@ def json_fault(text):
     except (ValueError, RecursionError) as e:
         return f"not JSON: {getattr(e, 'msg', e)}", getattr(e, "lineno", None)
     return None
+
+
+def missing_line(text, key):
+    """The line at which the object begins that lacks a key, as `csa.at`; None if it isn't found."""
+    outer, _, name = key.rpartition(".")
+    if not outer:
+        at = text.find("{")
+    else:
+        begin = max(0, text.find(f'"{outer}"'))
+        objects = re.finditer(r"\{[^{}]*\}", text[begin:])
+        found = (each.start() for each in objects if f'"{name}"' not in each[0])
+        at = begin + next(found, -1 - begin)
+    return text.count("\n", 0, at) + 1 if at >= 0 else None
 
 
 def key_line(text, key):

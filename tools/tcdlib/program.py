@@ -1,9 +1,11 @@
 """Runs commands of tcd for the scripts that read what it prints."""
+import os
 import pathlib
 import shutil
 import subprocess
 import sys
 
+from tcdlib import meanings
 from tcdlib.sources import Unusable, shown
 
 DONE, REFUSED, BAD_FILE, NO_FILE, NO_MEMORY, BAD_WORDS = range(6)
@@ -44,14 +46,37 @@ def run(program, *words, folder=None):
         raise Unusable(f"{shown(' '.join(words))}: not words of a command") from None
 
 
+def words_in(command, role):
+    """The words of a command, which begins with its name, in a role such as PLAN or SOURCE."""
+    for place, word in enumerate(meanings.COMMANDS.get("".join(command[:1]), "").split(" ")):
+        if word == role:
+            return command[1 + place : 2 + place]
+        if word == f"{role}..":
+            return command[1 + place :]
+    return []
+
+
+def lacking(command):
+    """What is wrong with the files that a command names, as far as their names say it."""
+    found = {"a folder": [], "in a folder that isn't there": [], "not there": []}
+    for role in meanings.READ:
+        is_written = role in meanings.WRITTEN.get("".join(command[:1]), ())
+        for word in words_in(command, role):
+            if os.path.isdir(word):
+                found["a folder"].append(word)
+            elif not os.path.isdir(os.path.dirname(word) or "."):
+                found["in a folder that isn't there"].append(word)
+            elif not is_written and not os.path.exists(word):
+                found["not there"].append(word)
+    return "; ".join(f"{fault}: {', '.join(words)}" for fault, words in found.items() if words)
+
+
 def why(done, words):
     """Why a command printed nothing that can be used."""
     if told := done.stdout.strip() or done.stderr.strip():
         return shown(told.splitlines()[0])
-    missing = [shown(word) for word in words[1:] if not pathlib.Path(word).exists()]
-    if done.returncode == NO_FILE and missing:
-        return f"not there: {', '.join(missing)}"
-    return f"status {done.returncode}"
+    told = lacking(words) if done.returncode == NO_FILE else ""
+    return shown(told) or f"status {done.returncode}"
 
 
 def printed(program, *words):

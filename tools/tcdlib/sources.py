@@ -4,6 +4,7 @@ It reads what docs/formats.md calls a source and a layout, as far as addresses n
 labels, and how many bytes each statement takes. It doesn't judge operands: if `asm` refuses a
 source, the offsets after the refused line mean nothing.
 """
+import codecs
 import dataclasses
 import pathlib
 import re
@@ -12,6 +13,8 @@ LABEL = re.compile(r"([A-Za-z_.$][A-Za-z0-9_.$]*)[ \t]*:")
 NUMBER = re.compile(r"-?(0x[0-9A-Fa-f]+|[0-9]+)")
 PLACE = re.compile(r"place (\S+) ([0-9A-F]{8}) ([0-9A-F]{8})")
 DATA_SIZES = {".byte": 1, ".half": 2, ".word": 4}
+#: what some editors put before a text
+MARKS = codecs.BOM_UTF8, codecs.BOM_UTF16_LE, codecs.BOM_UTF16_BE
 #: the linker places each section at a multiple of this
 ALIGNMENT = 4
 
@@ -76,6 +79,14 @@ def bytes_of(path):
         raise Unusable(f"{shown(path)}: {e.strerror}") from None
     except ValueError:  # a name with a zero byte
         raise Unusable(f"{shown(path)}: no name of a file") from None
+
+
+def has_mark(path):
+    """Whether a file begins with a byte order mark."""
+    try:
+        return bytes_of(path).startswith(MARKS)
+    except (Unusable, TypeError):
+        return False
 
 
 def lines_of(path):
