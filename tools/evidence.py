@@ -27,7 +27,6 @@ were all made anew together: keep the checksum of SHA256SUMS elsewhere, or sign 
 Exit status: 0 done, 1 refused (no folder is left), 2 a file or a program that can't be used, or a
 folder that doesn't hold, 5 wrong arguments.
 """
-import hashlib
 import json
 import pathlib
 import re
@@ -43,7 +42,7 @@ from tcdlib import judged
 from tcdlib import plans
 from tcdlib import program as tcd
 from tcdlib.arguments import Refused
-from tcdlib.sources import Unusable, bytes_of, shown
+from tcdlib.sources import Unusable, bytes_of, checksum, shown
 
 DOCUMENT = view.HERE.parent / "docs" / "safety.md"
 #: what docs/safety.md calls the claim of each command, in its table of claims
@@ -55,11 +54,6 @@ PREMISE = re.compile(r"- \*\*(A\d+)\. ")
 RESTS_ON = re.compile(r"(without )?A(\d+)(?: to A(\d+))?")
 LINK = re.compile(r"\[([^]]*)\]\([^)]*\)")
 SUMS, PREMISES, RECORD = "SHA256SUMS", "premises.md", "record.json"
-
-
-def checksum(path):
-    """The checksum of a file's bytes."""
-    return hashlib.sha256(bytes_of(path)).hexdigest()
 
 
 # The premises

@@ -5,11 +5,11 @@
 
 PROGRAM is tcd (`tcd` if it is on the path). PAGE is an HTML file that needs no network. It shows
 how many areas each priority takes, the chain of entries that takes the most, the frames by
-priority, the ways of each frame, and the listing. Names of functions and lines of sources come
-from LAYOUT and the SOURCEs, in the order in which they were linked, or from the symbols of an
-executable that another linker wrote. Sources that don't link to ELF are refused. If Graphviz
-(`dot`) is installed, frames are drawn: all of them, or those of the longest chain if there are more
-than 100.
+priority, the ways of each frame, and the listing; under the title the checksums (SHA-256) of the
+files that were judged. Names of functions and lines of sources come from LAYOUT and the SOURCEs, in
+the order in which they were linked, or from the symbols of an executable that another linker wrote.
+Sources that don't link to ELF are refused. If Graphviz (`dot`) is installed, frames are drawn: all
+of them, or those of the longest chain if there are more than 100.
 
 With --cells the certificate is one of `cellcert`, with --tasks that of one task, from 0, of
 `taskcert`. What `report` can't say of these is left out, and the page says what that is.
@@ -33,7 +33,7 @@ from tcdlib import plans
 from tcdlib import program as tcd
 from tcdlib.frames import Graph
 from tcdlib.page import Page, esc
-from tcdlib.sources import Unusable, bytes_of, shown
+from tcdlib.sources import Unusable, bytes_of, checksum, shown
 
 HERE = pathlib.Path(__file__).resolve().parent
 
@@ -127,6 +127,18 @@ class View:
             f"was given is of other files.{MAYBE_OF_OTHERS}"
         )
 
+    def sums(self):
+        """The checksums of the files, so that a printed page belongs to a release."""
+        judged, rows = self.judged, []
+        more = judged.cells or (judged.tasks and judged.tasks[0])
+        for path in [*judged.given, self.cert, *([more] if more else [])]:
+            try:
+                told = checksum(path)
+            except Unusable:
+                told = "not there"
+            rows.append(f"<li>{esc(pathlib.Path(path).name)} <code>{told}</code></li>")
+        return f"<ul class=sums title=SHA-256>{''.join(rows)}</ul>"
+
     def text(self):
         """The page."""
         body, parts = self.body()
@@ -139,7 +151,9 @@ class View:
             "<!doctype html><html lang=en><meta charset=utf-8>"
             "<meta name=viewport content='width=device-width,initial-scale=1'>"
             f"<title>{title}</title><style>{style}</style><script>{script}</script>"
-            f"<h1>{title}</h1><nav>{nav}</nav>" + "\n".join(body + self.page.listed()) + "</html>\n"
+            f"<h1>{title}</h1>{self.sums()}<nav>{nav}</nav>"
+            + "\n".join(body + self.page.listed())
+            + "</html>\n"
         )
 
 

@@ -1,5 +1,6 @@
 """The page: nested, without anything from outside, every name escaped."""
 import collections
+import hashlib
 import html.parser
 import json
 import os
@@ -10,6 +11,7 @@ from unittest import mock
 
 import beside
 import generated
+from tcdlib import drawings
 from tcdlib import frames
 from tcdlib import judged
 import names
@@ -196,6 +198,14 @@ class Certified(Pages):
         self.assertNotIn("\x1b", page.text)
         self.assertIn(f"{TICKS:08X} {HOSTILE[1]}", page.text)
 
+    def test_drawings_have_no_control_characters(self):
+        for text, told in (
+            ("a\x1b[0m", '"a\\\\x1b[0m"'),
+            ("a\nb", '"a\\\\nb"'),
+            ('&"', '"&amp;\\""'),
+        ):
+            self.assertEqual(drawings.quoted(text), told)
+
     @unittest.skipUnless(shutil.which("dot"), "no Graphviz")
     def test_drawings_with_hostile_names(self):
         self.recorded()
@@ -324,6 +334,9 @@ class WithProgram(Pages):
             page = self.made(paths)
             self.assertIn(told, page.text)
             self.assertIn(paths[0] + ":", page.text)
+            for file in self.FILES:
+                digest = hashlib.sha256((self.folder / file).read_bytes()).hexdigest()
+                self.assertIn(f"{file} {digest}", page.text)
             os.remove("firmware.cert")
 
     def test_refusals(self):

@@ -5,6 +5,8 @@ import re
 import shutil
 import subprocess
 
+from tcdlib.sources import shown
+
 #: a frame of more points than this is only listed
 MOST_POINTS = 120
 SECONDS = 20
@@ -42,9 +44,9 @@ def blocks(frame):
 
 
 def quoted(text):
-    """A text as Graphviz reads it, which knows `&amp;` and the like."""
-    text = text.replace("&", "&amp;").replace("\\", "\\\\")
-    text = text.replace('"', '\\"').replace("\n", " ")
+    """A text as Graphviz reads it, which knows `&amp;` and the like; no control character is in it."""
+    text = shown(text).replace("&", "&amp;").replace("\\", "\\\\")
+    text = text.replace('"', '\\"')
     return f'"{text}"'
 
 

@@ -6,6 +6,7 @@ source, the offsets after the refused line mean nothing.
 """
 import codecs
 import dataclasses
+import hashlib
 import pathlib
 import re
 
@@ -79,6 +80,11 @@ def bytes_of(path):
         raise Unusable(f"{shown(path)}: {e.strerror}") from None
     except ValueError:  # a name with a zero byte
         raise Unusable(f"{shown(path)}: no name of a file") from None
+
+
+def checksum(path):
+    """The SHA-256 of a file's bytes, in hex digits."""
+    return hashlib.sha256(bytes_of(path)).hexdigest()
 
 
 def has_mark(path):
