@@ -6,7 +6,8 @@
 It takes what the code itself says: constants that start-up code writes into BIV, BTV, ISP, ICR,
 PSW, FCX, LCX, A10 and the globals; the loop that links the areas; vectors that have code;
 constant addresses of loads and stores; the segments. Places `vector_N` and `trap_N` of LAYOUT, or
-sections of these names in an ELF file of another linker, give BIV, BTV, `irqs` and `traps`.
+sections of these names in an ELF file of another linker, give BIV, BTV, `irqs` and `traps`; so do
+names such as `.v10`, `.vsys` and `.valn`.
 
 A value that isn't found is a text `TODO: REASON`, and tcd asks for it (`bad plan 4 key sp`). For
 most others, standard error says where they come from. PLAN is never overwritten.
@@ -42,7 +43,8 @@ TRAPS = {"sys": 6, "aln": 2}
 FLASH, PERIPHERALS = (0x8, 0xA), (0xE, 0xF)
 #: by key: spans that are nearer than this are one range at first; at most so many ranges; rounding
 NEAR, MOST_RANGES, ROUNDED = {"rom": 0x10000, "ram": 0x2000, "devices": 16}, 16, 0x100
-VECTOR = re.compile(r"\.?(vector|trap)_(\d+)")
+#: names of sections that are vectors: `vector_10`, `.v10`, `trap_6`, `.vsys`
+VECTOR = re.compile(r"\.?(?:(?P<kind>vector|trap)_|v)(?P<which>\d{1,3}|sys|aln)")
 CONSTANTS = ("mov", "mov.u", "mov.a", "mov.d", "mov.aa")
 
 
@@ -176,7 +178,9 @@ class FirstPlan:
         self.vectors = {"vector": {}, "trap": {}}
         for at, name in named:
             if found := VECTOR.fullmatch(name):
-                self.vectors[found[1]][int(found[2])] = at
+                which = found["which"]
+                kind = "trap" if which in TRAPS else found["kind"] or "vector"
+                self.vectors[kind][int(TRAPS.get(which, which))] = at
         if entry in [at for _, at in self.read.core.values()]:
             self.note("start", "the entry writes core registers; tcd judges what comes after them")
 
@@ -204,7 +208,7 @@ class FirstPlan:
         value = self.core(name, name)
         bases = {at - (number << 5) for number, at in self.vectors[kind].items()}
         if isinstance(value, str) and len(bases) == 1:
-            self.note(name, f"from the sections {kind}_N")
+            self.note(name, f"from the names of sections, as {kind}_N")
             return bases.pop()
         return f"{value}, and no section is named {kind}_N" if isinstance(value, str) else value
 

@@ -83,6 +83,31 @@ class Examples(InFolder):
         plan = json.loads((self.folder / "first.json").read_text())
         self.assertEqual((plan["biv"], plan["irqs"]), ("0x80002000", [20]))
 
+    def test_short_names_of_vectors(self):
+        scratch.built(program(), "gnu_ld", self.folder)
+        elf = (self.folder / "firmware.elf").read_bytes()
+        self.assertEqual(elf.count(b".vector_20\0"), 1)
+        self.put("short.elf", elf.replace(b".vector_20\0", b".v20".ljust(11, b"\0")))
+        found = first_plan.FirstPlan("short.elf", None).plan()
+        self.assertEqual((found["biv"], found["irqs"]), ("0x80002000", [20]))
+
+        scratch.built(program(), "motor_control", self.folder)
+        text = (self.folder / "board.layout").read_text()
+        longer = first_plan.FirstPlan("firmware.elf", "board.layout").plan()
+        text = text.replace("trap_6 ", ".vsys ").replace("vector_", "v")
+        self.put("short.layout", text)
+        self.assertIn(".vsys", text)
+        self.assertEqual(first_plan.FirstPlan("firmware.elf", "short.layout").plan(), longer)
+        self.assertEqual((longer["irqs"], longer["traps"]), ([20, 30, 40], ["sys"]))
+
+    def test_names_that_are_no_vectors(self):
+        self.put("elf", (beside.EXAMPLES / "gnu_ld/firmware.elf").read_bytes())
+        for name in ("v", "vx", "v1234", "vectors", "v" + "1" * 64, "xv10", "sys"):
+            self.put("l", f"entry main\nplace {name} 80000000 00000100\n")
+            self.assertNotIn(
+                0x80000000, first_plan.FirstPlan("elf", "l").vectors["vector"].values()
+            )
+
     def test_a_plan_is_never_overwritten(self):
         self.first("one_call")
         done = self.script("first_plan.py", "firmware.elf", "-o", "first.json")
