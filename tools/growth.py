@@ -264,7 +264,8 @@ def lines_of(told, against):
     if told["before"] is None:
         return
     for who, (before, now) in told["shares"].items():
-        yield f"    {who:20}{before:5}{now:5}" + (f"  {now - before:+d}" if now != before else "")
+        more = f"  {now - before:+d}" if now != before else ""
+        yield f"    {shown(who):20}{before:5}{now:5}{more}"
     word = "note" if told["is_within"] else "error"
     for cause in told["causes"][: MOST_CAUSES + 1]:
         needs = f"needs {cause['before']} -> {cause['now']}"

@@ -199,6 +199,19 @@ class WithProgram(beside.InFolder):
         done = self.script("growth.py", *words, "--most", "2")
         self.assertEqual((done.returncode, done.stdout[:12]), (1, "3 of 8 areas"))
 
+    def test_control_characters_of_a_saved_file(self):
+        saved = json.loads((self.folder / "needs.json").read_text())
+        saved["shares"]["a\x1b[31m\nb"] = 3
+        saved["frames"]["gone\x1b[0m"] = {"need": 0, "held": 0, "enters": {}}
+        self.put("other\x1b.json", json.dumps(saved))
+        for more in ((), ("--json",)):
+            done = self.grown("--against", "other\x1b.json", *more)
+            self.assertEqual((done.returncode, done.stderr), (0, ""))
+            self.assertTrue(done.stdout.replace("\n", "").isprintable(), done.stdout)
+        printed = self.grown("--against", "other\x1b.json").stdout
+        self.assertIn("    a\\x1b[31m\\nb            3    0  -3\n", printed)
+        self.assertIn("gone: gone\\x1b[0m", printed)
+
     def test_faults(self):
         for words, status in (
             ((), 5),
