@@ -26,6 +26,11 @@ from tcdlib import program as tcd
 SCHEMA = "https://json.schemastore.org/sarif-2.1.0.json"
 
 
+def text_of(message):
+    """A message as SARIF has it: a bracket is no link."""
+    return {"text": re.sub(r"[][]", r"\\\g<0>", message)}
+
+
 def uri(path):
     """A path as a reference: absolute ones are `file:`, others are those of the review."""
     path = pathlib.Path(path)
@@ -42,7 +47,7 @@ def location(file, line, function, message=None):
     if function:
         place["logicalLocations"] = [{"name": function, "kind": "function"}]
     if message:
-        place["message"] = {"text": message}
+        place["message"] = text_of(message)
     return place
 
 
@@ -56,7 +61,7 @@ def result_of(found, files):
     result = {
         "ruleId": found["rule"],
         "level": "error",
-        "message": {"text": (f"{where}: " if where else "") + found["message"] + change},
+        "message": text_of((f"{where}: " if where else "") + found["message"] + change),
         "locations": [location(file, found["line"], found["function"])],
         "partialFingerprints": {"tcd/1": hashlib.sha256(same.encode()).hexdigest()[:32]},
     }
@@ -70,8 +75,8 @@ def result_of(found, files):
 
 def rule_of(found):
     """What the text says of the rule of a finding."""
-    rule = {"id": found["rule"], "shortDescription": {"text": found["message"]}}
-    return {**rule, "help": {"text": found["change"]}} if found["change"] else rule
+    rule = {"id": found["rule"], "shortDescription": text_of(found["message"])}
+    return {**rule, "help": text_of(found["change"])} if found["change"] else rule
 
 
 def log(command, done, found):

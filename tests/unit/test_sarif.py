@@ -29,7 +29,8 @@ def many(item, least=0):
 
 
 TEXT = {"type": "string"}
-MESSAGE = has("text", text=TEXT)  # 3.11: text, unless it has an id; 3.12 of a rule's texts
+# 3.11: text, unless it has an id; 3.12 of a rule's texts; 3.11.6: a bracket that begins no link
+MESSAGE = has("text", text={"type": "string", "pattern": r"^(?:[^][\\]|\\.)*$"})
 FILE = has("uri", uri={"type": "string", "pattern": "^[!-~]+$"})  # 3.4.3: a URI reference
 REGION = has("startLine", startLine={"type": "integer", "minimum": 1})  # 3.30.5
 LOCATION = has(  # 3.28
@@ -101,6 +102,15 @@ class Logs(InFolder):
         self.put(sources[0], "# a line more\n" + text.replace("main:", "main: nop\n    nop\n", 1))
         after = self.shipped(sources)["results"][0]
         self.assertEqual(before["partialFingerprints"], after["partialFingerprints"])
+
+    def test_brackets_of_instructions(self):
+        sources = self.example("two_tasks", "broken_load")
+        self.linked(sources)
+        words = ("taskcert", "firmware.elf", "board.json", "board.tasks", "a.cert", "b.cert")
+        run = self.log(1, "board.layout", *sources, "--", program(), *words)
+        flow = run["results"][0]["codeFlows"][0]["threadFlows"][0]["locations"]
+        texts = [each["location"]["message"]["text"] for each in flow]
+        self.assertTrue(any(r", \[a" in text for text in texts), texts)
 
     def test_done(self):
         run = self.shipped(self.example("one_call"), 0)
