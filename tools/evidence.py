@@ -120,15 +120,19 @@ def premises(claim, line):
     )
 
 
-def without_evidence(text):
-    """A page of premises with its last columns empty, and the premises without evidence."""
+def without_evidence(text, wanted):
+    """A page of premises with its last columns empty, and the premises without evidence.
+
+    `wanted` is the page as it was made: what comes after a row's own text is evidence.
+    """
+    fronts = [line.removesuffix("  |") for line in wanted.split("\n") if line.endswith("|  |")]
     out, missing = [], []
     for line in text.split("\n"):
-        row, _, evidence = line.rstrip().removesuffix("|").rpartition("|")
-        if row and not line.startswith(("|---", "| Premise ", "| Trap class ")):
-            if not evidence.strip() and (name := re.match(r"\| (A\d+) ", line)):
+        if front := next((each for each in fronts if line.startswith(each)), None):
+            evidence = line[len(front) :].strip().removesuffix("|").strip()
+            if not evidence and (name := re.match(r"\| (A\d+) ", line)):
                 missing.append(name[1])
-            line = f"{row}|  |"
+            line = f"{front}  |"
         out.append(line)
     return "\n".join(out), missing
 
@@ -256,6 +260,10 @@ def copied(paths, folder):
             raise Unusable(f"{shown(path)}: a name that {SUMS} can't hold")
         if name in out:
             name = f"files/{len(out)}_{pathlib.Path(path).name}"
+        if (folder / name).exists():
+            raise Unusable(
+                f"{shown(path)}: another file is {shown(name)} already: rename one of them"
+            )
         (folder / name).write_bytes(bytes_of(path))
         out.append(name)
     return out
@@ -283,6 +291,19 @@ def made(program, folder, given):
     bundle.pages()
     (folder / SUMS).write_text(sums_of(folder), encoding="utf-8")
     return line
+
+
+def placed(bundle, folder):
+    """Copies a folder to its place, where nothing is yet; if that fails, nothing of it is left."""
+    first = next((each for each in reversed(folder.parents) if not each.exists()), folder)
+    folder.mkdir(parents=True)
+    try:
+        shutil.copytree(bundle, folder, dirs_exist_ok=True)
+    except BaseException as e:
+        shutil.rmtree(first, ignore_errors=True)
+        if isinstance(e, shutil.Error):  # a list of the files that weren't copied
+            raise Unusable(f"{shown(folder)}: {shown(e.args[0][0][2])}") from None
+        raise
 
 
 # Again
@@ -355,9 +376,9 @@ def again(program, folder):
     with tempfile.TemporaryDirectory() as scratch:
         if fault := fault_of_making(program, folder, record, pathlib.Path(scratch)):
             raise Unusable(f"{shown(folder)}: {shown(fault)}")
-        wanted, _ = without_evidence(bytes_of(pathlib.Path(scratch) / PREMISES).decode())
+        wanted = bytes_of(pathlib.Path(scratch) / PREMISES).decode()
     filled = bytes_of(folder / PREMISES).decode("utf-8", "replace")
-    blank, missing = without_evidence(filled)
+    blank, missing = without_evidence(filled, wanted)
     if blank != wanted:
         raise Unusable(f"{shown(folder / PREMISES)}: its premises aren't those of docs/safety.md")
     if missing:
@@ -392,9 +413,13 @@ def main(given):
         return tcd.DONE
     if pathlib.Path(given.folder).exists():
         raise Unusable(f"{shown(given.folder)}: it exists already")
-    with tempfile.TemporaryDirectory() as scratch:
-        line = made(program, pathlib.Path(scratch) / "bundle", given)
-        shutil.move(f"{scratch}/bundle", given.folder)
+    bytes_of(DOCUMENT)  # a copy of tools/ alone has no premises
+    try:
+        with tempfile.TemporaryDirectory() as scratch:
+            line = made(program, pathlib.Path(scratch) / "bundle", given)
+            placed(f"{scratch}/bundle", pathlib.Path(given.folder))
+    except OSError as e:  # such as a full disk, which names no file
+        raise Unusable(f"{shown(e.filename or given.folder)}: {e.strerror}") from None
     print(line)
     return tcd.DONE
 

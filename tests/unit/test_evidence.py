@@ -3,7 +3,10 @@ import contextlib
 import io
 import json
 import pathlib
+import resource
 import shutil
+import subprocess
+import sys
 import unittest
 from unittest import mock
 
@@ -90,8 +93,16 @@ class Premises(WithPage):
 
     def test_what_is_filled_in(self):
         page = evidence.premises("C1 to C4", "certified 1 of 2 areas")
-        filled = page.replace("once. |  |", "once. | review 7 |")
-        self.assertEqual(evidence.without_evidence(filled), (page, ["A1", "A3"]))
+        for text in ("review 7 |", "a | b |", "`x|y` \\| z|", "review 7", "|x|  |"):
+            filled = page.replace("once. |  |", f"once. | {text}")
+            self.assertEqual(evidence.without_evidence(filled, page), (page, ["A1", "A3"]), text)
+        for text in ("  |", " |", "", "   "):
+            empty = page.replace("once. |  |", f"once. |{text}")
+            self.assertEqual(evidence.without_evidence(empty, page), (page, ["A1", "A2", "A3"]))
+        trap = page.replace("| 0, MMU | premise |  |", "| 0, MMU | premise | none | here |")
+        self.assertEqual(evidence.without_evidence(trap, page), (page, ["A1", "A2", "A3"]))
+        other = page.replace("premise |  |", "premises |  |")
+        self.assertNotEqual(evidence.without_evidence(other, page)[0], page)
 
     def test_other_pages(self):
         for before, after in (
@@ -179,6 +190,80 @@ class WithProgram(WithPage):
         self.put("board.json", plan.replace("0xD0009000", "0xD0008C00"))
         with self.assertRaisesRegex(Refused, "refused K1 at"):
             self.made(*FILES)
+        self.assertFalse((self.folder / "case").exists())
+
+    def test_evidence_with_a_bar(self):
+        self.certified("one_call")
+        line = self.made(*FILES)
+        path = self.folder / "case/premises.md"
+        page = path.read_text()
+        path.write_text(page.replace("once. |  |", "once. | `a|b`, or | c |"))
+        self.assertEqual(self.ran("--again", beside.program(), "case"), line)
+        self.assertIn("no evidence for A1, A3", self.errors.getvalue())
+
+    def test_names_that_become_one(self):
+        paths = self.certified("one_call")
+        (self.folder / "other").mkdir()
+        for name in ("5_main.s", "other/main.s"):
+            self.put(name, "# no code\n")
+        self.tcd("asm", "5_main.s", "5_main.o")
+        names_from = ["board.layout", "5_main.s", *paths]
+        self.made(*FILES, "--names", *names_from)
+        shutil.rmtree("case")
+        names_from = ["board.layout", "7_main.s", *paths, "other/main.s"]
+        self.put("7_main.s", "# no code\n")
+        with self.assertRaisesRegex(
+            Unusable, "other/main.s: another file is files/7_main.s already"
+        ):
+            self.made(*FILES, "--names", *names_from)
+        self.assertFalse((self.folder / "case").exists())
+
+    def test_a_full_disk(self):
+        self.certified("one_call")
+
+        def full(source, to, **more):
+            (pathlib.Path(to) / "files").mkdir()
+            (pathlib.Path(to) / "files/firmware.elf").write_text("a part")
+            raise shutil.Error([(source, to, "[Errno 28] No space left on device")])
+
+        def fuller(source, to, **more):
+            raise OSError(28, "No space left on device")
+
+        for folder in ("case", "new/of/case"):
+            for fault in (full, fuller):
+                with mock.patch("shutil.copytree", fault):
+                    with self.assertRaisesRegex(Unusable, "case: .*No space left on device"):
+                        self.ran(beside.program(), folder, *FILES)
+                self.assertFalse((self.folder / "case").exists())
+                self.assertFalse((self.folder / "new").exists())
+        with mock.patch("pathlib.Path.write_bytes", fuller):
+            with self.assertRaisesRegex(Unusable, "^case: No space left on device"):
+                self.made(*FILES)
+        self.assertFalse((self.folder / "case").exists())
+
+    def test_a_small_limit_of_files(self):
+        self.certified("one_call")
+        words = [
+            sys.executable,
+            str(beside.TOOLS / "evidence.py"),
+            beside.program(),
+            "case",
+            *FILES,
+        ]
+        small = lambda: resource.setrlimit(resource.RLIMIT_FSIZE, (2000, 2000))
+        done = subprocess.run(words, capture_output=True, text=True, preexec_fn=small)
+        self.assertEqual((done.returncode, done.stdout), (2, ""))
+        self.assertEqual(len(done.stderr.splitlines()), 1, done.stderr)
+        self.assertFalse((self.folder / "case").exists())
+
+    def test_a_copy_without_pages(self):
+        self.certified("one_call")
+        shutil.copytree(beside.TOOLS, "alone/tools", ignore=shutil.ignore_patterns("__pycache__"))
+        script = str(self.folder / "alone/tools/evidence.py")
+        words = [sys.executable, "-B", script, beside.program(), "case", *FILES]
+        done = subprocess.run(words, capture_output=True, text=True)
+        self.assertEqual((done.returncode, done.stdout), (2, ""))
+        self.assertRegex(done.stderr, r"^[^\n]*docs/safety.md: No such file or directory\n$")
         self.assertFalse((self.folder / "case").exists())
 
     def test_tampered_folders(self):
