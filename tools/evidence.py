@@ -200,7 +200,7 @@ class Bundle:
 
     def changed(self):
         """The executable with one bit changed: of the entry, or of the switch routine."""
-        entry, segments = judged.read(self.path(self.elf), readers.elf)
+        entry, segments = judged.image_of(self.path(self.elf))
         if self.record["command"] != "tasks":
             return readers.elf_bytes(entry ^ 4, segments)
         board = judged.board_of(self.path(self.plan))

@@ -33,6 +33,7 @@ import tempfile
 import names
 from tcdlib import arguments
 from tcdlib import causes
+from tcdlib import judged
 from tcdlib import meanings
 from tcdlib import origins
 from tcdlib import plans
@@ -257,7 +258,9 @@ class Explainer:
     def executable(self, folder):
         """The executable that was judged. `ship` writes none if it refuses: it is linked again."""
         if self.name != "ship":
-            return self.word("ELF")
+            elf = self.word("ELF") or ""
+            judged.demand_bounded(elf)
+            return elf
         return names.linked(self.command[0], self.word("LAYOUT"), self.words("SOURCE"), folder)
 
     def boot(self, number, address):
@@ -465,13 +468,13 @@ def demand_apart(given, command):
 def demand_sources(given, command):
     """Raises Unusable if LAYOUT SOURCE.. aren't those of the command's executable or objects."""
     layout, *paths = given
-    judged = of_command(command, ["OBJECT" if command[1] == "link" else "ELF"])
-    if command[1] in ("asm", "ship") or not judged or not all(map(os.path.exists, judged)):
+    files = of_command(command, ["OBJECT" if command[1] == "link" else "ELF"])
+    if command[1] in ("asm", "ship") or not files or not all(map(os.path.exists, files)):
         return  # it prints no address, names its own sources, or can't read its files
     if command[1] == "link":
-        names.demand_objects(command[0], judged, paths)
+        names.demand_objects(command[0], files, paths)
     else:
-        names.demand(command[0], judged[0], layout, paths)
+        names.demand(command[0], files[0], layout, paths)
 
 
 def names_of(given, command):

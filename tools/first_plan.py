@@ -29,7 +29,6 @@ from tcdlib import arguments
 from tcdlib import judged
 from tcdlib import machine
 from tcdlib import sources
-from tcdlib.formats import elf
 from tcdlib.sources import Unusable
 
 WORD = machine.WORD
@@ -165,7 +164,7 @@ class FirstPlan:
     """A first plan. `notes` say where each key comes from."""
 
     def __init__(self, path, layout):
-        entry, segments = judged.read(path, elf)
+        entry, segments = judged.image_of(path)
         self.image, self.notes = known.Image(segments), []
         self.read = Read(self.image)
         self.places = sources.read_places(layout) if layout else {}

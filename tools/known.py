@@ -30,7 +30,6 @@ from tcdlib import known_rows
 from tcdlib import machine
 
 CLASSES = {"sys": 6, "aln": 2}
-SECTION_SYMBOLS, FUNCTION = 2, 2
 #: what a word of data may name: an address after one of these
 LEAVES = ("ret", "rfe", "j", "ji", "ja")
 FROM_MEMORY = "from memory of the manual, not compared with it"
@@ -144,20 +143,6 @@ def vectors(image, board, given):
         every = [given[0] | p << 5 for p in range(1, 256)] + [given[1] | c << 5 for c in range(8)]
         return [at for at in every if any(image.bytes(at, 4))]
     return []
-
-
-def functions(data):
-    """The addresses of the function symbols of an ELF32, none if it has no section table."""
-    head = lambda at, size: readers.number(data, at, size)
-    table, size, count = head(32, 4), head(46, 2), head(48, 2)
-    found = set()
-    for at in range(table, table + size * count, size or 1):
-        kind, offset, length, each = (head(at + 4 * field, 4) for field in (1, 4, 5, 9))
-        if kind == SECTION_SYMBOLS and each >= 16:
-            for symbol in range(offset, min(offset + length, len(data)) - 15, each):
-                if data[symbol + 12] & 15 == FUNCTION:
-                    found.add(head(symbol + 4, 4))
-    return found
 
 
 def pointed(image, found):
@@ -283,9 +268,9 @@ def parsed(given):
 def main(given):
     """Counts, prints, and gives the exit status."""
     given = parsed(given)
-    entry, segments = judged.read(given.elf, readers.elf)
+    entry, segments = judged.image_of(given.elf)
     board = judged.board_of(given.plan) if given.plan else None
-    symbols = judged.read(given.elf, functions)
+    symbols = names.functions(given.elf)
     image = Image(segments)
     starts = {entry, *vectors(image, board, given.vectors)}
     starts |= {at for at in symbols if image.bytes(at, 2)}

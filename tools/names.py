@@ -30,6 +30,8 @@ from tcdlib.sources import Unusable, shown
 NEAR = 1 << 20
 #: so many bytes may be written into an executable after the link: checksums, numbers, a signature
 MOST_PATCHED = 64
+#: names may be parts of one another, so they may be so many times as long as the file
+MOST_TEXTS = 4
 ELF_HEADER, SECTION_HEADER, SYMBOL = 52, 40, 16
 SYMBOL_TABLE, FIRST_RESERVED, ABSOLUTE = 2, 0xFF00, 0xFFF1
 #: a section of the file's bytes, and flags: it is in memory, and it is code
@@ -246,45 +248,69 @@ def section_headers(path, data):
     return [[number(data, at + size * i + 4 * f, 4) for f in range(10)] for i in range(count)]
 
 
-def symbol_tables(headers, data):
+class Texts:
+    """The texts in string tables of an ELF file, which together are as long as the file allows."""
+
+    def __init__(self, path, data):
+        self.path, self.data, self.left = path, data, MOST_TEXTS * len(data)
+
+    def at(self, table, place):
+        """The text that begins at a place of a string table."""
+        begin, end = table[4] + place, table[4] + table[5]
+        stop = self.data.find(b"\0", begin, end)
+        text = self.data[begin : stop if stop >= 0 else end]
+        self.left -= len(text)
+        if self.left < 0:
+            raise Unusable(f"{shown(self.path)}: its names share bytes, and are longer than it")
+        return text.decode("utf-8", "replace")
+
+
+def symbol_tables(path, headers, data):
     """The symbol tables that lie in the file: the offsets of their entries, and their texts."""
-    for kind, at, length, link, size in [(h[1], h[4], h[5], h[6], h[9]) for h in headers]:
+    left = len(data)
+    for header in headers:
+        kind, at, length, link, size = (header[field] for field in (1, 4, 5, 6, 9))
         if kind != SYMBOL_TABLE or size < SYMBOL or link >= len(headers):
             continue
         if at + length <= len(data):
-            texts = data[headers[link][4] : headers[link][4] + headers[link][5]]
-            yield range(at, at + length - SYMBOL + 1, size), texts
+            left -= length
+            if left < 0:
+                raise Unusable(f"{shown(path)}: its symbol tables share bytes")
+            yield range(at, at + length - SYMBOL + 1, size), headers[link]
 
 
 def code_sections(path):
     """The address and the name of each section of an executable that has code, as vectors have."""
     data = sources.bytes_of(path)
-    headers, last = section_headers(path, data), number(data, 50, 2)
+    headers, last, texts = section_headers(path, data), number(data, 50, 2), Texts(path, data)
     if last >= len(headers):
         return []
-    texts = data[headers[last][4] : headers[last][4] + headers[last][5]]
     code = [h for h in headers if h[1] == PROGRAM_BITS and h[2] & CODE_FLAGS == CODE_FLAGS]
-    named = [(h[3], text_at(texts, h[0])) for h in code]
+    named = [(h[3], texts.at(headers[last], h[0])) for h in code]
     return [(at, name) for at, name in named if name]
 
 
-def text_at(texts, at):
-    """The text that begins there in a string table."""
-    end = texts.find(b"\0", at)
-    return texts[at : end if end >= 0 else None].decode("utf-8", "replace")
+def functions(path):
+    """The addresses of an executable's function symbols; none if it has no section table."""
+    data = sources.bytes_of(path)
+    try:
+        headers = section_headers(path, data)
+    except Unusable:
+        return set()
+    entries = (at for table, _ in symbol_tables(path, headers, data) for at in table)
+    return {number(data, at + 4, 4) for at in entries if data[at + 12] & 15 == FUNCTION}
 
 
-def symbol(data, at, texts):
+def symbol(data, at, name):
     """The address, the rank and the name of a symbol, or None if it names no place.
 
     If several symbols have one address, functions come first, then global names.
     """
-    name, section, info = number(data, at, 4), number(data, at + 14, 2), data[at + 12]
-    text = text_at(texts, name)
+    section, info = number(data, at + 14, 2), data[at + 12]
     is_placed = section and (section < FIRST_RESERVED or section == ABSOLUTE)
-    if not text or not is_placed or info & 15 not in (NO_TYPE, OBJECT, FUNCTION):
+    if not name or not is_placed or info & 15 not in (NO_TYPE, OBJECT, FUNCTION):
         return None
-    return number(data, at + 4, 4), (info & 15 != FUNCTION, info >> 4 != GLOBAL), text
+    return number(data, at + 4, 4), (info & 15 != FUNCTION, info >> 4 != GLOBAL), name
 
 
 def read_elf(path):
@@ -293,9 +319,10 @@ def read_elf(path):
     A section of code that begins without a symbol, as vectors mostly do, is called by its own name.
     """
     data = sources.bytes_of(path)
-    found = set()
-    for entries, texts in symbol_tables(section_headers(path, data), data):
-        found |= {each for at in entries if (each := symbol(data, at, texts))}
+    found, texts = set(), Texts(path, data)
+    for entries, table in symbol_tables(path, section_headers(path, data), data):
+        names_at = ((at, texts.at(table, number(data, at, 4))) for at in entries)
+        found |= {each for at, name in names_at if (each := symbol(data, at, name))}
     if not found:
         raise Unusable(
             f"{shown(path)}: it has no symbols: link it without -s, "

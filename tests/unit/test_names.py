@@ -346,6 +346,71 @@ class ReadElf(beside.InFolder):
                     self.assertNotIn("\n", str(e))
 
 
+class Bounded(beside.InFolder):
+    """A small file whose parts share bytes takes no minutes, and prints no megabytes."""
+
+    def elf(self, tables, entries, length):
+        """Symbol tables of so many entries, all at one place, each with a name of so many bytes."""
+        texts = b"\0" + b"x" * length + b"\0"
+        symbols = struct.pack("<IIIBBH", 1, 0x80000000, 0, FUNCTION, 0, 1) * entries
+        at = 52 + len(texts) + len(symbols)
+        header = b"\x7fELF\x01\x01\x01" + b"\0" * 9
+        sizes = (2, 44, 1, 0, 0, at, 0, 52, 32, 0, 40, tables + 1, 0)
+        header += struct.pack("<HHIIIIIHHHHHH", *sizes)
+        table = struct.pack("<10I", 0, 3, 0, 0, 52, len(texts), 0, 0, 1, 0)
+        each = struct.pack("<10I", 0, 2, 0, 0, 52 + len(texts), len(symbols), 0, 0, 4, 16)
+        return self.put("a.elf", header + texts + symbols + table + each * tables)
+
+    def test_symbol_tables(self):
+        self.assertEqual(names.read_elf(self.elf(1, 1000, 40)).at[0x80000000], ["x" * 40])
+        for read in (names.read_elf, names.functions):
+            with self.assertRaisesRegex(Unusable, "^a.elf: its symbol tables share bytes$"):
+                read(self.elf(1000, 1000, 4))
+
+    def test_names(self):
+        told = "^a.elf: its names share bytes, and are longer than it$"
+        with self.assertRaisesRegex(Unusable, told):
+            names.read_elf(self.elf(1, 3000, 50000))
+        self.assertEqual(names.functions("a.elf"), {0x80000000})
+
+    def test_names_of_sections(self):
+        count, texts = 1000, b"x" * 50000
+        header = b"\x7fELF\x01\x01\x01" + b"\0" * 9
+        sizes = (2, 44, 1, 0, 0, 52 + len(texts), 0, 52, 32, 0, 40, count + 1, 0)
+        header += struct.pack("<HHIIIIIHHHHHH", *sizes)
+        table = struct.pack("<10I", 0, 3, 0, 0, 52, len(texts), 0, 0, 1, 0)
+        each = struct.pack("<10I", 0, 1, 6, 0x80000000, 52, 4, 0, 0, 4, 0)
+        path = self.put("a.elf", header + texts + table + each * count)
+        with self.assertRaisesRegex(Unusable, "its names share bytes"):
+            names.code_sections(path)
+
+    @beside.needs_program
+    def test_segments(self):
+        self.example("one_call")
+        held = formats.code(["mov d0, 1"]) * 512 + formats.code(["j .+0"])
+        heads = 64
+        header = bytearray(formats.elf_bytes(0x80000000, [(0x80000000, held)])[:52])
+        struct.pack_into("<H", header, 44, heads)
+        each = lambda n: formats.le32(1, 52 + 32 * heads, *[0x80000000 + 0x10000 * n] * 2)
+        each_size = formats.le32(len(held), len(held), 5, 1)
+        data = bytes(header) + b"".join(each(n) + each_size for n in range(heads)) + held
+        self.assertEqual(len(formats.elf(data)[1]), heads)
+        self.put("a.elf", data)
+        files = ("a.elf", "board.json", "a.cert")
+        self.assertTrue(self.tcd("cert", *files).startswith("certified"))
+        for script, words in (
+            ("known.py", ["a.elf"]),
+            ("first_plan.py", ["a.elf"]),
+            ("view.py", [beside.program(), *files, "p.html"]),
+            ("growth.py", [beside.program(), *files, "--most", "9"]),
+            ("evidence.py", [beside.program(), "case", *files]),
+            ("worst_run.py", [*files, "--tcd", beside.program()]),
+        ):
+            done = self.script(script, *words)
+            self.assertEqual((done.returncode, done.stdout), (2, ""), script)
+            self.assertRegex(done.stderr, "^[^\n]*a.elf: its segments share bytes of the file\n$")
+
+
 @beside.needs_program
 class AgainstListings(beside.InFolder):
     """Each statement lies where the program's own listing has its instruction."""

@@ -14,6 +14,10 @@ from tcdlib.frames import Listing
 from tcdlib.sources import Unusable, bytes_of, shown
 
 
+class Shared(Unusable):
+    """An executable whose segments have more bytes than its file."""
+
+
 def add_to(parser):
     """Adds --cells FILE and --tasks FILE TASK to the arguments of a script."""
     views = parser.add_mutually_exclusive_group()
@@ -27,6 +31,27 @@ def read(path, reader):
         return reader(bytes_of(path))
     except readers.Bad as e:
         raise Unusable(f"{shown(path)}: bad {e} (docs/errors.md says what it means)") from None
+
+
+def image_of(path):
+    """The entry and the segments of an executable, which have no more bytes than its file.
+
+    Else a small file would take minutes, and print megabytes.
+    """
+    entry, segments = read(path, readers.elf)
+    if sum(len(held) for _, held in segments) > len(bytes_of(path)):
+        raise Shared(f"{shown(path)}: its segments share bytes of the file")
+    return entry, segments
+
+
+def demand_bounded(path):
+    """Raises Shared if segments share bytes. What else is wrong with an executable, tcd says."""
+    try:
+        image_of(path)
+    except Shared:
+        raise
+    except Unusable:
+        pass
 
 
 def board_of(path):
@@ -49,6 +74,7 @@ class Judged:
         #: what `cells` printed of a certificate
         self.line = None
         plans.demand_single_keys(plan)
+        demand_bounded(elf)
         if cells:
             board = board_of(plan)
             found = read(cells, lambda data: readers.cells(data, board))
@@ -82,7 +108,7 @@ class Judged:
 
     def image(self):
         """The entry and the segments that are judged."""
-        return read(self.elf, readers.elf)
+        return image_of(self.elf)
 
     def board(self):
         """The plan that `run` gets, as numbers."""
