@@ -14,11 +14,12 @@ chain  j to the next instruction
 import json
 import os
 import subprocess
-import sys
 import tempfile
 
+import usage
 import counting
 from check import ROM, executable
+from tcdlib import arguments
 
 PLAN = {
     "rom": [{"at": "0x80000000", "len": "0x100000"}],
@@ -52,10 +53,8 @@ def most_memory(words):
     return os.wait4(process.pid, 0)[2].ru_maxrss / 1024
 
 
-def main():
-    if sys.argv[1:] in ([], ["-h"], ["--help"]):
-        sys.exit(__doc__)
-    program = os.path.abspath(sys.argv[1])
+def main(given):
+    program = usage.program_of(arguments.Parser("program").parsed(given).program)
     with tempfile.TemporaryDirectory() as folder:
         os.chdir(folder)
         with open("plan.json", "w", encoding="utf-8") as file:
@@ -80,4 +79,4 @@ def main():
 
 
 if __name__ == "__main__":
-    main()
+    arguments.ended(__doc__, main)

@@ -14,7 +14,9 @@ interrupts  functions, with interrupts on and 16 stated, each with a handler of 
 """
 import json
 import struct
-import sys
+
+import usage
+from tcdlib import arguments
 
 ROM, RAM, AREAS, VECTORS = 0x80000000, 0xD0010000, 0xD0000000, 0x800F0000
 STACK, ISP = 0xD0018000, 0xD0014000
@@ -216,5 +218,14 @@ def main(directory, shape, points, width=8):
             file.write(content)
 
 
+def of_words(given):
+    """Reads the words, and writes the files."""
+    parser = arguments.Parser("directory")
+    parser.add_argument("shape", choices=("line", "functions", "interrupts"))
+    parser.add_argument("points", type=usage.between(200, 65536))
+    parser.add_argument("width", nargs="?", type=usage.between(1, 64), default=8)
+    main(**vars(parser.parsed(given)))
+
+
 if __name__ == "__main__":
-    main(*sys.argv[1:]) if sys.argv[2:] else sys.exit(__doc__)
+    arguments.ended(__doc__, of_words)

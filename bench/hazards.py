@@ -16,7 +16,6 @@ INPUTS
 
 Exit status: 0, or 1 if an input could not be made.
 """
-import argparse
 import hashlib
 import json
 import os
@@ -26,7 +25,9 @@ import subprocess
 import sys
 import tempfile
 
+import usage
 from shapes import SHAPES
+from tcdlib import arguments
 
 #: the files that commands print and write to
 MADE = ("printed", "x.o", "x.elf", "x.cert")
@@ -113,28 +114,25 @@ def grow(name, programs, folder, asked):
     return bool(seconds)
 
 
-def main():
+def main(given):
     """Reads the words, and tries the inputs that are asked for."""
-    form = argparse.RawDescriptionHelpFormatter
-    inputs = "".join(f"{name:15} {it[0]}\n" for name, it in SHAPES.items())
-    about = __doc__.replace("INPUTS\n", inputs)
-    words = argparse.ArgumentParser(description=about, formatter_class=form)
-    words.add_argument("program")
-    words.add_argument("names", nargs="*", metavar="NAME", choices=[[], *SHAPES])
+    words = arguments.Parser("program")
+    words.add_argument("inputs", nargs="*", metavar="NAME", choices=[[], *SHAPES])
     words.add_argument("--beside", action="append", default=[], metavar="OTHER")
     words.add_argument("--folder")
-    words.add_argument("--limit", type=int, default=200)
-    words.add_argument("--times", type=float, default=1)
-    words.add_argument("--tries", type=int, default=1)
+    words.add_argument("--limit", type=usage.between(1, 100000), default=200)
+    words.add_argument("--times", type=usage.times, default=1)
+    words.add_argument("--tries", type=usage.between(1, 1000), default=1)
     words.add_argument("--growth", action="store_true")
-    asked = words.parse_intermixed_args()
-    programs = [str(pathlib.Path(it).resolve()) for it in (asked.program, *asked.beside)]
+    asked = words.parsed(given)
+    programs = [usage.program_of(it) for it in (asked.program, *asked.beside)]
     measure = grow if asked.growth else compare
     with tempfile.TemporaryDirectory() as room:
         folder = pathlib.Path(asked.folder or room)
-        made = [measure(name, programs, folder, asked) for name in asked.names or SHAPES]
+        made = [measure(name, programs, folder, asked) for name in asked.inputs or SHAPES]
     return 0 if all(made) else 1
 
 
 if __name__ == "__main__":
-    sys.exit(main())
+    listed = "".join(f"{name:15} {it[0]}\n" for name, it in SHAPES.items())
+    arguments.ended(__doc__.replace("INPUTS\n", listed), main)

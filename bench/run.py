@@ -8,9 +8,9 @@ the plan's rom has ROM bytes (1,048,576). The program calls DEPTH functions, eac
 before, and then goes round without an end: a call, a load of a word, a sum, a store of a word, a
 return and a jump. So DEPTH or DEPTH + 1 areas are in use.
 """
-import sys
-
+import usage
 from check import RAM, RET, ROM, call, executable, half, movh_a, plan
+from tcdlib import arguments
 
 
 def program(depth):
@@ -35,5 +35,13 @@ def main(directory, depth, rom=0x100000):
             file.write(content)
 
 
+def of_words(given):
+    """Reads the words, and writes the files."""
+    parser = arguments.Parser("directory")
+    parser.add_argument("depth", type=usage.between(0, 1000))
+    parser.add_argument("rom", nargs="?", type=usage.between(0x2000, 0x400000), default=0x100000)
+    main(**vars(parser.parsed(given)))
+
+
 if __name__ == "__main__":
-    main(*sys.argv[1:]) if sys.argv[2:] else sys.exit(__doc__)
+    arguments.ended(__doc__, of_words)

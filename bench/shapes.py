@@ -9,8 +9,10 @@ and its maker. The other makers return a source's lines.
 """
 import json
 import pathlib
-import sys
 from typing import NamedTuple
+
+import usage
+from tcdlib import arguments
 
 ROM, RAM = (0x80000000, 0x300000), (0xD0040000, 0x8000)
 #: as many range ends as a plan can have, which are thresholds of a value that grows
@@ -328,13 +330,17 @@ SHAPES = {
 }
 
 
-def main():
+def main(given):
     """Writes the files of the input that is asked for."""
-    shape = SHAPES[sys.argv[1]][1](float(sys.argv[2]))
+    parser = arguments.Parser()
+    parser.add_argument("name", choices=SHAPES)
+    parser.add_argument("times", type=usage.times)
+    given = parser.parsed(given)
+    shape = SHAPES[given.name][1](given.times)
     for name, lines in shape.files.items():
         pathlib.Path(name).write_text("\n".join(lines) + "\n")
     print(json.dumps([shape.first, shape.commands]))
 
 
 if __name__ == "__main__":
-    main()
+    arguments.ended(__doc__, main)

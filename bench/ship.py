@@ -12,10 +12,11 @@ all    main calls each function, so that each has a frame, and each instruction 
 """
 import json
 import os
-import sys
 import tempfile
 
+import usage
 from cert import PLAN, instructions, most_memory
+from tcdlib import arguments
 
 # Half a function: labels, jumps, calls, loads and stores, halves of symbols, and comments.
 HALF = """\
@@ -85,10 +86,8 @@ def counted(program, lines, reached):
     return text.count("\n"), counts, memory
 
 
-def main():
-    if sys.argv[1:] in ([], ["-h"], ["--help"]):
-        sys.exit(__doc__)
-    program = os.path.abspath(sys.argv[1])
+def main(given):
+    program = usage.program_of(arguments.Parser("program").parsed(given).program)
     with tempfile.TemporaryDirectory() as folder:
         os.chdir(folder)
         for shape in ("idle", "all"):
@@ -106,4 +105,4 @@ def main():
 
 
 if __name__ == "__main__":
-    main()
+    arguments.ended(__doc__, main)

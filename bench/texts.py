@@ -4,10 +4,11 @@
 """
 import os
 import struct
-import sys
 
+import usage
 from check import executable
 from counting import instructions
+from tcdlib import arguments
 
 # A function of 20 lines: labels, jumps, calls, loads, stores, halves of symbols, data, comments.
 FUNCTION = """\
@@ -134,5 +135,11 @@ def main(program, work):
     counted("dis, bytes", (524288, 1048576), listed)
 
 
+def of_words(given):
+    """Reads the words, and counts."""
+    given = arguments.Parser("program", "directory").parsed(given)
+    main(usage.program_of(given.program), given.directory)
+
+
 if __name__ == "__main__":
-    main(*sys.argv[1:]) if sys.argv[2:] else sys.exit(__doc__)
+    arguments.ended(__doc__, of_words)

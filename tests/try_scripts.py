@@ -18,7 +18,7 @@ from tcdlib.program import of_words
 FILES = "firmware.elf board.json firmware.cert --tcd P"
 BUILD = "P firmware.elf board.json firmware.cert"
 #: where the scripts are
-FOLDERS = ("tools", "tests", "maintain")
+FOLDERS = ("tools", "tests", "maintain", "bench", ".")
 #: for each script and status the words that end with it
 CASES = {
     "names.py": {
@@ -144,6 +144,19 @@ CASES = {
     "claim.py": {5: ["none", "--bogus"]},
     "chains.py": {2: ["none"]},
     "weight.py": {5: ["--bogus"], 2: ["none"]},
+    "shapes.py": {5: ["", "calls64", "none 1", "calls64 x", "calls64 nan", "calls64 -1"]},
+    "cert.py": {5: ["", "P P", "--bogus"], 2: ["none"]},
+    "check.py": {
+        5: ["", ".", ". none 400", ". line x", ". line 1", ". line 400 900"],
+        2: ["none line 400"],
+    },
+    "bench/run.py": {5: ["", ".", ". x", ". -1", ". 1 0"], 2: ["none 1"]},
+    "ship.py": {5: ["", "P P", "--bogus"], 2: ["none"]},
+    "texts.py": {5: ["", "P", "P . ."], 2: ["none .", "P none"]},
+    "hazards.py": {
+        5: ["", "P none", "P --times nan", "P --tries 0"],
+        2: ["none", "P --beside none"],
+    },
 }
 
 
