@@ -1,4 +1,5 @@
 pub mod BuildSequences
+pub mod CallDepth
 pub mod EdgeLines
 pub mod HandOver
 pub mod HeldFiles

@@ -1,4 +1,5 @@
 pub mod BuildSequences
+pub mod CallDepth
 pub mod EdgesOnLines
 pub mod HandedFiles
 pub mod LimitsKept

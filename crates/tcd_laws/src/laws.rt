@@ -1,5 +1,6 @@
 // Laws of what the libraries below give together.
 ghost use Rattle.tcd_laws.specs.BuildSequences.{BuildsEndWithoutFault, BuildCommandsReportSurely};
+ghost use Rattle.tcd_laws.specs.CallDepth.{ReportsBoundNestedCalls};
 ghost use Rattle.tcd_laws.specs.EdgesOnLines.{PrintedGraphsHaveAllEdges};
 ghost use Rattle.tcd_laws.specs.HandedFiles.{AssembledObjectsReadBack, LinkedImagesReadBack};
 ghost use Rattle.tcd_laws.specs.LimitsKept.{LinksGiveImages, ObjectFilesHoldBytes, SourcesGiveObjects, TextsGiveLayouts};
@@ -38,4 +39,10 @@ pub fn read_back_laws()
 pub fn build_laws()
     ensures reports { BuildCommandsReportSurely }
     ensures ends { BuildsEndWithoutFault }
+{}
+
+/// In each state of each run the calls that are nested since the last entry by an interrupt or a
+/// trap are at most the `longest` of the report for the priority that runs.
+pub fn call_depth_law()
+    ensures { ReportsBoundNestedCalls }
 {}

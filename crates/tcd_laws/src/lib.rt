@@ -4,6 +4,9 @@
 //! run from a start state, whatever interrupts, traps and answers of peripherals occur. The line
 //! has the key of the step's frame, its address and its edge.
 //!
+//! **Call depth.** If a certificate is accepted, the calls that are nested in a run since the last
+//! entry by an interrupt or a trap are at most the `longest` that its report has for the priority.
+//!
 //! **Commands one after another**, each on the files and the sink that the one before it left, up
 //! to the first that isn't done. If the files are steady, the sink has room, and each command has
 //! its inputs and is to be done, they end Done or out of memory. No fault is counted. If they are
@@ -27,4 +30,6 @@
 
 mod laws;
 
-pub use laws::{build_laws, edge_law, kept_limit_laws, read_back_laws, sequence_law};
+pub use laws::{
+    build_laws, call_depth_law, edge_law, kept_limit_laws, read_back_laws, sequence_law,
+};
