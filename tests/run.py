@@ -21,6 +21,7 @@ if sys.version_info < (3, 9):
 sys.dont_write_bytecode = True
 
 import scratch
+from tcdlib import arguments, progress
 from tcdlib.program import of_words
 
 TESTS = scratch.TOP / "tests"
@@ -79,13 +80,14 @@ def main(words):
         print(f"run.py: no part {unknown[0]}: {', '.join(PARTS)}", file=sys.stderr)
         return 5
     passed = failed = 0
-    for part in parts:
+    for number, part in enumerate(parts, 1):
         if missing(part):
             print(f"{part}: 0 passed, 1 failed: {missing(part)} isn't there", flush=True)
             failed += 1
             continue
         began = time.monotonic()
-        printed, good, bad = done(part, program)
+        with progress.of(f"{part}, part {number} of {len(parts)}"):
+            printed, good, bad = done(part, program)
         if bad:
             print(printed[-20000:].rstrip())
         print(f"{part}: {good} passed, {bad} failed, {time.monotonic() - began:.0f} s", flush=True)
@@ -95,4 +97,4 @@ def main(words):
 
 
 if __name__ == "__main__":
-    sys.exit(main(sys.argv[1:]))
+    arguments.ended(__doc__, main)

@@ -29,11 +29,11 @@ import os
 import pathlib
 import resource
 import subprocess
-import sys
 import tempfile
 import time
 
 import scratch  # so that tools/ is on the path
+from tcdlib import arguments, progress
 from tcdlib import formats as readers
 from tcdlib import program as programs
 from hostile.answers import COMMANDS, FAULT, answer, fits
@@ -271,29 +271,33 @@ def done(given):
     )
 
 
-def main():
-    arguments, given = sys.argv[1:], {"--jobs": "2", "--only": ""}
-    quick = "--quick" in arguments
-    for name in set(arguments[:-1]) & set(given):
-        given[name] = arguments.pop(arguments.index(name) + 1)
-    words = [a for a in arguments if a not in {*given, "--quick"}]
+def main(words):
+    words, given = list(words), {"--jobs": "2", "--only": ""}
+    quick = "--quick" in words
+    for name in set(words[:-1]) & set(given):
+        given[name] = words.pop(words.index(name) + 1)
+    words = [word for word in words if word not in {*given, "--quick"}]
     is_right = len(words) == 1 and given["--jobs"].isdecimal() and int(given["--jobs"]) > 0
     program = programs.of_words(words if is_right else [], __doc__)
     began, whole = time.monotonic(), Bench(program, None, quick)
     chosen = [
         (program, quick, n) for n, (title, _) in enumerate(jobs()) if given["--only"] in title
     ]
-    with multiprocessing.get_context("fork").Pool(int(given["--jobs"])) as pool:
+    pool = multiprocessing.get_context("fork").Pool(int(given["--jobs"]))
+    left = len(chosen)
+    with pool, progress.of(f"{left} parts"):
         for title, count, table, wrong, zeros, slowest, took in pool.imap(done, chosen):
             whole.count += count
             whole.table.update(table)
             whole.wrong += wrong
             whole.zeros.update(zeros)
             whole.slowest = max(whole.slowest, slowest)
-            print(f"{title}: {count} cases, {len(wrong)} wrong, {took:.0f} s", flush=True)
+            progress.printed(f"{title}: {count} cases, {len(wrong)} wrong, {took:.0f} s")
+            left -= 1
+            progress.says(f"{whole.count} cases tried, {left} parts left")
     report(whole, began)
-    sys.exit(1 if whole.wrong or not whole.count else 0)
+    return 1 if whole.wrong or not whole.count else 0
 
 
 if __name__ == "__main__":
-    main()
+    arguments.ended(__doc__, main)

@@ -20,6 +20,7 @@ import tempfile
 import time
 
 import scratch  # so that tools/ is on the path
+from tcdlib import arguments, progress
 from tcdlib import formats as readers
 import largest
 from tcdlib import program as tcd
@@ -259,22 +260,24 @@ PARTS = {
 
 def tried(program, part, numbers):
     """Tries the cases of a part: how many there are, and how many are wrong."""
-    wrong = 0
+    wrong, title = 0, " ".join(map(str, (part, *numbers)))
     with tempfile.TemporaryDirectory() as folder:
         room = Room(program, folder)
-        PARTS[part][0](room, *numbers)
+        with progress.of(f"{title}: its files"):
+            PARTS[part][0](room, *numbers)
         for text, wanted in CASES[part]:
             wanted, began = wanted.format_map(room.texts), time.monotonic()
-            fault = room.fault(text, wanted)
-            took, title = time.monotonic() - began, " ".join(map(str, (part, *numbers)))
+            with progress.of(f"{title}: {text}"):
+                fault = room.fault(text, wanted)
+            took = time.monotonic() - began
             ends = fault or wanted.splitlines()[0][:80]
             print(f"{took:6.2f} s  {title}: {text}: {ends}", flush=True)
             wrong += bool(fault)
     return len(CASES[part]), wrong
 
 
-def main(arguments):
-    program, parts = tcd.of_words(arguments, __doc__), arguments[1:] or list(PARTS)
+def main(words):
+    program, parts = tcd.of_words(words, __doc__), words[1:] or list(PARTS)
     if unknown := [part for part in parts if part not in PARTS]:
         print(f"try_largest.py: no part {unknown[0]}: {', '.join(PARTS)}", file=sys.stderr)
         return tcd.BAD_WORDS
@@ -285,4 +288,4 @@ def main(arguments):
 
 
 if __name__ == "__main__":
-    sys.exit(main(sys.argv[1:]))
+    arguments.ended(__doc__, main)

@@ -37,6 +37,7 @@ import sys
 import tempfile
 
 from scratch import built
+from tcdlib import arguments, progress
 from tcdlib import program as programs
 
 LIMIT = 3000
@@ -164,22 +165,25 @@ def tried(program, library, case):
     if not plain.asked:
         sys.exit("no request was seen: the program doesn't ask the C library for memory")
     runs = faults = alike = 0
-    for number in numbers(plain.asked):
-        for all_after in ({}, {"REFUSE_ALL": "1"}):
-            run = Run(program, library, words, files, REFUSE_AT=str(number), **all_after)
-            wrong = fault(run, plain, files)
-            runs += 1
-            alike += run.outcome() == plain.outcome()
-            if wrong:
-                faults += 1
-                print(f"  request {number}{' and all after' if all_after else ''}: {wrong}")
+    with progress.of(f"{example}: {command}"):
+        for number in numbers(plain.asked):
+            progress.says(f"{example}: {command}: request {number} of {plain.asked}")
+            for all_after in ({}, {"REFUSE_ALL": "1"}):
+                run = Run(program, library, words, files, REFUSE_AT=str(number), **all_after)
+                wrong = fault(run, plain, files)
+                runs += 1
+                alike += run.outcome() == plain.outcome()
+                if wrong:
+                    faults += 1
+                    which = f"request {number}{' and all after' if all_after else ''}"
+                    progress.printed(f"  {which}: {wrong}")
     counts = f"{plain.asked} requests, {runs} runs, {alike} did without, {faults} faults"
     print(f"{example}: {command}: status {plain.status}, {counts}", flush=True)
     return runs, faults
 
 
-def main():
-    program, only = programs.of_words(sys.argv[1:], __doc__), sys.argv[2:]
+def main(words):
+    program, only = programs.of_words(words, __doc__), words[1:]
     with tempfile.TemporaryDirectory() as name:
         folder = pathlib.Path(name)
         (folder / "refuser.c").write_text(REFUSER)
@@ -190,8 +194,8 @@ def main():
         done = [tried(program, library, case) for case in cases]
     runs, faults = sum(d[0] for d in done), sum(d[1] for d in done)
     print(f"{len(done)} commands, {runs} runs, {faults} faults")
-    sys.exit(1 if faults or not runs else 0)
+    return 1 if faults or not runs else 0
 
 
 if __name__ == "__main__":
-    main()
+    arguments.ended(__doc__, main)

@@ -2,27 +2,39 @@
 """Gives the scripts wrong words and files that can't be used: python3 tests/try_scripts.py PROGRAM
 
 PROGRAM is the built tcd (crates/tcd/out/tcd). `--help` has to end with status 0. For all else a
-script has to end with the status that the case names, to print one line on standard error, and
-never a traceback.
+script has to end with the status that the case names, to print one line on standard error, never a
+traceback, and to leave all files as they were. If nobody reads its output, it ends with 2 without a
+word.
 
 Exit status: 0 all do so, 1 one doesn't, 2 no such program, 5 wrong words.
 """
+import os
 import pathlib
+import subprocess
 import sys
 import tempfile
 
 import scratch
+from tcdlib import formats as readers
 from tcdlib.program import of_words
 
 #: words that worst_run.py can use; P is the program
 FILES = "firmware.elf board.json firmware.cert --tcd P"
 BUILD = "P firmware.elf board.json firmware.cert"
+CASE = "P case firmware.elf board.json firmware.cert"
 #: where the scripts are
 FOLDERS = ("tools", "tests", "maintain", "bench", ".")
 #: for each script and status the words that end with it
 CASES = {
     "names.py": {
-        5: ["", "firmware.elf board.layout", "--at 80000000", "firmware.elf --at xyz"],
+        5: [
+            "",
+            "firmware.elf board.layout",
+            "--at 80000000",
+            "firmware.elf --at xyz",
+            "firmware.elf --at",
+            "--at 80000000 80000004 firmware.elf",
+        ],
         2: [
             "firmware.elf none.layout main.s sum.s --tcd P",
             "firmware.elf board.layout none.s --tcd P",
@@ -50,6 +62,9 @@ CASES = {
             "P firmware.elf board.json firmware.cert firmware.cert",
             "P firmware.elf board.json firmware.cert board.layout",
             "P firmware.elf twice.json firmware.cert page.html",
+            "P shared.elf board.json firmware.cert page.html",
+            "P firmware.elf board.json firmware.cert .",
+            "P firmware.elf board.json firmware.cert none/page.html",
             "P firmware.elf nan.json firmware.cert page.html",
         ],
     },
@@ -62,6 +77,8 @@ CASES = {
             "firmware.elf none.json firmware.cert --tcd P",
             "firmware.elf cut.json firmware.cert --tcd P",
             "firmware.elf twice.json firmware.cert --tcd P",
+            "shared.elf board.json firmware.cert --tcd P",
+            f"{FILES} -o .",
             "firmware.elf nan.json firmware.cert --tcd P",
             "firmware.elf board.json none.cert --tcd P",
             "firmware.elf board.json cut.cert --tcd P",
@@ -79,6 +96,11 @@ CASES = {
         2: [
             "none case firmware.elf board.json firmware.cert",
             "P case firmware.elf twice.json firmware.cert",
+            "P case shared.elf board.json firmware.cert",
+            "P main.s firmware.elf board.json firmware.cert",
+            "P main.s/case firmware.elf board.json firmware.cert",
+            f"{CASE} --names board.layout 7_main.s main.s sum.s other/main.s",
+            f"{CASE} --names board.layout sum.s main.s",
             "P case firmware.elf nan.json firmware.cert",
             "P case none.elf board.json firmware.cert",
             "P case firmware.elf cut.json firmware.cert",
@@ -99,13 +121,22 @@ CASES = {
             f"{BUILD} --most 9 --tasks board.layout 0",
             "none firmware.elf board.json firmware.cert --most 9",
             "P firmware.elf twice.json firmware.cert --most 9",
+            "P shared.elf board.json firmware.cert --most 9",
+            f"{BUILD} --save .",
             "P firmware.elf nan.json firmware.cert --most 9",
             "P firmware.elf board.json cut.cert --most 9",
         ],
     },
     "first_plan.py": {
         5: ["", "firmware.elf --bogus", "firmware.elf board.layout x"],
-        2: ["none.elf", "cut.elf", "firmware.elf main.s", "firmware.elf -o board.json"],
+        2: [
+            "none.elf",
+            "cut.elf",
+            "shared.elf",
+            "firmware.elf main.s",
+            "firmware.elf -o board.json",
+            "firmware.elf -o .",
+        ],
     },
     "sarif.py": {
         5: ["", "board.layout main.s", "--json -- P cert firmware.elf board.json x.cert"],
@@ -122,6 +153,7 @@ CASES = {
             "cut.elf",
             "firmware.elf none.json",
             "firmware.elf cut.json",
+            "shared.elf",
             "firmware.elf twice.json",
             "firmware.elf nan.json",
             "board.json",
@@ -160,22 +192,66 @@ CASES = {
 }
 
 
+#: scripts whose output nobody reads, with words
+UNREAD = (
+    ("try_hostile.py", "--quick --only words_of P"),
+    ("try_hostile.py", "--help"),
+    ("names.py", "firmware.elf board.layout main.s sum.s --tcd P"),
+    ("first_plan.py", "firmware.elf"),
+    ("known.py", "firmware.elf"),
+    ("growth.py", f"{BUILD} --most 9"),
+    ("sarif.py", "-- P check firmware.elf board.json firmware.cert"),
+    ("explain.py", "-- P check firmware.elf board.json firmware.cert"),
+    ("run.py", "P names"),
+    ("shapes.py", "--help"),
+)
+
+
+def shared(elf):
+    """An executable of 64 segments that all have the bytes of the first one."""
+    at, length = (int.from_bytes(elf[56 + 4 * n : 60 + 4 * n], "little") for n in (0, 3))
+    held = elf[at : at + length]
+    heads = (
+        readers.le32(1, 52 + 32 * 64, base, base, length, length, 5, 1)
+        for base in range(0x80000000, 0x80400000, 0x10000)
+    )
+    header = elf[:44] + readers.le(64, 2) + elf[46:52]
+    return header + b"".join(heads) + held
+
+
 def prepared(program, folder):
     """An example that is built, and cut files beside it."""
     scratch.built(program, "one_call", folder)
     for name in ("firmware.elf", "board.json", "firmware.cert"):
         data = (folder / name).read_bytes()
         (folder / f"cut.{name.split('.')[1]}").write_bytes(data[: len(data) // 2])
+    (folder / "shared.elf").write_bytes(shared((folder / "firmware.elf").read_bytes()))
+    (folder / "other").mkdir()
+    for name in ("7_main.s", "other/main.s"):
+        (folder / name).write_text("# no code\n")
     plan = (folder / "board.json").read_text()
     (folder / "twice.json").write_text(plan.replace('"irqs": []', '"irqs": [10], "irqs": []'))
     (folder / "nan.json").write_text(plan.replace('"areas": 4', '"areas": NaN'))
 
 
+def words_of(program, text):
+    """The words of a case."""
+    return [program if word == "P" else word for word in text.split()]
+
+
+def place_of(script):
+    """The path of a script."""
+    return next(str(each) for name in FOLDERS if (each := scratch.TOP / name / script).exists())
+
+
 def fault_of(program, script, text, wanted, folder):
     """What is wrong with how a script ends, or None."""
-    words = [program if word == "P" else word for word in text.split()]
-    path = next(str(each) for folder in FOLDERS if (each := scratch.TOP / folder / script).exists())
-    out, err, status = scratch.run([sys.executable, path, *words], folder)
+    words, path = words_of(program, text), place_of(script)
+    before = files_of(folder)
+    out, err, status = scratch.run([sys.executable, "-B", path, *words], folder)
+    if (after := files_of(folder)) != before:
+        changed = [name for name in {**before, **after} if before.get(name) != after.get(name)]
+        return f"it changed {', '.join(sorted(changed))}"
     if "Traceback" in out + err:
         return f"a traceback: {err.strip().splitlines()[-1]}"
     if status != wanted:
@@ -190,6 +266,25 @@ def fault_of(program, script, text, wanted, folder):
     return None
 
 
+def files_of(folder):
+    """The files of a folder with their bytes."""
+    paths = [path for path in pathlib.Path(folder).rglob("*") if path.is_file()]
+    return {str(path.relative_to(folder)): path.read_bytes() for path in paths}
+
+
+def fault_unread(program, script, text, folder):
+    """What is wrong with how a script ends if nobody reads its output, or None."""
+    words = [sys.executable, "-B", place_of(script), *words_of(program, text)]
+    ours, theirs = os.pipe()
+    os.close(ours)
+    settings = {"cwd": folder, "stdout": theirs, "stderr": subprocess.PIPE, "text": True}
+    done = subprocess.run(words, **settings)
+    os.close(theirs)
+    if done.returncode != 2 or done.stderr:
+        return f"nobody reads: status {done.returncode}, {done.stderr.strip()[-200:]!r}"
+    return None
+
+
 def main(words):
     program, tried, wrong = of_words(words, __doc__, 1), 0, 0
     with tempfile.TemporaryDirectory() as room:
@@ -201,6 +296,11 @@ def main(words):
                     if fault := fault_of(program, script, text, wanted, room):
                         wrong += 1
                         print(f"{script} {text}: {fault}")
+        for script, text in UNREAD:
+            tried += 1
+            if fault := fault_unread(program, script, text, room):
+                wrong += 1
+                print(f"{script} {text}: {fault}")
     print(f"{tried} cases tried, {wrong} wrong")
     return 1 if wrong else 0
 

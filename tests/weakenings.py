@@ -26,6 +26,9 @@ import tempfile
 import time
 from pathlib import Path
 
+import scratch  # so that tools/ is on the path
+from tcdlib import progress
+
 TOP = Path(__file__).resolve().parent.parent
 FOLDER = TOP / "tests" / "weakenings"
 RESULT = re.compile(r"rt: must-fail (\w+)/(\w+)\.edit: (.*)")
@@ -106,12 +109,9 @@ def results(wanted):
             edits = Path(room, "crates", crate, "must-fail")
             edits.mkdir(exist_ok=True)
             shutil.copy(FOLDER / crate / f"{name}.edit", edits)
-        run = subprocess.run(
-            ["rt", "ci", *sorted({crate for crate, _ in wanted})],
-            cwd=room,
-            capture_output=True,
-            text=True,
-        )
+        command = ["rt", "ci", *sorted({crate for crate, _ in wanted})]
+        with progress.of(f"{len(wanted)} weakenings: {' '.join(command)}"):
+            run = subprocess.run(command, cwd=room, capture_output=True, text=True)
         return {(it[1], it[2]): it[3] for it in RESULT.finditer(run.stdout)}
 
 

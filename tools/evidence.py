@@ -40,6 +40,7 @@ from tcdlib import arguments
 from tcdlib import formats as readers
 from tcdlib import judged
 from tcdlib import plans
+from tcdlib import progress
 from tcdlib import program as tcd
 from tcdlib.arguments import Refused
 from tcdlib.sources import Unusable, bytes_of, checksum, shown
@@ -409,13 +410,15 @@ def main(given):
     given = parsed(given)
     program = tcd.found(given.program)
     if given.again:
-        print(again(program, given.folder))
+        with progress.of(f"{given.folder} again"):
+            line = again(program, given.folder)
+        print(line)
         return tcd.DONE
     if pathlib.Path(given.folder).exists():
         raise Unusable(f"{shown(given.folder)}: it exists already")
     bytes_of(DOCUMENT)  # a copy of tools/ alone has no premises
     try:
-        with tempfile.TemporaryDirectory() as scratch:
+        with tempfile.TemporaryDirectory() as scratch, progress.of(given.folder):
             line = made(program, pathlib.Path(scratch) / "bundle", given)
             placed(f"{scratch}/bundle", pathlib.Path(given.folder))
     except OSError as e:  # such as a full disk, which names no file

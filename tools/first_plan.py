@@ -28,6 +28,7 @@ import names
 from tcdlib import arguments
 from tcdlib import judged
 from tcdlib import machine
+from tcdlib import progress
 from tcdlib import sources
 from tcdlib.sources import Unusable
 
@@ -332,8 +333,9 @@ def main(given):
     parser.add_argument("layout", nargs="?")
     parser.add_argument("-o", "--out")
     given = parser.parsed(given)
-    first = FirstPlan(given.elf, given.layout)
-    text = text_of(first.plan())
+    with progress.of("reading the code"):
+        first = FirstPlan(given.elf, given.layout)
+        text = text_of(first.plan())
     if given.out:
         try:
             with open(given.out, "x", encoding="utf-8") as out:

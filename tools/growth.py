@@ -30,6 +30,7 @@ import names
 from tcdlib import arguments
 from tcdlib import judged
 from tcdlib import plans
+from tcdlib import progress
 from tcdlib import program as tcd
 from tcdlib.arguments import Refused
 from tcdlib.frames import Graph
@@ -304,7 +305,8 @@ def main(given):
     known = names.of(program, given.elf, given.names)
     with tempfile.TemporaryDirectory() as folder:
         asked = judged.Judged(program, given.elf, given.plan, folder, given.cells, given.tasks)
-        new = build_of(asked, given.cert, known)
+        with progress.of("what each function needs"):
+            new = build_of(asked, given.cert, known)
     if old and not (old["has_names"] and new["has_names"]):
         print("growth.py: without names, functions are compared by address", file=sys.stderr)
     line = plans.key_line(bytes_of(given.plan).decode("utf-8", "replace"), "irqs")

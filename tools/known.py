@@ -28,6 +28,7 @@ from tcdlib import formats as readers
 from tcdlib import judged
 from tcdlib import known_rows
 from tcdlib import machine
+from tcdlib import progress
 
 CLASSES = {"sys": 6, "aln": 2}
 #: what a word of data may name: an address after one of these
@@ -201,7 +202,8 @@ def verdict(reached):
 def report(given, image, starts, guessed, name):
     """Prints the counts, then what isn't known by name. Gives the status."""
     every = [*starts, *sorted(guessed)]
-    reached, further = Reached(image, every), Reached(image, every, by_memory=True)
+    with progress.of("following the code"):
+        reached, further = Reached(image, every), Reached(image, every, by_memory=True)
     whole = sum(len(held) for _, held in image.segments)
     guesses = f" and {len(guessed)} words of data" if guessed else ""
     print(f"Counts, from {len(starts)} entries{guesses}")
@@ -235,7 +237,8 @@ def wider(kind):
 
 def as_json(image, every):
     """The same as one JSON object."""
-    reached, further = Reached(image, every), Reached(image, every, by_memory=True)
+    with progress.of("following the code"):
+        reached, further = Reached(image, every), Reached(image, every, by_memory=True)
     kinds = {kind: {"count": len(at), "first": f"{at[0]:08X}"} for kind, at in by_name(further)}
     found = {"instructions": len(reached.found), "unknown": len(reached.unknown)}
     found |= {"reached": reached.size, "bytes": sum(len(held) for _, held in image.segments)}
@@ -274,7 +277,8 @@ def main(given):
     image = Image(segments)
     starts = {entry, *vectors(image, board, given.vectors)}
     starts |= {at for at in symbols if image.bytes(at, 2)}
-    guessed = with_tables(image, starts) if given.all else set()
+    with progress.of("following the code"):
+        guessed = with_tables(image, starts) if given.all else set()
     if given.json:
         return as_json(image, [*starts, *guessed])
     return report(given, image, sorted(starts), guessed, name_of(given.elf))

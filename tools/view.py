@@ -30,6 +30,7 @@ import names
 from tcdlib import arguments
 from tcdlib import judged
 from tcdlib import plans
+from tcdlib import progress
 from tcdlib import program as tcd
 from tcdlib.frames import Graph
 from tcdlib.page import Page, esc
@@ -176,7 +177,9 @@ def main(given):
     with tempfile.TemporaryDirectory() as folder:
         program = tcd.found(given.program)
         asked = judged.Judged(program, given.elf, given.plan, folder, given.cells, given.tasks)
-        arguments.written(given.page, View(asked, given.cert, given.names).text())
+        with progress.of("the page"):
+            text = View(asked, given.cert, given.names).text()
+        arguments.written(given.page, text)
     return tcd.DONE
 
 

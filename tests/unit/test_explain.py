@@ -1,11 +1,13 @@
 """What explain.py says of each printed line."""
 import json
+import pathlib
 import re
 import unittest
 
 import beside
 import explain
 from tcdlib import meanings
+from tcdlib import program as tcd
 import names
 
 PROGRAM = "tcd"
@@ -197,6 +199,8 @@ class Lines(beside.InFolder):
         ):
             message = found("", [PROGRAM, *words], 3)["message"]
             self.assertTrue(message.endswith(told), (words, message))
+        paths = ["asm", pathlib.Path("none.s"), pathlib.Path("out")]
+        self.assertEqual(tcd.lacking(paths), "a folder: out; not there: none.s")
 
 
 class Files(beside.InFolder):

@@ -6,6 +6,7 @@ import subprocess
 import sys
 
 from tcdlib import meanings
+from tcdlib import progress
 from tcdlib.sources import Unusable, shown
 
 DONE, REFUSED, BAD_FILE, NO_FILE, NO_MEMORY, BAD_WORDS = range(6)
@@ -38,8 +39,10 @@ def of_words(words, doc, most=None):
 def run(program, *words, folder=None):
     """Runs a command, in a folder, to its end: its status, standard output and standard error."""
     settings = {"capture_output": True, "text": True, "errors": "replace", "cwd": folder}
+    words = [*map(str, words)]
     try:
-        return subprocess.run([program, *words], **settings)
+        with progress.of(" ".join(["tcd", *words])):
+            return subprocess.run([program, *words], **settings)
     except OSError as e:
         raise Unusable(f"{shown(program)}: {e.strerror}") from None
     except ValueError:  # a word with a zero byte
@@ -61,7 +64,7 @@ def lacking(command):
     found = {"a folder": [], "in a folder that isn't there": [], "not there": []}
     for role in meanings.READ:
         is_written = role in meanings.WRITTEN.get("".join(command[:1]), ())
-        for word in words_in(command, role):
+        for word in map(str, words_in(command, role)):
             if os.path.isdir(word):
                 found["a folder"].append(word)
             elif not os.path.isdir(os.path.dirname(word) or "."):

@@ -8,10 +8,11 @@ number that is new.
 """
 
 import collections
+import contextlib
 import random
-import sys
 import time
 
+from tcdlib import progress
 from tcdlib.worst_machine import SMALL, Ends, Reached
 
 #: the most turns of a script, and how many before the end nothing is kept any more
@@ -301,17 +302,13 @@ class Search:
     def __init__(self, world, seconds, seed, fixed):
         self.w, self.fixed, self.until = world, fixed, time.monotonic() + seconds
         self.draw, self.steps, self.trials, self.contents = random.Random(seed), 0, [], {}
-        #: progress, for a person at a terminal
-        self.is_watched, self.told = sys.stderr.isatty(), 0
+        self.seconds = seconds
 
     def in_time(self):
-        now = time.monotonic()
-        if now > self.until:
+        if time.monotonic() > self.until:
             raise TimeoutError
-        if self.is_watched and now > self.told + 1:
-            self.told = now
-            told = f"{self.w.peak} of {self.w.graph.areas}, {self.until - now:.0f} s left"
-            print(f"\r{told:30}\r", end="", file=sys.stderr, flush=True)
+        found = f"reached {self.w.peak} of {self.w.graph.areas}"
+        progress.says(f"{found}, {self.seconds:g} s at most")
 
     def shared(self, m):
         """What the machine's ram holds; equal contents are one object."""
@@ -380,7 +377,9 @@ class Search:
         """Searches until N is reached, the time is over, or somebody stops it."""
         if self.w.graph.areas == 0:
             return
-        try:
+        with progress.of("searching"), contextlib.suppress(
+            Reached, TimeoutError, KeyboardInterrupt
+        ):
             for answers in self.first():
                 self.trials.append(Trial(self, answers))
                 self.slice(self.trials[-1])
@@ -388,8 +387,6 @@ class Search:
                 self.in_time()
                 if trial := self.chosen():
                     self.slice(trial)
-        except (Reached, TimeoutError, KeyboardInterrupt):
-            pass
 
     def first(self):
         """What the devices answer in the first trials: all their words, the greatest, the least."""
