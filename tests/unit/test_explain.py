@@ -323,7 +323,7 @@ class Documents(unittest.TestCase):
 
     def test_each_printed_form_of_formats_is_explained(self):
         text = (beside.TOP / "docs" / "formats.md").read_text()
-        part = text.split("\n## Printed lines", 1)[1]
+        part = text.split("\n## Printed lines", 1)[1].split("\n## ", 1)[0]
         forms = re.findall(r"`((?:bad|refused) [^`]*|[^`]* dead [^`]*)`", part)
         self.assertGreater(len(forms), 15)
         for form in forms:
