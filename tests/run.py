@@ -35,6 +35,7 @@ PARTS = {
     "scripts": ["try_scripts.py", "P"],
     "page": ["try_page.py", "P"],
     "builds": ["try_builds.py", "P"],
+    "release": ["try_release.py", "P"],
     "worst": ["try_worst.py", "P", "nested_interrupts", "misaligned", "start_up"],
     "hostile": ["try_hostile.py", "--quick", "P"],
     "largest": ["try_largest.py", "P"],

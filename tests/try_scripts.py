@@ -171,6 +171,8 @@ CASES = {
     "picture.py": {5: [""], 2: ["none"]},
     "try_hostile.py": {5: ["", "P P", "--jobs x P", "--jobs 0 P"], 2: ["none"]},
     "try_names.py": {5: ["x"]},
+    "try_release.py": {5: ["", "P P"], 2: ["none"]},
+    "release.py": {5: ["", "P", "P a.tar.gz --version a/b"], 2: ["none a.tar.gz"]},
     "rows.py": {5: ["--chek"]},
     "map.py": {5: ["none"]},
     "claim.py": {5: ["none", "--bogus"]},

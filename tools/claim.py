@@ -338,7 +338,7 @@ class Sources:
         """The records of the commands, by the commands' words."""
         if HEADLINES not in self.modules:
             path = "crates/" + HEADLINES.replace(".", "/") + ".antt"
-            raise FileNotFoundError(2, "no such file", path)
+            raise FileNotFoundError(2, "not there; claim.py needs the repository", path)
         found, begin = {}, "HeadlineOf"
         for module in self.modules.values():
             if module.name == HEADLINES or module.name.startswith(HEADLINES + "."):
