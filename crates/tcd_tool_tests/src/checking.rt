@@ -33,6 +33,38 @@ put c FREE_POINTER_CERT
 run refused check e p c
     refused K14 at 80000000 in start 80000000 prio 0 is 0
 
+# The multiples of 1 from 3 to FFFFFFFF hold the stack pointer, so the start is covered. But those of
+# a plan begin at 0, at a power of two, or at the end of a range.
+case a value that is none of the plan's
+bytes UP_TO_THE_POINTER
+    54434443 01000200 00000000 80000001 00000200 00000000 00800000 00000000
+    00000000 00000000 00000000 00000000 00000000
+bytes POINTER
+    01009000 d0
+bytes FROM_3
+    f0030000 00ffffff ff
+bytes FROM_2
+    f0020000 00ffffff ff
+bytes AFTER_THE_POINTER
+    000000 00040000 80000000 00000000 00000000 00000000 00000000 00000000
+    00000001 009000d0 00000000 01080000 80000000 00010000 00000000 00000000
+    00000000 00000100 00000800 00800000 00000000 00000000 00000000 00000000
+    00000000 00000000 01009000 d0000000 00
+join CALLER_AGAIN UP_TO_THE_POINTER POINTER AFTER_THE_POINTER
+join OTHER_VALUE UP_TO_THE_POINTER FROM_3 AFTER_THE_POINTER
+join OTHER_POINTER UP_TO_THE_POINTER FROM_2 AFTER_THE_POINTER
+put e CALLER
+put p BOARD
+put c CALLER_CERT
+holds c CALLER_AGAIN
+put c OTHER_VALUE
+run refused check e p c
+    refused K2 at 80000000 in start 80000000 prio 0 is 0
+# With 2 the value is the plan's, and the point after the call doesn't cover it.
+put c OTHER_POINTER
+run refused check e p c
+    refused K4 at 80000000 in start 80000000 prio 0 is 0
+
 case needs and other certificates are told apart
 put e CALLER
 put p BOARD

@@ -3,6 +3,31 @@ use crate::stage::play;
 use std::test::Fail;
 
 const CASES: &str = r#"
+# At 80000000 each: `ret16`; `ld.w.l d0, [a10]-3`, where A10 is D0009000; `mtcr 0xFE2C, d0`. After it
+# comes `nop16`.
+case no certificate of a lone instruction
+bytes RETURNING
+    00900000 00000000 00000000
+bytes MISALIGNED
+    19a0fdff 00000000 00000000
+bytes WRITING_ICR
+    cdc0e20f 00000000 00000000
+join E HEAD_OF_12 RETURNING
+put e E
+put p BOARD
+run refused cert e p c
+    refused K6 at 80000000 in start 80000000 prio 0 is 0
+none c
+join E HEAD_OF_12 MISALIGNED
+put e E
+run refused cert e p c
+    refused K10 at 80000000 in start 80000000 prio 0 is 0
+join E HEAD_OF_12 WRITING_ICR
+put e E
+run refused cert e p c
+    refused K13 at 80000000 in start 80000000 prio 0 is 0
+none c
+
 # Least certificates are written.
 case the least certificate of CALLER is written
 put e CALLER

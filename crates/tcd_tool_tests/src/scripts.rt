@@ -115,6 +115,55 @@ put s TURNS ..17
 run bad-input run e p s
     bad script 1 at 1
 
+# The code of each is at 80000000:
+# - `mtcr 0xFE38, d0` (FCX is 0 then), `call 80000000`;
+# - `ret16`, with nothing saved;
+# - `call 80000004`, `svlcx`, `ret16`, which finds a lower context;
+# - `ji16 a15`, to 0;
+# - four bytes that spell no instruction;
+# - `mov d0, 1`, `mtcr 0xFE38, d0`, `call 80000000`: the free list begins at 00000040, in no memory.
+case how runs die
+text TURNS
+    step 20
+bytes NONE_FREE
+    cd80e30f 6dfffeff 00000000
+bytes RETURNING
+    00900000 00000000 00000000
+bytes RETURNING_TOO_LOW
+    6d000200 0d000002 00900000
+bytes TO_NO_CODE
+    dc0f0000 00000000 00000000
+bytes NO_INSTRUCTION
+    73320a10 00000000 00000000
+bytes NO_AREA
+    3b100000 cd80e30f 6dfffcff
+put s TURNS
+put p BOARD
+join E HEAD_OF_12 NONE_FREE
+put e E
+run done run e p s
+    events 2 peak 0 dead fcu at 80000004
+join E HEAD_OF_12 RETURNING
+put e E
+run done run e p s
+    events 1 peak 0 dead csu at 80000000
+join E HEAD_OF_12 RETURNING_TOO_LOW
+put e E
+run done run e p s
+    events 3 peak 2 dead ctyp at 80000008
+join E HEAD_OF_12 TO_NO_CODE
+put e E
+run done run e p s
+    events 2 peak 0 dead nocode at 00000000
+join E HEAD_OF_12 NO_INSTRUCTION
+put e E
+run done run e p s
+    events 1 peak 0 dead notlisted at 80000000
+join E HEAD_OF_12 NO_AREA
+put e E
+run done run e p s
+    events 3 peak 0 dead noarea at 80000008
+
 case nested interrupts, and an area too few
 text NESTING
     step 2
