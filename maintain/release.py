@@ -44,7 +44,7 @@ from tcdlib.sources import Unusable, bytes_of, shown
 TOP = pathlib.Path(__file__).resolve().parent.parent
 #: what users get of the tracked files
 FOR_USERS = re.compile(
-    r"(?:tools|docs|examples|tests/hostile)/.*|plan\.schema\.json|(?!crates/).*\.md"
+    r"(?:tools|docs|examples|tests/hostile)/.*|tests/.*\.cases|plan\.schema\.json|(?!crates/).*\.md"
     r"|tests/(?:scratch|schema|picture|largest)\.py"
     r"|tests/try_(?:examples|hostile|pages|schema|largest|memory)\.py"
     r"|crates/tcd/data/.*|crates/tcd_tool_tests/src/.*\.rt"
@@ -61,7 +61,7 @@ HELD    = $(DESTDIR)$(PREFIX)/lib/tcd
 PROGRAM = $(DESTDIR)$(PREFIX)/bin/tcd
 
 check:
-\tsha256sum --quiet -c SHA256SUMS
+\tsha256sum --strict --quiet -c SHA256SUMS
 \ttest "`bin/tcd check {' '.join(FIRST)}`" = "{ANSWER}"
 \t@cat VERSION
 

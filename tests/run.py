@@ -28,6 +28,8 @@ TESTS = scratch.TOP / "tests"
 #: a part, and the words of the script that does it; P is the program
 PARTS = {
     "units": ["-m", "unittest", "discover", "-s", "unit"],
+    "cases": ["try_cases.py", "P"],
+    "controls": ["try_cases.py", "P", "controls"],
     "examples": ["try_examples.py", "P"],
     "names": ["try_names.py"],
     "pages": ["try_pages.py", "P"],

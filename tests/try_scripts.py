@@ -159,6 +159,8 @@ CASES = {
             "board.json",
         ],
     },
+    "qualify.py": {5: ["", "P", "P new --only none"], 2: ["none new", "P ."]},
+    "try_cases.py": {5: ["", "P P"], 2: ["none", "none controls"]},
     "try_worst.py": {5: [""], 2: ["none", "P none"]},
     "try_pages.py": {5: ["", "P P"], 2: ["none"]},
     "try_schema.py": {5: ["", "P P"], 2: ["none"]},
