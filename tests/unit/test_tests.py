@@ -109,7 +109,12 @@ tcd dis firmware.elf
         self.assertEqual([*try_pages.shells(session)], found)
 
     def test_what_is_not_run(self):
-        for line in ("(cd crates/tcd && rt run -- check)", "rt ci", "python3 tests/run.py tcd"):
+        for line in (
+            "(cd crates/tcd && rt run -- check)",
+            "rt ci",
+            "python3 tests/run.py tcd",
+            "qualify.py tcd x",
+        ):
             self.assertTrue(try_pages.NOT_RUN.search(line), line)
         for line in ("tcd dis start.elf", "python3 tools/known.py firmware.elf"):
             self.assertFalse(try_pages.NOT_RUN.search(line), line)
