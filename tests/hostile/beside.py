@@ -7,9 +7,9 @@ make no other one may make.
 import json
 import re
 
-from hostile import rules
-from hostile.answers import graph, key_text, read_cert, read_elf, read_plan, tasks_of
+from hostile.answers import graph, read_cert, read_elf, read_plan, tasks_of
 from tcdlib import formats as readers
+from tcdlib import rules
 
 FILES = {
     "cert": (2, 1),
@@ -159,9 +159,16 @@ def after_boot(other, words, status, out):
     )
 
 
-def line_of(rule, fault):
-    key, at = fault
-    return f"refused K{rule} at {at:08X} in {key_text(key)}".encode()
+def broken_by_cells(cert, image, board, found):
+    """The line of rule 16 of an accepted certificate, or None."""
+    fault = rules.cells_fault(rules.Judge(image, board, cert), found)
+    return fault and rules.line_of(*fault).encode()
+
+
+def broken_by_task(cert, view, board, found):
+    """The line of rule 17 of an accepted certificate, or None."""
+    fault = rules.task_fault(rules.Judge(view, board, cert), found[0])
+    return fault and rules.line_of(*fault).encode()
 
 
 def with_cells(other, words):
@@ -181,9 +188,9 @@ def after_cells(other, words, status, out):
     image, found, board, plan = with_cells(other, words)
     answered = other.bench.ended(["check", words[1], plan, words[4]], {})
     if answered[0] == 0:
-        fault = rules.cells_fault(read_cert(other.bytes(words[4])), image, board, found)
+        fault = broken_by_cells(read_cert(other.bytes(words[4])), image, board, found)
         wanted = (
-            (1, line_of(16, fault) + b"\n")
+            (1, fault + b"\n")
             if fault
             else (0, answered[1][:-1] + b" with %d cells\n" % len(found))
         )
@@ -208,10 +215,8 @@ def after_cellcert(other, words, status, out):
         faults, name = other.made(0, b"", words[1], plan)
         if faults or not is_of_both(read_cert(other.bytes(name))):
             return faults
-        fault = rules.cells_fault(read_cert(other.bytes(name)), image, board, found)
-        return (
-            [] if fault and out == line_of(16, fault) + b"\n" else [f"{out!r} in place of {fault}"]
-        )
+        fault = broken_by_cells(read_cert(other.bytes(name)), image, board, found)
+        return [] if fault and out == fault + b"\n" else [f"{out!r} in place of {fault}"]
     answered = other.bench.ended(["cert", words[1], plan, other.put("cert", b"")], {})
     return (
         []
@@ -238,9 +243,9 @@ def after_tasks(other, words, status, out):
         fault = (
             None
             if answered[0]
-            else rules.task_fault(read_cert(other.bytes(words[4 + u])), view, board, found)
+            else broken_by_task(read_cert(other.bytes(words[4 + u])), view, board, found)
         )
-        line = answered[1][:-1] if answered[0] else line_of(17, fault) if fault else None
+        line = answered[1][:-1] if answered[0] else fault
         if line:
             return (
                 []
@@ -269,8 +274,8 @@ def after_taskcert(other, words, status, out):
                     else [f"{out!r} where cert makes a certificate of the view"]
                 )
             continue
-        fault = made and rules.task_fault(made, view, board, found)
-        wanted = line_of(17, fault) if fault else answered[1][:-1] if answered[0] else b""
+        fault = made and broken_by_task(made, view, board, found)
+        wanted = fault or (answered[1][:-1] if answered[0] else b"")
         if wanted or named:
             return (
                 []

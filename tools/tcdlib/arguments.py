@@ -60,8 +60,11 @@ def written(path, text):
         raise Unusable(f"{shown(path)}: {getattr(e, 'strerror', e)}") from None
 
 
-def ended(doc, work):
-    """Does a script's work on the arguments of the command line, and ends with its status."""
+def ended(doc, work, fault=tcd.BAD_FILE):
+    """Does a script's work on the arguments of the command line, and ends with its status.
+
+    `fault` is the status of what can't be read or written.
+    """
     name, words = pathlib.Path(sys.argv[0]).name, sys.argv[1:]
     own = words[: words.index("--")] if "--" in words else words
     sys.stdout.reconfigure(errors="backslashreplace")  # as standard error has it
@@ -73,12 +76,12 @@ def ended(doc, work):
             status = work(words)
         print(end="", flush=True)
     except BrokenPipeError:  # nobody reads on, so nobody sees whether it is a refusal
-        os._exit(tcd.BAD_FILE)
+        os._exit(fault)
     except KeyboardInterrupt:
         status = 128 + signal.SIGINT
     except OSError as e:
         print(f"{shown(e.filename or 'standard output')}: {e.strerror}", file=sys.stderr)
-        status = tcd.BAD_FILE
+        status = fault
     except Refused as e:
         print(e)
         status = tcd.REFUSED
@@ -86,5 +89,5 @@ def ended(doc, work):
         is_wrong = isinstance(e, WrongArguments)
         told = f"{name}: {shown(e)}; see --help" if is_wrong else e
         print(told, file=sys.stderr)
-        status = tcd.BAD_WORDS if is_wrong else tcd.BAD_FILE
+        status = tcd.BAD_WORDS if is_wrong else fault
     sys.exit(status)
