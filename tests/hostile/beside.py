@@ -2,16 +2,19 @@
 
 So `check` is asked of each certificate that was made, and of the plans, executables and views that
 the second readers make of cells, tasks and sources; and a certificate that one command refuses to
-make no other one may make.
+make no other one may make. Each certificate that is judged here is judged by tools/second_check.py
+too.
 """
 import json
 import re
 
 from hostile.answers import graph, read_cert, read_elf, read_plan, tasks_of
+from second import asked
 from tcdlib import formats as readers
 from tcdlib import rules
 
 FILES = {
+    "check": (3, 0),
     "cert": (2, 1),
     "report": (3, 0),
     "cfg": (2, 0),
@@ -74,6 +77,12 @@ class Other:
             else [f"{' '.join(words)} says {answered[:2]!r} in place of {wanted!r}"]
         )
 
+    def second(self, words, status, out):
+        """Whether the second checker has this status and this text for a command too."""
+        paths = {name: str(self.bench.folder / name) for name in names(words)[0]}
+        found = asked([paths.get(word, word) for word in words])
+        return [] if found == (status, out[:-1].decode()) else [f"the second checker: {found}"]
+
     def made(self, status, out, elf, plan):
         """`cert` has to make a certificate if one was made, else to refuse with the same line."""
         name = self.put("cert", b"")
@@ -87,8 +96,15 @@ class Other:
             (self.bench.folder / name).unlink(missing_ok=True)
 
 
+def after_check(other, words, status, out):
+    return other.second(words, status, out)
+
+
 def after_cert(other, words, status, out):
-    return other.says((0, out), "check", *words[1:]) if status == 0 else []
+    if status:
+        return []
+    check = ["check", *words[1:]]
+    return other.says((0, out), *check) + other.second(check, 0, out)
 
 
 def after_report(other, words, status, out):
@@ -138,7 +154,8 @@ def longest_rows(other, inputs, name, lines):
 
 def after_ship(other, words, status, out):
     if status == 0:
-        return other.says((0, out), "check", words[3], words[1], words[4])
+        check = ["check", words[3], words[1], words[4]]
+        return other.says((0, out), *check) + other.second(check, 0, out)
     objects = [
         readers.ObjectFile(readers.Source(other.bytes(name)).read(), i).read()
         for i, name in enumerate(words[5:])
@@ -148,15 +165,14 @@ def after_ship(other, words, status, out):
 
 
 def after_boot(other, words, status, out):
+    faults = other.second(words, status, out)
     if out.startswith(b"refused K"):
-        return other.says((1, out), "check", *words[1:4])
+        return faults + other.says((1, out), "check", *words[1:4])
     numbers = re.search(rb"certified \d+ of \d+ areas\n", out)
     answered = other.bench.ended(["check", *words[1:4]], {})
-    return (
-        []
-        if answered[0] == 0 and (status == 1 or answered[1] == numbers.group())
-        else [f"check says {answered[:2]!r} beside {out!r}"]
-    )
+    if answered[0] or status == 0 and answered[1] != numbers.group():
+        faults.append(f"check says {answered[:2]!r} beside {out!r}")
+    return faults
 
 
 def broken_by_cells(cert, image, board, found):
@@ -194,8 +210,11 @@ def after_cells(other, words, status, out):
             if fault
             else (0, answered[1][:-1] + b" with %d cells\n" % len(found))
         )
-        return [] if (status, out) == wanted else [f"{out!r} in place of {wanted}"]
-    return [] if answered == (status, out, b"") else [f"check says {answered[:2]!r} beside {out!r}"]
+        if (status, out) != wanted:
+            return [f"{out!r} in place of {wanted}"]
+    elif answered != (status, out, b""):
+        return [f"check says {answered[:2]!r} beside {out!r}"]
+    return other.second(["cells", *words[1:]], status, out)
 
 
 def is_of_both(cert):
@@ -237,7 +256,7 @@ def views(other, words):
 
 def after_tasks(other, words, status, out):
     if out.startswith(b"refused switch"):
-        return []
+        return other.second(words, status, out)
     for u, (found, view, board, elf, plan) in enumerate(views(other, words)):
         answered = other.bench.ended(["check", elf, plan, words[4 + u]], {})
         fault = (
@@ -247,12 +266,12 @@ def after_tasks(other, words, status, out):
         )
         line = answered[1][:-1] if answered[0] else fault
         if line:
-            return (
-                []
-                if (status, out) == (1, line + b" of task %d\n" % u)
-                else [f"{out!r} in place of {line!r} of task {u}"]
-            )
-    return [] if not out.startswith(b"refused K") else [f"nothing is against a task beside {out!r}"]
+            if (status, out) != (1, line + b" of task %d\n" % u):
+                return [f"{out!r} in place of {line!r} of task {u}"]
+            return other.second(["tasks", *words[1:]], status, out)
+    if out.startswith(b"refused K"):
+        return [f"nothing is against a task beside {out!r}"]
+    return other.second(["tasks", *words[1:]], status, out)
 
 
 def after_taskcert(other, words, status, out):
@@ -286,6 +305,6 @@ def after_taskcert(other, words, status, out):
 
 
 LOOKS = {
-    "cert": after_cert, "report": after_report, "cfg": after_cfg, "ship": after_ship, "boot": after_boot, "cells": after_cells, "cellcert": after_cellcert,
+    "check": after_check, "cert": after_cert, "report": after_report, "cfg": after_cfg, "ship": after_ship, "boot": after_boot, "cells": after_cells, "cellcert": after_cellcert,
     "tasks": after_tasks, "taskcert": after_taskcert,
 }  # fmt: skip
