@@ -39,6 +39,7 @@ PARTS = {
     "builds": ["try_builds.py", "P"],
     "release": ["try_release.py", "P"],
     "worst": ["try_worst.py", "P", "nested_interrupts", "misaligned", "start_up"],
+    "second": ["try_second.py", "P"],
     "hostile": ["try_hostile.py", "--quick", "P"],
     "largest": ["try_largest.py", "P"],
 }

@@ -10,4 +10,7 @@ def asked(words, checker=second_check):
         more["boot"] = rest.pop()
     elif command in ("cells", "tasks"):
         more[command] = rest.pop(0)
-    return checker.judged(elf, plan, rest, **more)
+    try:
+        return checker.judged(elf, plan, rest, **more)
+    except OSError:
+        return 3, ""

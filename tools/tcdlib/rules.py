@@ -185,10 +185,8 @@ class Judge:
 
     def loaded(self, value, size, has_sign):
         """What a load from these addresses may give."""
-        end = 1 << 8 * size
-        whole = [(0, end - 1, 1)]
-        if has_sign:
-            whole = [(0, end // 2 - 1, 1), (TOP + 1 - end // 2, TOP, 1)]
+        # with a sign the words are at both ends of all words, so their cover is any
+        whole = [(0, TOP if has_sign else (1 << 8 * size) - 1, 1)]
         if isinstance(value, Span):
             first, last, _ = bounds(value)
             return self.values.cover((), self.peripheral(first, last, size) or whole)
@@ -215,7 +213,7 @@ class Point:
 
     def value(self, operand):
         """The value of a register or a constant."""
-        kind, number = operand[:2]
+        kind, number = operand
         if kind in "ku":
             return (number & TOP,)
         if kind == "a" and number in GLOBALS:
@@ -224,7 +222,7 @@ class Point:
 
     def does(self, kind):
         """Whether it is a load (`ld`) or a store (`st`)."""
-        return self.name is not None and self.name.split(".")[0] == kind
+        return self.name.split(".")[0] == kind
 
     def size(self):
         """The bytes of an access, and whether a load extends the sign."""
@@ -335,11 +333,9 @@ class Duties(Point):
 
     def targets(self):
         """Where a call or a jump leads."""
-        operand = self.operands[0]
+        (operand,) = self.operands
         if operand[0] == "t":
             return [(self.address + operand[1]) & TOP]
-        if operand[0] == "u":
-            return [operand[1]]
         value = self.value(operand)
         if isinstance(value, Span):
             raise Fails(5)
@@ -350,7 +346,7 @@ class Duties(Point):
         size, has_sign = self.size()
         addresses, is_load = self.addresses(), self.does("ld")
         written = [("a", self.base()[1])] if self.is_raised() else []
-        written += [self.operands[0][:2]] if is_load else []
+        written += [self.operands[0]] if is_load else []
         if not is_load and not self.judge.is_stored_inside(addresses, size):
             raise Fails(9)
         may_trap = bounds(addresses)[2] < size
@@ -379,7 +375,7 @@ class Duties(Point):
         target = (self.address + self.operands[-1][1]) & TOP
         for side, place in ((jumps, target), (not jumps, self.after)):
             if one == other:  # against itself a word is equal, and never below
-                kept = (self.value(one),) * 2 if (op == "eq") == side else None
+                kept = (self.value(one), self.value(one)) if (op == "eq") == side else None
             else:
                 kept = self.values.sides(op, self.value(one), self.value(other), side)
             if kept:
@@ -421,7 +417,7 @@ class Duties(Point):
             return False
         if "sys" not in self.board["traps"]:
             raise Fails(12)
-        known = {("a", 10): self.stack(), ("d", 15): (self.operands[0][1] & 255,)}
+        known = {("a", 10): self.stack(), ("d", 15): (self.byte(),)}
         values = self.with_values(known).values
         key = SYS, self.board["btv"] | 0xC0, self.node.key[2], 1
         self.enter(12, key, State(values, False, self.state.ccpn, False, ()))
@@ -436,7 +432,7 @@ class Duties(Point):
                 raise Fails(8)
             state = state._replace(saved=(*saved, state.lower))
             if self.name == "bisr":
-                state = state._replace(ie=True, ccpn=self.operands[0][1] & 255)
+                state = state._replace(ie=True, ccpn=self.byte())
         elif self.name == "rslcx":
             if not saved:
                 raise Fails(8)
@@ -454,8 +450,8 @@ class Duties(Point):
         target, *rest = self.operands
         if self.name == "mov.d15":
             target, rest = ("d", 15), self.operands
-        self.demand_writable(target[:2])
-        self.next.append((self.after, self.with_values({target[:2]: self.computed(target, rest)})))
+        self.demand_writable(target)
+        self.next.append((self.after, self.with_values({target: self.computed(target, rest)})))
 
     def computed(self, target, rest):
         """The value that is written to the target from the other operands."""
@@ -468,13 +464,18 @@ class Duties(Point):
             rest = [*rest[:-1], ("k", rest[-1][1] << 16)]
         one, *other = map(self.value, rest)
         if kind == "addsc":
-            return result("add", one, result("sh", other[0], other[1]))
+            return result("add", one, result("sh", *other))
         if kind in ("mov", "movh"):
             return one
         op = {"addi": "add", "addih": "add"}.get(kind, self.name.removesuffix(".a"))
         if not other:  # of two operands the first one is the target too
             one, other = self.value(target), [one]
-        return result(op, one, other[0])
+        return result(op, one, *other)
+
+    def byte(self):
+        """The only operand, a constant, modulo 256."""
+        ((_, number),) = self.operands
+        return number & 255
 
     def interrupts(self):
         """Enters each interrupt that may come here."""

@@ -54,16 +54,6 @@ def bounds(value):
     return value[0], value[-1], step_of(value)
 
 
-def meets(value, low, high):
-    """Whether a value has a word from low to high, which may pass the ends of memory."""
-    if low < 0:
-        return meets(value, 0, high) or meets(value, low + WORDS, TOP)
-    if isinstance(value, Span):
-        first, last, step = bounds(value)
-        return up(max(low, first), step) <= min(high, last)
-    return any(low <= word <= high for word in value)
-
-
 def includes(big, small):
     """Whether a value has each word of another one."""
     if big in (small, ANY):
@@ -85,15 +75,24 @@ def signed_bounds(value):
     return machine.signed(least), machine.signed(most)
 
 
+def ranges_of(low, high):
+    """The words whose numbers, signed or not, are from low to high, as ranges."""
+    return [(low, high), (low + WORDS, high + WORDS)]
+
+
 def cut(value, ranges):
-    """What of a value is in these ranges (low, high): words, and parts (first, last, step)."""
+    """What of a value is in these ranges: words, and parts (first, last, step), some empty."""
     if not isinstance(value, Span):
         return [word for word in value if any(low <= word <= high for low, high in ranges)], []
     first, last, step = bounds(value)
-    parts = [
-        (up(max(first, low), step), min(last, high) // step * step, step) for low, high in ranges
-    ]
-    return [], [part for part in parts if part[0] <= part[1]]
+    ends = [(max(first, low), min(last, high)) for low, high in ranges]
+    return [], [(up(low, step), high // step * step, step) for low, high in ends]
+
+
+def meets(value, low, high):
+    """Whether a value has a word from low, which may be negative, to high."""
+    words, parts = cut(value, ranges_of(low, high))
+    return bool(words) or any(first <= last for first, last, _ in parts)
 
 
 def shift_count(word):
@@ -187,10 +186,9 @@ class Values:
     def sides(self, op, one, other, side):
         """What two operands keep if `eq`, `lt` or `lt.u` is `side`; None if it can't be."""
         if op == "eq":
+            kept = self.unequal(one, other), self.unequal(other, one)
             if side:
-                kept = (self.common(one, other),) * 2
-            else:
-                kept = self.unequal(one, other), self.unequal(other, one)
+                kept = self.common(one, other), self.common(other, one)
         else:
             kept = self.ordered(one, other, side, op == "lt")
         return None if None in kept else kept
@@ -200,8 +198,7 @@ class Values:
         if isinstance(one, Span) and isinstance(other, Span):
             (a, b, p), (c, d, q) = bounds(one), bounds(other)
             step = max(p, q)
-            first, last = up(max(a, c), step), min(b, d) // step * step
-            return self.cover((), [(first, last, step)] if first <= last else ())
+            return self.cover((), [(up(max(a, c), step), min(b, d) // step * step, step)])
         big, words = (one, other) if isinstance(one, Span) else (other, one)
         return self.cover(word for word in words if includes(big, (word,)))
 
@@ -209,20 +206,15 @@ class Values:
         """The words that differ from some word of the other value."""
         if isinstance(other, Span) or len(other) > 1:
             return one
-        return self.cover(*cut(one, [(0, other[0] - 1), (other[0] + 1, TOP)]))
+        (word,) = other
+        return self.cover(*cut(one, [(0, word - 1), (word + 1, TOP)]))
 
     def ordered(self, one, other, side, sign):
         """What is left where the first operand is below the second one, or where it isn't."""
         low, high = (-HALF, HALF - 1) if sign else (0, TOP)
         (a, b), (c, d) = [(signed_bounds if sign else bounds)(v)[:2] for v in (one, other)]
         mine, others = ((low, d - 1), (a + 1, high)) if side else ((c, high), (low, b))
-        ranges = [self.words_between(*each, sign) for each in (mine, others)]
-        return tuple(self.cover(*cut(v, each)) for v, each in zip((one, other), ranges))
-
-    @staticmethod
-    def words_between(low, high, sign):
-        """The words whose numbers are from low to high, as ranges."""
-        if not sign:
-            return [(low, high)]
-        negative = low + WORDS if low < 0 else WORDS, min(high, -1) + WORDS
-        return [(max(low, 0), high), negative]
+        return tuple(
+            self.cover(*cut(value, ranges_of(*ends)))
+            for value, ends in ((one, mine), (other, others))
+        )
