@@ -9,7 +9,8 @@ The first form copies the files into a new FOLDER and judges the copies, by `che
 or `tasks`; of tasks all certificates are given. FOLDER then has
 
     files/          the bytes that were judged, and the layout and the sources if they are named
-    record.json     each command with its status and line; the checksum of PROGRAM, and TEXT
+    record.json     each command with its status and line; `second check`, the line of
+                    second_check.py, which is the same; the checksum of PROGRAM, and TEXT
     report.json     what each frame needs; beside it cfg.txt, listing.txt and page.html. For cells
                     and tasks they are of views/, as `report` knows neither; task 1: report1.json
     controls/       two inputs that had to be refused
@@ -35,6 +36,7 @@ import sys
 import tempfile
 
 import names
+import second_check
 import view
 from tcdlib import arguments
 from tcdlib import formats as readers
@@ -178,14 +180,28 @@ class Bundle:
         if done.returncode:
             raise Unusable(f"{self.record['command']}: {tcd.why(done, [])}")
         (self.folder / "controls").mkdir()
+        second = self.second(line)
         self.controls(int(re.search(r"certified (\d+) of", line)[1]))
         self.reports()
         page = premises(CLAIMS[self.record["command"]], line)
         arguments.written(self.path(PREMISES), page)
-        record = {"line": line, **self.record, "commands": self.commands}
+        record = {"line": line, "second check": second, **self.record, "commands": self.commands}
         record["program"] = checksum(self.program)
         (self.folder / RECORD).write_text(json.dumps(record, indent=1) + "\n")
         return line
+
+    def second(self, line):
+        """The line of the second checker, which has to be the same."""
+        command, more = self.record["command"], self.record["more"]
+        kinds = {command: self.path(more) if command in OF_VIEWS else more} if more else {}
+        elf, plan, *certs = map(self.path, self.record["files"])
+        try:
+            _, found = second_check.judged(elf, plan, certs, **kinds)
+        except MemoryError:
+            found = "out of memory"
+        if found != line:
+            raise Unusable(f"second check: {found}, but {command}: {line}; one of both is wrong")
+        return found
 
     def controls(self, need):
         """Two inputs that have to be refused."""

@@ -151,6 +151,7 @@ class WithProgram(WithPage):
         self.assertIn("no evidence for A1, A2, A3", self.errors.getvalue())
         record = json.loads((self.folder / "case/record.json").read_text())
         self.assertEqual([each["status"] for each in record["commands"]], [0, 1, 1])
+        self.assertEqual(record["second check"], line.strip())
         self.assertIn("main.s:", (self.folder / "case/page.html").read_text())
         with self.assertRaises(Unusable):
             self.made(*FILES)  # the folder is there
@@ -302,6 +303,16 @@ class WithProgram(WithPage):
                 (case / evidence.SUMS).write_text(evidence.sums_of(case))
             with self.assertRaisesRegex(Unusable, told, msg=f"{name} {told}"):
                 self.ran("--again", beside.program(), "case")
+
+    def test_another_line_of_the_second_checker(self):
+        self.certified("one_call")
+        for told in ((1, "refused K4 at 80000000 in start 80000000 prio 0 is 0"), (0, "certified")):
+            with mock.patch("second_check.judged", lambda *_, told=told: told):
+                with self.assertRaisesRegex(
+                    Unusable, f"second check: {told[1]}, but check: certif"
+                ):
+                    self.made(*FILES)
+        self.assertFalse((self.folder / "case").exists())
 
     def test_another_program(self):
         self.certified("one_call")
