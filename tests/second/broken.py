@@ -26,7 +26,10 @@ class Error:
 
     def __str__(self):
         old, new = (ast.unparse(node).split("\n")[0] for node in (self.old, self.new))
-        return f"{self.function}: {old} => {new}"
+        inside = ""
+        if isinstance(self.old, ast.Constant) and isinstance(self.parent, ast.expr):
+            inside = f" in {ast.unparse(self.parent)}"
+        return f"{self.function}: {old} => {new}{inside}"
 
     def put(self, node):
         """Puts a node at this place."""
