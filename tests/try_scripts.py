@@ -109,6 +109,10 @@ CASES = {
             "--again P .",
         ],
     },
+    "second_check.py": {
+        5: ["", "f.elf p.json", "f.elf p.json a b", "f.elf p.json c --boot 0", "a b c --bogus"],
+        3: ["none.elf board.json firmware.cert", "firmware.elf board.json none.cert"],
+    },
     "growth.py": {
         5: ["", BUILD, f"{BUILD} --most x", f"{BUILD} --save a --against b", f"{BUILD} l --most 9"],
         2: [
@@ -164,6 +168,7 @@ CASES = {
     "try_worst.py": {5: [""], 2: ["none", "P none"]},
     "try_pages.py": {5: ["", "P P"], 2: ["none"]},
     "try_schema.py": {5: ["", "P P"], 2: ["none"]},
+    "try_second.py": {5: ["", "P P"], 2: ["none"]},
     "try_page.py": {5: ["", "P P"], 2: ["none"]},
     "try_builds.py": {5: ["", "P P"], 2: ["none"]},
     "try_largest.py": {5: ["", "P P"], 2: ["none"]},
