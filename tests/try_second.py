@@ -11,7 +11,7 @@ changed (twenty of each certificate): there the two lines have to be the same.
 
 With --errors each operator, condition and constant of the second checker is another one once, and a
 case has to find it. Those that change no answer are in second/harmless.txt, each with its reason.
-WORDS choose the errors whose text has one of them. All take some four minutes of two processors.
+WORDS choose the errors whose text has one of them. All take two processors up to 15 minutes.
 
 Exit status: 0 no line differs and each error was found, 1 one does or wasn't, 2 no such program, 5
 wrong words.

@@ -1,4 +1,4 @@
-"""The cases of try_second.py, which are data, and the errors that it puts into the second checker."""
+"""The cases of try_second.py, as texts, and the errors that it puts into the second checker."""
 import second_check
 
 

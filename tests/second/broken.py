@@ -1,4 +1,4 @@
-"""One-line errors of the second checker: what each operator, condition and constant could be too."""
+"""One-line errors of the second checker: other operators, conditions and constants."""
 import ast
 import copy
 import dataclasses
