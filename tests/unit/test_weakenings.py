@@ -11,7 +11,7 @@ import weakenings
 class Weakenings(unittest.TestCase):
     def test_each_applies(self):
         all_of_them = weakenings.weakenings([])
-        misfits = [(*it, why) for it in all_of_them if (why := weakenings.misfit(*it))]
+        misfits = [(*it, why) for it in all_of_them if (why := weakenings.turned_texts(*it)[1])]
         self.assertEqual(misfits, [])
         self.assertGreater(len(all_of_them), 200)
 

@@ -1,5 +1,6 @@
 pub mod BuildSequences
 pub mod CallDepth
+pub mod Claims
 pub mod EdgeLines
 pub mod HandOver
 pub mod HeldFiles

@@ -1,5 +1,6 @@
 pub mod BuildSequences
 pub mod CallDepth
+pub mod Claims
 pub mod EdgesOnLines
 pub mod HandedFiles
 pub mod LimitsKept

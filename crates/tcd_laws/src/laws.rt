@@ -1,4 +1,11 @@
 // Laws of what the libraries below give together.
+ghost use Rattle.tcd_laws.specs.Claims.Booting.{BootClaimsHold, BootRefusalsHold};
+ghost use Rattle.tcd_laws.specs.Claims.Building.{AsmClaimsHold, LinkClaimsHold, BootgenClaimsHold, BuildsRefuseNothing};
+ghost use Rattle.tcd_laws.specs.Claims.CellsAndTasks.{CellsClaimsHold, CellsRefusalsHold, CellcertClaimsHold, CellcertRefusalsHold, TasksClaimsHold, TasksRefusalsHold, TaskcertClaimsHold, TaskcertRefusalsHold};
+ghost use Rattle.tcd_laws.specs.Claims.Endings.{CommandEndsHold, BadWordsAreSaid};
+ghost use Rattle.tcd_laws.specs.Claims.Checking.{CheckClaimsHold, CheckRefusalsHold, ReportClaimsHold, ReportRefusalsHold};
+ghost use Rattle.tcd_laws.specs.Claims.Making.{CertClaimsHold, CertRefusalsHold, ShipClaimsHold, ShipRefusalsHold, CfgClaimsHold, CfgRefusalsHold, GenClaimsHold, GenRefusalsHold};
+ghost use Rattle.tcd_laws.specs.Claims.Running.{RunClaimsHold, DisClaimsHold, PeaksAreNeeded};
 ghost use Rattle.tcd_laws.specs.BuildSequences.{BuildsEndWithoutFault, BuildCommandsReportSurely};
 ghost use Rattle.tcd_laws.specs.CallDepth.{ReportsBoundNestedCalls};
 ghost use Rattle.tcd_laws.specs.EdgesOnLines.{PrintedGraphsHaveAllEdges};
@@ -39,6 +46,61 @@ pub fn read_back_laws()
 pub fn build_laws()
     ensures reports { BuildCommandsReportSurely }
     ensures ends { BuildsEndWithoutFault }
+{}
+
+/// What the tool claims where these commands end with status 0, in plain equations, and that the
+/// claims hold with no number below the peak of a run.
+pub fn claim_laws()
+    ensures check { CheckClaimsHold }
+    ensures cert { CertClaimsHold }
+    ensures ship { ShipClaimsHold }
+    ensures report { ReportClaimsHold }
+    ensures cfg { CfgClaimsHold }
+    ensures generate { GenClaimsHold }
+    ensures dis { DisClaimsHold }
+    ensures run { RunClaimsHold }
+    ensures peaks { PeaksAreNeeded }
+{}
+
+/// What the tool says where these commands end with status 1, in plain equations.
+pub fn refusal_laws()
+    ensures check { CheckRefusalsHold }
+    ensures cert { CertRefusalsHold }
+    ensures ship { ShipRefusalsHold }
+    ensures report { ReportRefusalsHold }
+    ensures cfg { CfgRefusalsHold }
+    ensures generate { GenRefusalsHold }
+{}
+
+/// What `asm`, `link` and `bootgen` claim where they end with status 0, in plain equations, and
+/// that they never end with status 1.
+pub fn build_claim_laws()
+    ensures asm { AsmClaimsHold }
+    ensures link { LinkClaimsHold }
+    ensures bootgen { BootgenClaimsHold }
+    ensures refuse { BuildsRefuseNothing }
+{}
+
+/// Claims C5 to C7 of these commands where they end with status 0, and what they write and print;
+/// and what they say where they end with status 1. All in plain equations.
+pub fn analysis_claim_laws()
+    ensures boot { BootClaimsHold }
+    ensures boot_refuses { BootRefusalsHold }
+    ensures cells { CellsClaimsHold }
+    ensures cells_refuses { CellsRefusalsHold }
+    ensures cellcert { CellcertClaimsHold }
+    ensures cellcert_refuses { CellcertRefusalsHold }
+    ensures tasks { TasksClaimsHold }
+    ensures tasks_refuses { TasksRefusalsHold }
+    ensures taskcert { TaskcertClaimsHold }
+    ensures taskcert_refuses { TaskcertRefusalsHold }
+{}
+
+/// What each command says of bad input, and with which status it ends if nothing can fail; and what
+/// is said of arguments that are no command.
+pub fn ending_claim_laws()
+    ensures commands { CommandEndsHold }
+    ensures bad_words { BadWordsAreSaid }
 {}
 
 /// In each state of each run the calls that are nested since the last entry by an interrupt or a

@@ -26,10 +26,15 @@
 //! of the executable. No object has the name of another object, of a source or of the layout. The
 //! objects can be linked by the layout. If the files are steady, the sink has room, and no file is
 //! longer than a command reads, a build ends Done or out of memory.
+//!
+//! **Claims.** What each command claims, as equations of the files before and after, of the printed
+//! text and of all runs. They follow from the tool's promise alone, so a promise that says less is
+//! refused here.
 #![tactic(auto)]
 
 mod laws;
 
 pub use laws::{
-    build_laws, call_depth_law, edge_law, kept_limit_laws, read_back_laws, sequence_law,
+    analysis_claim_laws, build_claim_laws, build_laws, call_depth_law, claim_laws, edge_law,
+    ending_claim_laws, kept_limit_laws, read_back_laws, refusal_laws, sequence_law,
 };
