@@ -7,9 +7,6 @@ use tcd_driver::tool;
 use tcd_reading::Status;
 use tcd_real::{RealFiles, Stdout};
 
-#[cfg(test)]
-mod tests;
-
 /// Runs the tool on the program's arguments, and exits with the number of its status. Arguments
 /// that can't be read are a fault, or out of memory.
 fn main(rt: HostRuntime) -> ExitCode {
