@@ -2,7 +2,7 @@
 -- which they hold.
 use Rattle.std.proofs.Common.{◌≡◌, ◌==◌, ℕ, ◌≤◌, ◌<◌, ◌+◌, ◌++◌, ◌∙◌, Bool, true, false, if◌then◌else◌, List, [], ◌∷◌, length, map, filter, replicate, set, get_or, inl, inr, arith, refl, sym, ap, subst}
 use Rattle.std.specs.Prelude.{All, IfSome, IsSomeAnd, IsTrue, Option, Some, None, nat_lt, slice_index_or}
-use Rattle.std.proofs.lemmas.Bool.{cases_Bool, cases_lt, eqb-true}
+use Rattle.std.proofs.lemmas.Bool.{cases_Bool, cases_lt, eqb-true, ltb-true, lt-ltb}
 use Rattle.std.proofs.Math.ListN.{get_or-eq_default}
 use Rattle.std.proofs.lemmas.List.{length-replicate, get_or-set_same, get_or-set_other}
 use Rattle.std.proofs.lemmas.List.Elements.{All-nil, All-cons, All-head, All-tail}
@@ -166,18 +166,38 @@ less_needed cert node other s t q room keys entry less (p ∷ ps) f le more h =
     })
     (less_needed cert node other s t q room keys entry less ps f le more (All-tail (DutyHolds cert node s q) (told p) (map told ps) h))
 
+-- the interrupts above a greater CCPN are among those above a smaller one
+step_fewer : (f : ℕ → Owed) (P : Owed → Type 0) (low high : Bool) (p : ℕ) (xs ys : List ℕ) → (high ≡ true → low ≡ true) → (All P (map f xs) → All P (map f ys)) → All P (map f (if low then p ∷ xs else xs)) → All P (map f (if high then p ∷ ys else ys))
+step_fewer f P true true p xs ys i k h = All-cons P (f p) (map f ys) (All-head P (f p) (map f xs) h) (k (All-tail P (f p) (map f xs) h))
+step_fewer f P true false p xs ys i k h = k (All-tail P (f p) (map f xs) h)
+step_fewer f P false true p xs ys i k h = absurd (let no : false ≡ true = i refl in cc)
+step_fewer f P false false p xs ys i k h = k h
+
+above_fewer : (f : ℕ → Owed) (P : Owed → Type 0) (low high : ℕ) (ps : List ℕ) → low ≤ high → All P (map f (filter (λ p. nat_lt low p) ps)) → All P (map f (filter (λ p. nat_lt high p) ps))
+above_fewer f P low high [] le h = h
+above_fewer f P low high (p ∷ ps) le h =
+    step_fewer f P (nat_lt low p) (nat_lt high p) p (filter (λ q. nat_lt low q) ps) (filter (λ q. nat_lt high q) ps)
+    (λ e. lt-ltb low p (let a = ltb-true high p e in omega (arith, le, a)))
+    (above_fewer f P low high ps le) h
+
+taken_fewer : (f : ℕ → Owed) (P : Owed → Type 0) (plan : PlanData) (x y : Bool) (low high : ℕ) → x ≡ y → low ≤ high → All P (map f (taken plan x low)) → All P (map f (taken plan y high))
+taken_fewer f P plan true true low high e le h = above_fewer f P low high plan.irqs le h
+taken_fewer f P plan true false low high e le h = absurd (let no : true ≡ false = e in cc)
+taken_fewer f P plan false true low high e le h = absurd (let no : false ≡ true = e in cc)
+taken_fewer f P plan false false low high e le h = h
+
 -- the entries hold in each state below a context in which they hold
 pub below_context : (plan : PlanData) (cert : CertData) (node other : NodeData) (context : InterruptContext) (s t : State) → IsContextExceptSp context node s → FitsContext context other t → InterruptsHoldWithSp plan cert node s context.sp → InterruptsHold plan cert other t
 below_context plan cert node other context s t a b h q =
     let like = b.like in
-    let irqs : possible_irqs_of plan s ≡ possible_irqs_of plan t = ap (λ (x : Bool). taken plan x s.ccpn) (sym a.ie ∙ like.ie) ∙ ap (λ (n : ℕ). taken plan t.ie n) (sym a.ccpn ∙ like.ccpn) in
+    let above : s.ccpn ≤ t.ccpn = omega (arith, a.ccpn, like.ccpn) in
     let v = handler_entry_sp_from_a10 plan node.key context.sp in
     let w = handler_entry_sp_of plan other.key t in
     let low : IsBelow w v = stack_below plan node.key other.key context.sp t (sym a.is ∙ like.is) (λ y. b.sp (a.is ∙ y)) in
     less_needed cert node other s t q context.spare (λ p. irq_key plan p) (λ p. state_with_only_a10 v false p true) (λ p. irq_entry plan other.key t p) (possible_irqs_of plan t)
     (λ p upper c. covers_trans upper (state_with_only_a10 v false p true) (state_with_only_a10 w false p true) (entry_length w false p true ∙ sym (entry_length v false p true)) c (entry_covers v w p low))
     (omega (arith, a.spare)) like.spare
-    (subst (λ (l : List ℕ). DutiesHold cert node s (map (λ p. owed 11 (enter (irq_key plan p) (state_with_only_a10 v false p true))) l) q) irqs (h q))
+    (taken_fewer (λ p. owed 11 (enter (irq_key plan p) (state_with_only_a10 v false p true))) (DutyHolds cert node s q) plan s.ie t.ie s.ccpn t.ccpn (sym a.ie ∙ like.ie) above (h q))
 
 -- each of well-formed values is well-formed, and so is what stands for those past the last
 any_well : IsWellFormed any_val

@@ -23,11 +23,12 @@ pub record IsContextExceptSp (context : InterruptContext) (node : NodeData) (s :
   pub ccpn : context.ccpn ≡ s.ccpn
   pub spare : context.spare ≡ node.need - length s.locals.items
 
--- a state of the node has this interrupt context, apart from A10, with no fewer areas left
+-- a state of the node has this interrupt context, apart from A10, with no smaller CCPN and no fewer
+-- areas left
 pub record FitsContextExceptSp (context : InterruptContext) (node : NodeData) (s : State) : Type 0 where
   pub is : context.is ≡ (node.key).is
   pub ie : context.ie ≡ s.ie
-  pub ccpn : context.ccpn ≡ s.ccpn
+  pub ccpn : context.ccpn ≤ s.ccpn
   pub spare : context.spare + length s.locals.items ≤ node.need
 
 -- a state fits the context apart from A10; on the interrupt stack, its A10 is below the context's

@@ -114,13 +114,13 @@ impl InterruptContext {
         }
     }
 
-    /// Returns true only if the node's state `s` has this context's IE, CCPN and stack in use, and
-    /// the need leaves no fewer areas. The stack pointer isn't compared.
+    /// Returns true only if the node's state `s` has this context's IE and stack in use, no smaller
+    /// CCPN, and the need leaves no fewer areas. The stack pointer isn't compared.
     fn fits_except_sp(&self, node: &Node<'_>, s: &State) -> bool
         ensures { IsTrue result → FitsContextExceptSp self.now node.now s.now }
     {
         self.ie == s.ie
-            && self.ccpn == s.ccpn
+            && self.ccpn <= s.ccpn
             && self.is == node.key.is
             && usize::from(self.spare) + s.locals.len() <= usize::from(node.need)
     }
