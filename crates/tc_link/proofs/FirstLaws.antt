@@ -6,7 +6,7 @@ use Rattle.std.specs.Bool.{then_some}
 use Rattle.std.specs.Option.{option_or}
 use Rattle.tc_link.specs.Refusals.{first_refusal_from}
 
-none_first : {B : Type 0} (o p : Option B) → option_or o p ≡ None → (o ≡ None) × (p ≡ None)
+pub none_first : {B : Type 0} (o p : Option B) → option_or o p ≡ None → (o ≡ None) × (p ≡ None)
 none_first None p e = (refl, e)
 none_first (Some x) p e = cc
 
@@ -32,23 +32,17 @@ found_from {A} {B} f n (x ∷ xs) (suc i) d r h e g =
     ap (λ (o : Option B). option_or o (first_refusal_from f (n + 1) xs)) p.0
     ∙ found_from f (n + 1) xs i d r (omega arith) p.1 (ap (λ k. f k (get_or xs i d)) (omega arith) ∙ g)
 
-pub first_more : {A B : Type 0} (f : ℕ → A → Option B) (xs : List A) (i : ℕ) (d : A) → i < length xs → first_refusal_from f 0 (take i xs) ≡ None → f i (get_or xs i d) ≡ None → first_refusal_from f 0 (take (i + 1) xs) ≡ None
-first_more f xs i d h e g =
-    let next : suc i ≡ i + 1 = omega arith in
-    ap (λ k. first_refusal_from f 0 (take k xs)) (sym next) ∙ more_from f 0 xs i d h e (ap (λ k. f k (get_or xs i d)) (omega arith) ∙ g)
-
-pub first_found : {A B : Type 0} (f : ℕ → A → Option B) (xs : List A) (i : ℕ) (d : A) (r : B) → i < length xs → first_refusal_from f 0 (take i xs) ≡ None → f i (get_or xs i d) ≡ Some r → first_refusal_from f 0 xs ≡ Some r
-first_found f xs i d r h e g = found_from f 0 xs i d r h e (ap (λ k. f k (get_or xs i d)) (omega arith) ∙ g)
-
 pub first_end : {A B : Type 0} (f : ℕ → A → Option B) (xs : List A) (i : ℕ) → length xs ≤ i → first_refusal_from f 0 (take i xs) ≡ None → first_refusal_from f 0 xs ≡ None
 first_end f xs i h e = ap (first_refusal_from f 0) (sym (take_all i xs h)) ∙ e
 
 -- the item at hand: none, or the first
 pub more_item : {A B : Type 0} (f : ℕ → A → Option B) (xs : List A) (i : ℕ) (x : A) → i < length xs → x ≡ get_or xs i x → first_refusal_from f 0 (take i xs) ≡ None → f i x ≡ None → first_refusal_from f 0 (take (i + 1) xs) ≡ None
-more_item f xs i x h is e g = first_more f xs i x h e (ap (f i) (sym is) ∙ g)
+more_item f xs i x h is e g =
+    let next : suc i ≡ i + 1 = omega arith in
+    ap (λ k. first_refusal_from f 0 (take k xs)) (sym next) ∙ more_from f 0 xs i x h e (ap (λ k. f k (get_or xs i x)) (omega arith) ∙ ap (f i) (sym is) ∙ g)
 
 pub found_item : {A B : Type 0} (f : ℕ → A → Option B) (xs : List A) (i : ℕ) (x : A) (r : B) → i < length xs → x ≡ get_or xs i x → first_refusal_from f 0 (take i xs) ≡ None → f i x ≡ Some r → first_refusal_from f 0 xs ≡ Some r
-found_item f xs i x r h is e g = first_found f xs i x r h e (ap (f i) (sym is) ∙ g)
+found_item f xs i x r h is e g = found_from f 0 xs i x r h e (ap (λ k. f k (get_or xs i x)) (omega arith) ∙ ap (f i) (sym is) ∙ g)
 
 -- the answer of a test
 pub then_yes : {A : Type 0} (b t : Bool) (x : A) → t ≡ b → t ≡ true → then_some b x ≡ Some x

@@ -18,7 +18,7 @@ map_or : {A B : Type 0} (f : A → B) (a b : Option A) → option_map f (option_
 map_or f None b = refl
 map_or f (Some x) b = refl
 
-or_none : {A : Type 0} (a : Option A) → a ≡ option_or a None
+pub or_none : {A : Type 0} (a : Option A) → a ≡ option_or a None
 or_none None = refl
 or_none (Some x) = refl
 

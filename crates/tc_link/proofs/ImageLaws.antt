@@ -1,21 +1,20 @@
 -- The segments of places keep the limits of an image.
-use Rattle.std.proofs.Common.{◌≡◌, ◌+◌, ◌<◌, ◌≤◌, ◌^◌, ◌∷◌, ◌++◌, [], ℕ, Bool, true, false, cond, ◌||◌, max, min, List, length, map, refl, sym, ◌∙◌, subst, arith, leb, ltb}
+use Rattle.std.proofs.Common.{◌≡◌, ◌+◌, ◌<◌, ◌≤◌, ◌^◌, ◌∷◌, ◌++◌, [], ℕ, Bool, true, false, not, cond, ◌||◌, max, min, List, length, map, refl, sym, ◌∙◌, arith, leb, ltb}
 use Rattle.std.specs.Prelude.{filter, IsTrue}
 use Rattle.std.specs.List.{sum_by, list_any, list_all}
 use Rattle.std.proofs.lemmas.Bool.{le-leb, leb-false, ltb-false, ltb-true, and_from}
 use Rattle.std.proofs.lemmas.List.Folds.{list_any-append}
-use Rattle.std.proofs.lemmas.List.Sums.{sum_by-cons}
+use Rattle.std.proofs.lemmas.List.{length-map}
+use Rattle.std.proofs.lemmas.List.Sums.{sum_by-cons, length-filter, count_by-le-length}
+use Rattle.std.proofs.lemmas.List.Filters.{sum_by-filter_both}
 use Rattle.elf_image.specs.Images.{SegmentData, ImageData, HoldOnlyBytes, IsImage, is_segment, are_segments_disjoint, are_all_segments_disjoint}
 use Rattle.tc_object.specs.Objects.{SectionData, AllInTurn}
 use Rattle.tc_link.specs.Layouts.{PlaceData, LayoutData, IsPlace, IsPlaceAfter, IsLayout, are_overlapping_places}
 use Rattle.tc_link.specs.PlaceSizes.{used_place_size, has_region_overflow, total_used_size}
 use Rattle.tc_link.specs.Segments.{joined_sections, segment_of, segments_of}
 use Rattle.tc_link.specs.Shapes.{section_shape}
+use Rattle.tc_link.proofs.PlaceLaws.{or_false}
 use Rattle.tc_link.proofs.ShapeLaws.{length-joined, taken-shapes}
-
-or_false : (a b : Bool) → (a || b) ≡ false → (a ≡ false) × (b ≡ false)
-or_false true b e = cc
-or_false false b e = (refl, e)
 
 -- ---- places that hold their sections
 abbrev Fits : List SectionData → List PlaceData → Type 0
@@ -93,30 +92,18 @@ apart_all contents before (p ∷ ps) turn h = by_bytes (apart_all contents (befo
 
 -- ---- how many, and how long
 few_segments : (contents : List SectionData) (ps : List PlaceData) → length (segments contents ps) ≤ length ps
-few_segments contents [] = omega arith
-few_segments contents (p ∷ ps) = by_bytes (few_segments contents ps) (has_bytes (segment_of contents p))
-  where
-    by_bytes : length (segments contents ps) ≤ length ps → (b : Bool) → length (cond b (segment_of contents p ∷ segments contents ps) (segments contents ps)) ≤ length (p ∷ ps)
-    by_bytes rest true = omega arith
-    by_bytes rest false = omega arith
+few_segments contents ps = omega (arith, length-filter has_bytes (map (segment_of contents) ps), count_by-le-length has_bytes (map (segment_of contents) ps), length-map ps (segment_of contents))
+
+sizes_sum : (contents sections : List SectionData) (ps : List PlaceData) → map section_shape contents ≡ map section_shape sections
+    → sum_by (λ s. length s.bytes) (map (segment_of contents) ps) ≡ sum_by (λ p. used_place_size p.section sections) ps
+sizes_sum contents sections [] same = refl
+sizes_sum contents sections (p ∷ ps) same =
+    let len : length (joined_sections p.section contents) ≡ used_place_size p.section sections = length-joined p.section contents ∙ taken-shapes p.section contents sections same in
+    omega (arith, len, sizes_sum contents sections ps same, sum_by-cons (λ (s : SegmentData). length s.bytes) (segment_of contents p) (map (segment_of contents) ps), sum_by-cons (λ (q : PlaceData). used_place_size q.section sections) p ps)
 
 small_segments : (contents sections : List SectionData) (ps : List PlaceData) → map section_shape contents ≡ map section_shape sections
     → sum_by (λ s. length s.bytes) (segments contents ps) ≤ sum_by (λ p. used_place_size p.section sections) ps
-small_segments contents sections [] same = omega arith
-small_segments contents sections (p ∷ ps) same =
-    subst (λ n. sum_by (λ (s : SegmentData). length s.bytes) (segments contents (p ∷ ps)) ≤ n) (sym (sum_by-cons (λ (q : PlaceData). used_place_size q.section sections) p ps)) (by_bytes (small_segments contents sections ps same) (has_bytes (segment_of contents p)))
-  where
-    len : length (joined_sections p.section contents) ≡ used_place_size p.section sections
-    len = length-joined p.section contents ∙ taken-shapes p.section contents sections same
-
-    by_bytes : sum_by (λ s. length s.bytes) (segments contents ps) ≤ sum_by (λ q. used_place_size q.section sections) ps → (b : Bool) → sum_by (λ s. length s.bytes) (cond b (segment_of contents p ∷ segments contents ps) (segments contents ps)) ≤ used_place_size p.section sections + sum_by (λ q. used_place_size q.section sections) ps
-    by_bytes rest true =
-        let l : length (joined_sections p.section contents) ≡ used_place_size p.section sections = len in
-        let f : SegmentData → ℕ = λ s. length s.bytes in
-        let more : sum_by f (segment_of contents p ∷ segments contents ps) ≡ length (joined_sections p.section contents) + sum_by f (segments contents ps) = sum_by-cons f (segment_of contents p) (segments contents ps) in
-        let most : sum_by f (segment_of contents p ∷ segments contents ps) ≤ used_place_size p.section sections + sum_by (λ q. used_place_size q.section sections) ps = omega (arith, more, rest, l) in
-        most
-    by_bytes rest false = omega arith
+small_segments contents sections ps same = omega (arith, sizes_sum contents sections ps same, sum_by-filter_both has_bytes (λ s. not (has_bytes s)) (λ _. refl) (λ (s : SegmentData). length s.bytes) (map (segment_of contents) ps))
 
 -- ---- the image
 -- the limits of an image, except that of its bytes

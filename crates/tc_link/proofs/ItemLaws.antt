@@ -1,10 +1,8 @@
 -- Items of lists, whatever is read past the end.
 use Rattle.std.specs.Prelude.{OnOk}
-use Rattle.std.proofs.Common.{◌≡◌, ◌<◌, ◌≤◌, ◌+◌, ℕ, Bool, true, false, ltb, List, length, get_or, replicate, Result, Ok, Err, refl, sym, ap, ◌∙◌, subst, arith}
+use Rattle.std.proofs.Common.{◌≡◌, ◌<◌, ◌+◌, ℕ, Bool, true, false, ltb, List, length, get_or, Result, Ok, Err, refl, sym, ap, ◌∙◌, subst, arith}
 use Rattle.std.proofs.lemmas.Bool.{ltb-true, ltb-false}
-use Rattle.std.proofs.lemmas.List.{get_or-replicate, length-replicate}
 use Rattle.std.proofs.lemmas.Option.{slice_get-get_or}
-use Rattle.std.proofs.Math.ListN.{get_or-eq_default}
 use Rattle.tcd_base.proofs.OptionLaws.{some_same}
 
 pub same_item : {A : Type 0} (xs : List A) (i : ℕ) (d e : A) → i < length xs → get_or xs i d ≡ get_or xs i e
@@ -17,16 +15,6 @@ good_more {A} P xs i x h is p below k d l = by_test (ltb k i) refl
     by_test : (b : Bool) → ltb k i ≡ b → P (get_or xs k d)
     by_test true t = below k d (ltb-true _ _ t)
     by_test false t = subst (λ (j : ℕ). P (get_or xs j d)) (omega (arith, ltb-false _ _ t, l)) (subst P (is ∙ same_item xs i x d h) p)
-
-pub zero_at : (n k : ℕ) → get_or {A = ℕ} (replicate n 0) k 0 ≡ 0
-zero_at n k = by_test (ltb k n) refl
-  where
-    by_test : (b : Bool) → ltb k n ≡ b → get_or {A = ℕ} (replicate n 0) k 0 ≡ 0
-    by_test true t = get_or-replicate {A = ℕ} n k 0 0 (ltb-true _ _ t)
-    by_test false t =
-        let len : length (replicate {A = ℕ} n 0) ≡ n = length-replicate {A = ℕ} n 0 in
-        let short : length (replicate {A = ℕ} n 0) ≤ k = omega (arith, ltb-false _ _ t, len) in
-        get_or-eq_default (replicate {A = ℕ} n 0) 0 short
 
 -- items at equal places of equal lists are equal
 pub item_of : {A : Type 0} (ds rs : List A) (i : ℕ) (d : A) → ds ≡ rs → i < length ds → get_or ds i d ≡ get_or rs i (get_or ds i d)

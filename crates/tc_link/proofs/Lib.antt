@@ -1,10 +1,12 @@
 pub mod LineLaws
+pub mod PlaceLaws
 pub mod ReadLaws
 pub mod TurnLaws
 pub mod FirstLaws
 pub mod AddressLaws
 pub mod CountLaws
 pub mod RoomLaws
+pub mod SegmentLaws
 pub mod ShapeLaws
 pub mod ImageLaws
 pub mod GlobalLaws

@@ -18,7 +18,7 @@ pub record PlacedAt (all : List PlacedData) (i : ℕ) (o : ObjectData) : Type 0 
   pub found : slice_get all i ≡ Some placed
   pub object : placed.object ≡ o
 
-as_many : (placed : List PlacedData) (objects : List ObjectData) → map (λ (p : PlacedData). p.object) placed ≡ objects → length objects ≡ length placed
+pub as_many : (placed : List PlacedData) (objects : List ObjectData) → map (λ (p : PlacedData). p.object) placed ≡ objects → length objects ≡ length placed
 as_many placed objects same = ap (λ (l : List ObjectData). length l) (sym same) ∙ length-map placed (λ (p : PlacedData). p.object)
 
 pub placed_at : (placed : List PlacedData) (objects : List ObjectData) (i : ℕ) (o : ObjectData) → map (λ (p : PlacedData). p.object) placed ≡ objects

@@ -2,10 +2,7 @@
 use Rattle.std.specs.Prelude.{◌≡◌, ℕ, List, Option, Some, None, Result, Err, string_bytes, IfSome}
 use Rattle.tc_link.specs.declared.errors.LinkErr.{LinkErr}
 use Rattle.tc_link.specs.declared.errors.LinkErr.TheVariants.{Twice, Missing, NoPlace, NoRoom, Reloc, NoEntry, NoMemory}
-use Rattle.tc_link.specs.Refusals.{Refusal, twice, missing, no_place, no_room, reloc, no_entry, first_no_room_refusal, first_reloc_refusal_in}
-use Rattle.tc_object.specs.Objects.{SectionData}
-use Rattle.tc_link.specs.Layouts.{PlaceData}
-use Rattle.tc_link.specs.PlaceSizes.{AreUsedSizes}
+use Rattle.tc_link.specs.Refusals.{Refusal, twice, missing, no_place, no_room, reloc, no_entry, first_reloc_refusal_in}
 use Rattle.tc_link.specs.Placing.{PlacedData}
 use Rattle.tc_link.specs.GlobalSymbols.{GlobalData}
 use Rattle.tc_link.specs.Relocated.{symbol_addresses}
@@ -32,8 +29,3 @@ IsRefusalOf answer e = IfSome (refusal_of e) (λ r. answer ≡ Err r)
 -- the object with this number
 abbrev pub IsRelocErrorOf : List ℕ → ℕ → PlacedData → LinkErr → Type 0
 IsRelocErrorOf addresses number p e = (all : List GlobalData) → addresses ≡ symbol_addresses all p → IsRefusal (first_reloc_refusal_in all number p) e
-
--- the error is that of the first of these sections without room after earlier ones, which use this
--- many bytes of the places
-abbrev pub IsNoRoomAfterUsedBytes : List PlaceData → List ℕ → List SectionData → LinkErr → Type 0
-IsNoRoomAfterUsedBytes places sizes sections e = (before : List SectionData) → AreUsedSizes places before sizes → IsRefusal (first_no_room_refusal places before sections) e

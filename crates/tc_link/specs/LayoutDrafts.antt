@@ -4,7 +4,7 @@ use Rattle.std.specs.Option.{option_and_then, option_to_list}
 use Rattle.tc_object.specs.Names.{object_name_of}
 use Rattle.tc_object.specs.Objects.{AllInTurn}
 use Rattle.tc_link.specs.Layouts.{PlaceData, IsPlaceAfter, LayoutData}
-use Rattle.tc_link.specs.LayoutLines.{LayoutLineData, entry, entry_in_line, place_in_line}
+use Rattle.tc_link.specs.LayoutLines.{LayoutLineData, entry_in_line, place_in_line}
 use Rattle.tc_link.specs.declared.layout_errors.LayoutErr.{LayoutErr}
 use Rattle.tc_link.specs.declared.layout_errors.LayoutErr.TheVariants.{BadLine}
 

@@ -1,5 +1,5 @@
 -- The numbers of bytes of their places that sections use.
-use Rattle.std.specs.Prelude.{◌≡◌, ◌≤◌, ◌<◌, ◌^◌, ℕ, List, ◌++◌, length, slice_index, slice_index_or, ◌+◌, ◌*◌, ◌/◌, if◌then◌else◌, fold, ◌||◌, nat_lt, Bool, sum_by}
+use Rattle.std.specs.Prelude.{◌^◌, ℕ, List, length, ◌+◌, ◌*◌, ◌/◌, if◌then◌else◌, fold, ◌||◌, nat_lt, Bool, sum_by}
 use Rattle.tc_object.specs.Objects.{SectionData}
 use Rattle.tc_link.specs.Layouts.{PlaceData}
 use Rattle.std.specs.Str.{bytes_eq}
@@ -17,18 +17,6 @@ used_size_with_section name n s = if bytes_eq name s.name then next_multiple_of_
 -- in the layout
 unfoldable pub used_place_size : List ℕ → List SectionData → ℕ
 used_place_size name sections = fold (used_size_with_section name) 0 sections
-
--- the sizes are, for each place of a layout, the number of bytes that these sections use there
-abbrev pub AreUsedSizes : List PlaceData → List SectionData → List ℕ → Type 0
-AreUsedSizes places sections sizes = (k : ℕ) (d : PlaceData) → k < length places → slice_index sizes k ≡ used_place_size (slice_index_or places k d).section sections
-
--- if earlier sections use the old sizes of the places, they and these sections use the new ones
-abbrev pub AreUsedSizesAfter : List PlaceData → List SectionData → List ℕ → List ℕ → Type 0
-AreUsedSizesAfter places sections old new = (before : List SectionData) → AreUsedSizes places before old → AreUsedSizes places (before ++ sections) new
-
--- the numbers of used bytes of a layout's places are at most 2^32
-abbrev pub AreSizesWithin4GiB : List ℕ → Type 0
-AreSizesWithin4GiB sizes = (k : ℕ) → slice_index sizes k ≤ 2 ^ 32
 
 -- the number of bytes that the sections use in all places
 unfoldable pub total_used_size : List PlaceData → List SectionData → ℕ

@@ -1,10 +1,10 @@
 -- The addresses of the sections and symbols of objects.
-use Rattle.std.specs.Prelude.{◌≡◌, ◌<◌, ◌+◌, ◌%◌, ◌^◌, ℕ, List, ◌∷◌, ◌++◌, length, slice_index, slice_index_or, slice_get, []}
+use Rattle.std.specs.Prelude.{◌<◌, ◌+◌, ◌%◌, ◌^◌, ℕ, List, ◌∷◌, ◌++◌, length, slice_index, slice_index_or, slice_get, []}
 use Rattle.std.specs.Option.{option_map_or}
 use Rattle.std.specs.List.{flat_map}
 use Rattle.tc_object.specs.Objects.{SectionData, ObjectData, IsObject}
 use Rattle.tc_link.specs.Layouts.{PlaceData, LayoutData, place_of}
-use Rattle.tc_link.specs.PlaceSizes.{AreUsedSizes, next_multiple_of_4, used_place_size}
+use Rattle.tc_link.specs.PlaceSizes.{next_multiple_of_4, used_place_size}
 use Rattle.tc_link.specs.declared.definitions.Definition.{Definition}
 
 -- ---- sections
@@ -24,10 +24,6 @@ section_bases_after places before (s ∷ ss) = section_base places before s ∷ 
 -- each of these objects that the linker places is a valid object
 abbrev pub AreValidObjects : List ObjectData → Type 0
 AreValidObjects objects = (k : ℕ) (d : ObjectData) → k < length objects → IsObject (slice_index_or objects k d)
-
--- these are the addresses of sections after earlier ones, which use this many bytes of the places
-abbrev pub AreBasesAfterUsedBytes : List PlaceData → List ℕ → List SectionData → List ℕ → Type 0
-AreBasesAfterUsedBytes places sizes sections bases = (before : List SectionData) → AreUsedSizes places before sizes → bases ≡ section_bases_after places before sections
 
 -- an object, and the address of each of its sections
 pub record PlacedData : Type 0 where

@@ -1,5 +1,5 @@
 -- Why objects can't be linked, and the first refusal of each kind.
-use Rattle.std.specs.Prelude.{◌≡◌, ◌<◌, ◌+◌, ◌==◌, ◌&&◌, ◌||◌, not, nat_lt, ℕ, Bool, List, ◌∷◌, ◌++◌, length, slice_index_or, Option, None, []}
+use Rattle.std.specs.Prelude.{◌≡◌, ◌+◌, ◌==◌, ◌&&◌, ◌||◌, not, nat_lt, ℕ, Bool, List, ◌∷◌, ◌++◌, length, Option, None, []}
 use Rattle.std.specs.Bool.{then_some}
 use Rattle.std.specs.Option.{option_map, option_or}
 use Rattle.std.specs.List.{list_any}
@@ -9,7 +9,7 @@ use Rattle.tc_reloc.specs.declared.refusals.RelocErr.{RelocErr}
 use Rattle.tc_link.specs.Layouts.{PlaceData, has_place_for, LayoutData}
 use Rattle.tc_link.specs.Placing.{PlacedData, sections_to_link}
 use Rattle.tc_link.specs.GlobalSymbols.{GlobalData, is_global, count_globals_named}
-use Rattle.tc_link.specs.PlaceSizes.{AreUsedSizes, has_region_overflow}
+use Rattle.tc_link.specs.PlaceSizes.{has_region_overflow}
 use Rattle.tc_reloc.specs.Refusals.{reloc_value_refusal}
 use Rattle.tc_link.specs.Relocated.{reloc_field_address, symbol_addresses, reloc_value}
 
@@ -40,10 +40,6 @@ duplicate_symbol_refusal objects number s = then_some (is_global s && nat_lt 1 (
 -- the refusal of the first global symbol that two objects define, or None
 unfoldable pub first_duplicate_symbol_refusal : List ObjectData → Option Refusal
 first_duplicate_symbol_refusal objects = first_refusal_over (λ _ o. first_refusal_over (duplicate_symbol_refusal objects) o.symbols) objects
-
--- for each number below the count, the flag of that number is the answer of the test
-abbrev pub AreFlagsOf : List Bool → ℕ → (ℕ → Bool) → Type 0
-AreFlagsOf flags count test = (k : ℕ) (d : Bool) → k < count → slice_index_or flags k d ≡ test k
 
 -- one of the relocations uses the symbol with this number
 abbrev pub is_used_by_relocs : List Reloc → ℕ → Bool
@@ -78,10 +74,6 @@ no_room_refusal places before s = then_some (has_region_overflow places (before 
 unfoldable pub first_no_room_refusal : List PlaceData → List SectionData → List SectionData → Option Refusal
 first_no_room_refusal places before [] = None
 first_no_room_refusal places before (s ∷ ss) = option_or (no_room_refusal places before s) (first_no_room_refusal places (before ++ s ∷ []) ss)
-
--- there is room for these sections after earlier ones, which use this many bytes of the places
-abbrev pub HaveRoomAfterUsedBytes : List PlaceData → List ℕ → List SectionData → Type 0
-HaveRoomAfterUsedBytes places sizes sections = (before : List SectionData) → AreUsedSizes places before sizes → first_no_room_refusal places before sections ≡ None
 
 -- the error of a relocation whose field can't hold its value, or None
 abbrev pub reloc_error : List GlobalData → PlacedData → Reloc → Option RelocErr

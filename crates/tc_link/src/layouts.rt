@@ -78,11 +78,17 @@ impl Layout {
     }
 }
 
-/// Returns the index of the place for sections of this name, or `None` if the layout has none.
-pub(crate) fn find_place(places: &[Place], name: &str) -> Option<usize>
-    ensures value { result ≡ position (λ p. bytes_eq name.now p.section) places.now }
-    ensures within { IfSome result (λ i. i < length places.now) }
+/// Returns the number of the place for sections of this name, or `None` if the layout has none. The
+/// place of number `near` is tried first.
+pub(crate) fn find_place(layout: &Layout, name: &str, near: usize) -> Option<usize>
+    ensures value { result ≡ position (λ p. bytes_eq name.now p.section) layout.now.places }
+    ensures within { IfSome result (λ i. i < length layout.now.places) }
+    ensures few { IfSome result (λ i. i < 64) }
 {
+    let places = &layout.places;
+    if near < places.len() && name == places[near].section.as_str() {
+        return Some(near);
+    }
     places
         .iter()
         .position(|place| name == place.section.as_str())

@@ -10,7 +10,6 @@ mod layout_errors;
 mod layouts;
 mod lines;
 mod link_objects;
-mod place_sizes;
 mod placed;
 mod relocated_sections;
 mod section_checks;

@@ -32,13 +32,13 @@ pub fn link_borrowed(
     let names = globals_by_name(alloc, objects)?;
     check_duplicate_symbols(alloc, &names, objects)?;
     check_missing_symbols(alloc, &names, objects)?;
-    check_section_places(alloc, &layout.places, objects)?;
-    let placed = place_objects(alloc, &layout.places, objects)?;
+    check_section_places(alloc, layout, objects)?;
+    let placed = place_objects(alloc, layout, objects)?;
     let contents = all_relocated_sections(alloc, &names, &placed)?;
     let Some(entry) = global_symbol_address(&names, &placed, layout.entry.as_str()) else {
         return Err(LinkErr::NoEntry);
     };
-    let segments = segments_of(alloc, &layout.places, &contents)?;
+    let segments = segments_of(alloc, layout, &contents)?;
     establish_segment_bytes(&segments);
     Ok(Image { entry, segments })
 }

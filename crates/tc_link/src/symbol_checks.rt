@@ -1,10 +1,9 @@
 // Checks for symbols that are defined twice or not at all.
 ghost use Rattle.std.specs.Prelude.{◌≡◌, ◌==◌, ◌&&◌, nat_lt, List, length, slice_set, true, Option, None, OnOk, IfOk, IfErr};
 ghost use Rattle.std.specs.Option.{option_map};
-ghost use Rattle.tc_object.specs.declared.relocs.Reloc.{Reloc};
 ghost use Rattle.tc_object.specs.Objects.{ObjectData, undefined_symbol};
 ghost use Rattle.tc_link.specs.GlobalSymbols.{is_global, count_globals_named, HasCountedAllDefinitions};
-ghost use Rattle.tc_link.specs.Refusals.{twice, missing, duplicate_symbol_refusal, first_duplicate_symbol_refusal, missing_symbol_refusal, first_missing_symbol_refusal, first_refusal_over, is_used_by_relocs, AreFlagsOf};
+ghost use Rattle.tc_link.specs.Refusals.{twice, missing, duplicate_symbol_refusal, first_duplicate_symbol_refusal, missing_symbol_refusal, first_missing_symbol_refusal, first_refusal_over};
 ghost use Rattle.tc_link.specs.Errors.{IsRefusal};
 ghost use Rattle.tc_link.specs.declared.errors.LinkErr.TheVariants.{NoMemory};
 
@@ -59,8 +58,7 @@ pub(crate) fn check_missing_symbols(
     ensures err { IfErr result (IsRefusal (first_missing_symbol_refusal objects.now)) }
 {
     for object in objects {
-        let used = symbol_is_used_flags(alloc, object)?;
-        if let Some(name) = first_missing_symbol(names, &used, &object.symbols) {
+        if let Some(name) = first_missing_symbol(alloc, names, object)? {
             return Err(LinkErr::Missing(String::from_str(alloc, name)?));
         }
     }
@@ -94,40 +92,29 @@ fn is_duplicate_symbol(names: &HashMap<&str, Definition>, symbol: &SymbolRef<'_>
     symbol.kind == GLOBAL_SYMBOL && has_multiple_definitions(names, symbol.name)
 }
 
-// Returns a flag for each symbol of an object: true if a relocation uses the symbol.
-fn symbol_is_used_flags(alloc: Global, object: &ObjectRef<'_>) -> Result<Vec<bool>, LinkErr>
-    ensures used { IfOk result (λ used. AreFlagsOf used.items (length object.now.symbols)
-        (is_used_by_relocs object.now.relocs)) }
-    ensures count { IfOk result (λ used. length used.items ≡ length object.now.symbols) }
+// Returns the name of an object's first undefined symbol that a relocation uses and no object
+// defines as a global symbol, or None. `names` is the map of all global symbols.
+fn first_missing_symbol<'a>(
+    alloc: Global,
+    names: &HashMap<&str, Definition>,
+    object: &ObjectRef<'a>,
+) -> Result<Option<&'a str>, LinkErr>
+    ensures ok { IfOk result (λ found. (objects : List ObjectData)
+        → HasCountedAllDefinitions names.now objects
+        → first_refusal_over (missing_symbol_refusal objects object.now.relocs) object.now.symbols
+        ≡ option_map (λ name. missing name.now) found) }
     ensures err { IfErr result (λ e. e ≡ NoMemory) }
 {
     let mut used = vec![in alloc; false; object.symbols.len()]?;
     for reloc in &object.relocs {
         set_flag(&mut used, reloc.symbol as usize);
     }
-    Ok(used)
-}
-
-// Returns the name of the first undefined symbol that a relocation uses and no object defines as a
-// global symbol, or None. `used` has a flag for each symbol.
-fn first_missing_symbol<'a>(
-    names: &HashMap<&str, Definition>,
-    used: &[bool],
-    symbols: &[SymbolRef<'a>],
-) -> Option<&'a str>
-    requires { length used.now ≡ length symbols.now }
-    ensures { (objects : List ObjectData) → HasCountedAllDefinitions names.now objects
-        → (relocs : List Reloc)
-        → AreFlagsOf used.now (length symbols.now) (is_used_by_relocs relocs)
-        → first_refusal_over (missing_symbol_refusal objects relocs) symbols.now
-        ≡ option_map (λ name. missing name.now) result }
-{
-    for (number, symbol) in symbols.iter().enumerate() {
+    for (number, symbol) in object.symbols.iter().enumerate() {
         if is_missing_symbol(names, used[number], symbol) {
-            return Some(symbol.name);
+            return Ok(Some(symbol.name));
         }
     }
-    None
+    Ok(None)
 }
 
 // Returns true if a symbol is undefined and used, and no object defines a global symbol of its
