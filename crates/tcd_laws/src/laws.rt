@@ -48,8 +48,8 @@ pub fn build_laws()
     ensures ends { BuildsEndWithoutFault }
 {}
 
-/// What the tool claims where these commands end with status 0, in plain equations, and that the
-/// claims hold with no number below the peak of a run.
+/// What the tool claims if one of these commands ends with status 0, in plain equations; and that
+/// claims C1 to C4 hold with no number below the peak of a run.
 pub fn claim_laws()
     ensures check { CheckClaimsHold }
     ensures cert { CertClaimsHold }
@@ -62,7 +62,7 @@ pub fn claim_laws()
     ensures peaks { PeaksAreNeeded }
 {}
 
-/// What the tool says where these commands end with status 1, in plain equations.
+/// What the tool says if one of these commands ends with status 1, in plain equations.
 pub fn refusal_laws()
     ensures check { CheckRefusalsHold }
     ensures cert { CertRefusalsHold }
@@ -72,8 +72,8 @@ pub fn refusal_laws()
     ensures generate { GenRefusalsHold }
 {}
 
-/// What `asm`, `link` and `bootgen` claim where they end with status 0, in plain equations, and
-/// that they never end with status 1.
+/// What `asm`, `link` and `bootgen` claim if they end with status 0, in plain equations. They never
+/// end with status 1.
 pub fn build_claim_laws()
     ensures asm { AsmClaimsHold }
     ensures link { LinkClaimsHold }
@@ -81,8 +81,8 @@ pub fn build_claim_laws()
     ensures refuse { BuildsRefuseNothing }
 {}
 
-/// Claims C5 to C7 of these commands where they end with status 0, and what they write and print;
-/// and what they say where they end with status 1. All in plain equations.
+/// Claims C5 to C7 of these commands if they end with status 0, with what they write and print; and
+/// what they say if they end with status 1. All in plain equations.
 pub fn analysis_claim_laws()
     ensures boot { BootClaimsHold }
     ensures boot_refuses { BootRefusalsHold }
