@@ -44,9 +44,10 @@ from tcdlib.sources import Unusable, bytes_of, shown
 TOP = pathlib.Path(__file__).resolve().parent.parent
 #: what users get of the tracked files
 FOR_USERS = re.compile(
-    r"(?:tools|docs|examples|tests/hostile)/.*|tests/.*\.cases|plan\.schema\.json|(?!crates/).*\.md"
+    r"(?:tools|docs|examples|tests/hostile|tests/second)/.*|tests/.*\.cases"
+    r"|plan\.schema\.json|(?!crates/).*\.md"
     r"|tests/(?:scratch|schema|picture|largest)\.py"
-    r"|tests/try_(?:examples|hostile|pages|schema|largest|memory)\.py"
+    r"|tests/try_(?:examples|hostile|second|pages|schema|largest|memory)\.py"
     r"|crates/tcd/data/.*|crates/tcd_tool_tests/src/.*\.rt"
 )
 #: the first thing that has to run, and its answer

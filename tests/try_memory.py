@@ -31,6 +31,7 @@ pair.
 """
 
 import pathlib
+import shutil
 import struct
 import subprocess
 import sys
@@ -184,6 +185,9 @@ def tried(program, library, case):
 
 def main(words):
     program, only = programs.of_words(words, __doc__), words[1:]
+    if not shutil.which("cc"):
+        print("cc: no such program; it builds the library that refuses", file=sys.stderr)
+        return programs.BAD_FILE
     with tempfile.TemporaryDirectory() as name:
         folder = pathlib.Path(name)
         (folder / "refuser.c").write_text(REFUSER)
@@ -193,7 +197,7 @@ def main(words):
         cases = [case for case in CASES if not only or case[1].split()[0] in only]
         done = [tried(program, library, case) for case in cases]
     runs, faults = sum(d[0] for d in done), sum(d[1] for d in done)
-    print(f"{len(done)} commands, {runs} runs, {faults} faults")
+    print(f"{runs} runs tried, {faults} wrong, of {len(done)} commands")
     return 1 if faults or not runs else 0
 
 

@@ -4,8 +4,9 @@
 PROGRAM is the built tcd (crates/tcd/out/tcd). maintain/release.py makes an archive of it twice: the
 same bytes. It is unpacked and installed into an empty folder, and what is unpacked goes away.
 There, README's first firmware and each script of tools/ run as they do in the repository, with no
-variable that names one. Links between pages lead somewhere, no file names this checkout, each
-changed byte is refused by `make check`, and `make uninstall` leaves no file.
+variable that names one, and each script of tests/ begins. Links between pages lead somewhere, no
+file names this checkout, each changed byte is refused by `make check`, and `make uninstall` leaves
+no file.
 
 Exit status: 0 all is well, 1 something isn't, 2 no such program, 5 wrong words.
 """
@@ -141,6 +142,13 @@ def used(bench):
             bench.does(path.name, [*words, *text.split()], folder, status, line)
 
 
+def tests(bench):
+    """Each script of tests/ finds the modules that it imports."""
+    for path in sorted((bench.installed / "tests").glob("try_*.py")):
+        words = [sys.executable, str(path), "--help"]
+        bench.does(f"{path.name} --help", words, bench.room, line=path.name)
+
+
 def first_firmware(bench):
     """Runs README's first firmware; gives its folder."""
     text = (bench.installed / "README.md").read_text()
@@ -172,7 +180,7 @@ def main(words):
         return 1
     with tempfile.TemporaryDirectory() as room:
         bench = Bench(program, pathlib.Path(room).resolve())
-        for part in (archived, contents, checked, used, removed):
+        for part in (archived, contents, checked, used, tests, removed):
             part(bench)
     print("\n".join([*bench.wrong, f"{bench.tried} steps tried, {len(bench.wrong)} wrong"]))
     return 1 if bench.wrong else 0

@@ -11,6 +11,7 @@ PROGRAM is the built tcd; FOLDER is new. TEXT is what is known of PROGRAM: its c
     examples      each line of examples/*/expected
     hostile       broken, contradictory and failing inputs beside a second reading; the whole of it
                   with --full
+    second        certificates beside tools/second_check.py
     pages         each line that a page for users shows
     schema        plan.schema.json beside the program
     largest       firmwares at every limit (with --full alone)
@@ -49,6 +50,7 @@ from tcdlib import arguments
 from tcdlib import cases
 from tcdlib import meanings
 from tcdlib import program as tcd
+from tcdlib import progress
 from tcdlib.arguments import Refused, WrongArguments
 from tcdlib.sources import Unusable, bytes_of, shown
 
@@ -58,6 +60,7 @@ TOP = cases.TOP
 SCRIPTS = {
     "examples": (["try_examples.py", "P"], False),
     "hostile": (["try_hostile.py", "--quick", "--jobs", str(os.cpu_count() or 2), "P"], False),
+    "second": (["try_second.py", "P"], False),
     "pages": (["try_pages.py", "P"], False),
     "schema": (["try_schema.py", "P"], False),
     "largest": (["try_largest.py", "P"], True),
@@ -69,12 +72,6 @@ PLAYED = ("tools", "tests", "examples", "docs", "crates/tcd_tool_tests", "README
 COUNTED = re.compile(r"^(\d+) (?:\w+ )?tried, (\d+) (?:differ|wrong)", re.M)
 #: an answer in the list of hostile.txt: `3 x 2 bad plan 4`, `5 x 1 K9`
 ANSWER = re.compile(r"\b(\d+) x (?:2 (bad [a-z]+ \d+)|1 (K\d+|switch|sum))\b")
-
-
-def note(text):
-    """Shows how far it is, at a terminal."""
-    if sys.stderr.isatty():
-        print(f"\r{text:60}\r", end="", file=sys.stderr, flush=True)
 
 
 # Identity
@@ -141,8 +138,7 @@ class Record:
         seconds, wrong = time.monotonic() - began, sum(bool(fault) for _, fault in tests)
         self.parts[part] = {"tried": tried, "wrong": wrong, "seconds": round(seconds, 1)}
         self.tests[part] = tests
-        note("")
-        print(f"{part}: {tried} tried, {wrong} wrong, {seconds:.0f} s", flush=True)
+        progress.printed(f"{part}: {tried} tried, {wrong} wrong, {seconds:.0f} s")
 
     def count(self, what):
         """The sum over all parts."""
@@ -152,7 +148,7 @@ class Record:
 def try_cases(record, start):
     """The cases, and then the requirements that they show."""
     began = time.monotonic()
-    record.commands = cases.all_played(start, lambda at, of: note(f"cases: {at} of {of} topics"))
+    record.commands = cases.all_played(start)
     tests = [
         (f"{each['topic']}:{each['line']} {' '.join(each['words'])}", "; ".join(each["faults"]))
         for each in record.commands
@@ -176,7 +172,6 @@ def try_cases(record, start):
 def try_script(record, part, program, out, is_full):
     """A part that a script of tests/ does; `out` gets what it prints."""
     began, (words, _) = time.monotonic(), SCRIPTS[part]
-    note(f"{part}: {words[0]}")
     words = [program if word == "P" else word for word in words]
     words = [word for word in words if not (is_full and word == "--quick")]
     with open(out, "w", encoding="utf-8") as file:
@@ -198,8 +193,7 @@ def try_script(record, part, program, out, is_full):
 def try_controls(record, start):
     """The cases on wrong programs."""
     began = time.monotonic()
-    found = cases.controlled(start, lambda at, of: note(f"controls: {at} of {of}"))
-    record.controls = found
+    found = record.controls = cases.controlled(start)
     tests = [(name, "" if count else "nothing found it") for name, count in found.items()]
     record.add("controls", began, len(tests), tests)
 
@@ -286,12 +280,13 @@ def main(words):
     record, start = Record(identity(program, given.tool)), cases.starter(str(program))
     usual = [part for part in PARTS if given.full or part not in SCRIPTS or not SCRIPTS[part][1]]
     for part in [part for part in PARTS if part in (given.only or usual)]:
-        if part == "cases":
-            try_cases(record, start)
-        elif part == "controls":
-            try_controls(record, start)
-        else:
-            try_script(record, part, str(program), folder / f"{part}.txt", given.full)
+        with progress.of(part):
+            if part == "cases":
+                try_cases(record, start)
+            elif part == "controls":
+                try_controls(record, start)
+            else:
+                try_script(record, part, str(program), folder / f"{part}.txt", given.full)
 
     again = identity(program, given.tool)
     if any(record.identity[key] != again[key] for key in again if key.startswith("SHA-256")):

@@ -90,7 +90,7 @@ class Archives(unittest.TestCase):
             "tools/view.py",
             "docs/safety.md",
             "bench/README.md",
-            "tests/hostile/known.py",
+            "tests/second/asked.py",
         ):
             self.assertTrue(release.FOR_USERS.fullmatch(name), name)
         for name in ("crates/tcd/src/main.rt", "tests/run.py", "bench/run.py", "maintain/rows.py"):

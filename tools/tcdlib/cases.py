@@ -15,6 +15,7 @@ import subprocess
 import tempfile
 
 from tcdlib import meanings
+from tcdlib import progress
 from tcdlib.sources import Unusable, bytes_of, shown
 
 TOP = pathlib.Path(__file__).resolve().parent.parent.parent
@@ -236,21 +237,21 @@ def played_topic(given):
     return stage.results
 
 
-def played(found, samples, start, way, note=lambda at, of: None):
-    """Plays these texts, several at once; `note` is told how many are done."""
+def played(found, samples, start, way):
+    """Plays these texts, several at once."""
     jobs = [(topic, text, samples, start, way) for topic, text in found.items()]
     results = []
     with concurrent.futures.ThreadPoolExecutor(os.cpu_count()) as pool:
         for at, done in enumerate(pool.map(played_topic, jobs), 1):
-            note(at, len(jobs))
+            progress.says(f"cases: {at} of {len(jobs)} topics")
             results += done
     return results
 
 
-def all_played(start, note=lambda at, of: None):
+def all_played(start):
     """Plays all texts; those with calls that fail once more, with the other way of failing."""
     found, samples = all_texts()
-    results = played(found, samples, start, WAYS[0], note)
+    results = played(found, samples, start, WAYS[0])
     again = {topic: text for topic, text in found.items() if "\nfailing " in text}
     for result in played(again, samples, start, WAYS[1]):
         if result["faults"]:
@@ -316,18 +317,17 @@ CONTROLS = {
 }
 
 
-def controlled(start, note=lambda at, of: None):
+def controlled(start):
     """How many commands of the texts are wrong, by the wrong program: each has to be found."""
     found, samples = texts()
     counts = {}
-    for at, (name, wrong) in enumerate(CONTROLS.items(), 1):
+    for name, wrong in CONTROLS.items():
 
         def falsified(words, folder, is_full, wrong=wrong):
             return wrong(start, words, folder, is_full)
 
         results = played(found, samples, falsified, WAYS[0])
         counts[name] = sum(bool(result["faults"]) for result in results)
-        note(at, len(CONTROLS))
     return counts
 
 
