@@ -131,6 +131,29 @@ CASES = {
             "P firmware.elf board.json cut.cert --most 9",
         ],
     },
+    "stack.py": {
+        5: ["", "firmware.elf", f"{FILES} --most x", f"{FILES} --most -1", f"{FILES} --by name"],
+        2: [
+            "firmware.elf board.json firmware.cert --tcd none",
+            "none.elf board.json firmware.cert --tcd P",
+            "cut.elf board.json firmware.cert --tcd P",
+            "firmware.elf cut.json firmware.cert --tcd P",
+            "firmware.elf board.json cut.cert --tcd P",
+            f"{FILES} --cells board.layout",
+            f"{FILES} --tasks board.layout 0",
+            f"{FILES} --names board.layout sum.s main.s",
+        ],
+    },
+    "functions.py": {
+        5: ["", "firmware.elf", f"{FILES} --by size", f"{FILES} --names board.layout"],
+        2: [
+            "none.elf board.json firmware.cert --tcd P",
+            "firmware.elf board.json cut.cert --tcd P",
+            "firmware.elf board.json board.json --tcd P",
+            f"{FILES} --cells none.cells",
+            f"{FILES} --names none.layout main.s",
+        ],
+    },
     "first_plan.py": {
         5: ["", "firmware.elf --bogus", "firmware.elf board.layout x"],
         2: [

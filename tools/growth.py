@@ -32,7 +32,6 @@ from tcdlib import judged
 from tcdlib import plans
 from tcdlib import progress
 from tcdlib import program as tcd
-from tcdlib.arguments import Refused
 from tcdlib.frames import Graph
 from tcdlib.sources import Unusable, bytes_of, shown
 
@@ -107,10 +106,7 @@ class Named:
 
 def build_of(asked, cert, known):
     """What is compared of a build: N, the shares of the priorities, the frames by name."""
-    report, is_refused = asked.report(cert)
-    if is_refused:
-        raise Refused(report.strip())
-    graph = Graph(report, asked.edges(), asked.listing())
+    graph = Graph(asked.accepted(cert), asked.edges(), asked.listing())
     named = Named(graph, known, asked.plan)
     return {
         "format": FORMAT,

@@ -1,6 +1,7 @@
 # A watch over a slow handler, on a core of TriCore 1.6. Interrupt 30 asks what it has interrupted:
 # after its entry PCXI has the priority of the interrupted code (PCPN), on this core in bits 29:22.
-# If that is 10, the work of interrupt 10 isn't done yet, and a late sample is counted.
+# If that is 10, the work of interrupt 10 isn't done yet, and a late sample is counted. Both keep
+# words on the interrupt stack.
 
 .section text
 .global main
@@ -19,14 +20,30 @@ pause:
 
 .section text
 sample:
+    sub16.a a10, 16                 # a buffer of four words; `ret16` gives it back
     movh.a a15, 0xF010
-    ld.w   d8, [a15]0               # the converter's register, at F0100000
+    mov    d8, 0
+fill:
+    ld.w   d0, [a15]0               # the converter's register, at F0100000
+    and    d1, d8, 3                # four words: so all possible stores are in the buffer
+    addsc.a a4, a10, d1, 2
+    st.w   [a4]0, d0
+    add    d8, d8, 1
+    jne    d8, 4, fill
+    mov.aa a4, a10
     call   scale
     movh.a a15, hi:level
     st.w.l [a15]lo:level, d2
     ret16
-scale:                              # four counts are one step
-    sh     d2, d8, -2
+scale:                              # D2 = the mean of the four words at A4, in steps of four counts
+    ld.w   d2, [a4]0
+    ld.w   d0, [a4]4
+    add    d2, d2, d0
+    ld.w   d0, [a4]8
+    add    d2, d2, d0
+    ld.w   d0, [a4]12
+    add    d2, d2, d0
+    sh     d2, d2, -4
     ret16
 
 .section vector_30                  # the clock
@@ -38,12 +55,17 @@ scale:                              # four counts are one step
 
 .section text
 watch:
+    sub16.a a10, 8                  # a local: `call` keeps D8 to D15 alone
     sh     d0, d15, -22
     and    d0, d0, 255              # PCPN: the priority of what was interrupted
+    st.w   [a10]0, d0
     ne     d0, d0, 10
     jnz16  d0, in_time
     call   count_late
 in_time:
+    ld.w   d0, [a10]0
+    movh.a a15, hi:last
+    st.w.l [a15]lo:last, d0
     ret16
 count_late:
     movh.a a15, hi:late
@@ -57,3 +79,5 @@ count_late:
 level:
 .section late_in_ram
 late:
+.section last_in_ram                # the priority of what the clock interrupted last
+last:

@@ -33,7 +33,7 @@ OPEN = {
     "two_tasks": {*UNSAID, "btv"},
 }
 #: examples whose TODOs are all that the plan lacks for the same line of `cert`
-ENOUGH = ("core_16", "lower_context", "misaligned", "nested_interrupts", "one_call", "polling")
+ENOUGH = ("lower_context", "misaligned", "nested_interrupts", "one_call", "polling")
 
 
 def filled(found, hand, key=""):
@@ -70,6 +70,14 @@ class Examples(InFolder):
                     self.assertIn(key, keys)
                 if example in ENOUGH:
                     self.assertEqual(self.certified("filled.json"), self.certified("board.json"))
+
+    def test_stacks_are_missing_in_ram(self):
+        self.first("core_16", "board.layout")
+        self.assertRegex(self.certified("filled.json"), "refused K9 at .* in call 8000000C prio 10")
+        plan = json.loads((self.folder / "filled.json").read_text())
+        hand = json.loads((self.folder / "board.json").read_text())
+        self.put("filled.json", json.dumps({**plan, "ram": hand["ram"]}))
+        self.assertEqual(self.certified("filled.json"), self.certified("board.json"))
 
     def test_start_up_code_says_all(self):
         self.assertEqual(self.first("start_up"), set())

@@ -10,6 +10,7 @@ import tempfile
 from tcdlib import formats as readers
 from tcdlib import plans
 from tcdlib import program as tcd
+from tcdlib.arguments import Refused
 from tcdlib.frames import Listing
 from tcdlib.sources import Unusable, bytes_of, shown
 
@@ -135,6 +136,13 @@ class Judged:
             if is_refused:
                 return line, True
         return tcd.printed(self.program, "report", self.elf, self.plan, cert)
+
+    def accepted(self, cert):
+        """What `report` prints of a certificate; Refused unless it is accepted."""
+        report, is_refused = self.report(cert)
+        if is_refused:
+            raise Refused(shown(report.strip()))
+        return report
 
     def edges(self):
         """What `cfg` prints."""
