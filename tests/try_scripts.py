@@ -154,6 +154,25 @@ CASES = {
             f"{FILES} --names none.layout main.s",
         ],
     },
+    "tasks_start.py": {
+        5: [
+            "",
+            "start board.json board.layout x.s",
+            "write board.json board.layout",
+            "check firmware.elf board.json board.layout",
+            "check firmware.elf board.json board.layout xyz",
+            "check firmware.elf board.json board.layout 80000000 x",
+        ],
+        2: [
+            "write none.json board.layout x.s",
+            "write board.json none.tasks x.s",
+            "write board.json board.layout x.s",
+            "check none.elf board.json board.layout 80000000",
+            "check cut.elf board.json board.layout 80000000",
+            "check firmware.elf cut.json board.layout 80000000",
+            "check firmware.elf board.json firmware.elf 80000000",
+        ],
+    },
     "first_plan.py": {
         5: ["", "firmware.elf --bogus", "firmware.elf board.layout x"],
         2: [
