@@ -192,6 +192,28 @@ CASES = {
             "-- P cert firmware.elf twice.json x.cert",
         ],
     },
+    "review.py": {
+        5: ["", "github", "svg -- P check", "github --json -- P check", "junit board.layout main.s"],
+        2: [
+            "github -- none cert firmware.elf board.json x.cert",
+            "gitlab -- P cert firmware.elf board.json board.json",
+            "junit board.layout main.s -- none check",
+        ],
+    },
+    "chain.py": {
+        5: ["", "firmware.elf", f"{FILES} --markdown --json", f"{FILES} --names board.layout"],
+        2: [
+            "none.elf board.json firmware.cert --tcd P",
+            "firmware.elf cut.json firmware.cert --tcd P",
+            "firmware.elf board.json cut.cert --tcd P",
+            f"{FILES} --cells none.cells",
+            f"{FILES} --names board.layout sum.s main.s",
+        ],
+    },
+    "asm_all.py": {
+        5: ["", "main.s --most 0", "main.s --most x", "--tcd P"],
+        2: ["none.s --tcd P", "main.s --tcd none", ". --tcd P"],
+    },
     "known.py": {
         5: ["", "firmware.elf --bogus", "firmware.elf --vectors x y"],
         2: [

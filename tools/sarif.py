@@ -51,19 +51,29 @@ def location(file, line, function, message=None):
     return place
 
 
-def result_of(found, files):
-    """A finding of explain.py. Without a source, its place is the first file of the command."""
+def message_of(found):
+    """A finding of explain.py in a sentence."""
     where = ", in ".join(text for text in (found["function"], found["frame"]) if text)
     change = f". What people change: {found['change']}" if found["change"] else ""
-    file = found["file"] or next(iter(files), None)
+    return (f"{where}: " if where else "") + found["message"] + change
+
+
+def fingerprint_of(found):
+    """What stays the same of a finding if lines and addresses move."""
     same = " ".join(str(found[key]) for key in ("rule", "function", "frame", "text"))
     same = re.sub(r"\+\d+\b|\b[0-9A-F]{8}\b", "", same)
+    return hashlib.sha256(same.encode()).hexdigest()[:32]
+
+
+def result_of(found, files):
+    """A finding of explain.py. Without a source, its place is the first file of the command."""
+    file = found["file"] or next(iter(files), None)
     result = {
         "ruleId": found["rule"],
         "level": "error",
-        "message": text_of((f"{where}: " if where else "") + found["message"] + change),
+        "message": text_of(message_of(found)),
         "locations": [location(file, found["line"], found["function"])],
-        "partialFingerprints": {"tcd/1": hashlib.sha256(same.encode()).hexdigest()[:32]},
+        "partialFingerprints": {"tcd/1": fingerprint_of(found)},
     }
     if found["notes"]:
         keys = ("file", "line", "function", "message")
