@@ -18,8 +18,9 @@ import scratch
 from tcdlib import formats as readers
 from tcdlib.program import of_words
 
-#: words that worst_run.py can use; P is the program
+#: words that worst_run.py and lower.py can use; P is the program
 FILES = "firmware.elf board.json firmware.cert --tcd P"
+PAIR = "firmware.elf board.json --tcd P"
 BUILD = "P firmware.elf board.json firmware.cert"
 CASE = "P case firmware.elf board.json firmware.cert"
 #: where the scripts are
@@ -171,6 +172,28 @@ CASES = {
             "check cut.elf board.json board.layout 80000000",
             "check firmware.elf cut.json board.layout 80000000",
             "check firmware.elf board.json firmware.elf 80000000",
+        ],
+    },
+    "lower.py": {
+        5: [
+            "",
+            "firmware.elf",
+            f"{PAIR} --to x",
+            f"{PAIR} --bogus",
+            f"{PAIR} --names board.layout",
+        ],
+        2: [
+            "firmware.elf board.json --tcd none",
+            "none.elf board.json --tcd P",
+            "cut.elf board.json --tcd P",
+            "firmware.elf none.json --tcd P",
+            "firmware.elf cut.json --tcd P",
+            "firmware.elf twice.json --tcd P",
+            "firmware.elf nan.json --tcd P",
+            "shared.elf board.json --tcd P",
+            f"{PAIR} --names board.layout sum.s main.s",
+            f"{PAIR} --cells none.cells",
+            f"{PAIR} --tasks board.layout 0",
         ],
     },
     "first_plan.py": {

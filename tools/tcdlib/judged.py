@@ -74,6 +74,8 @@ class Judged:
         self.folder, self.cells, self.tasks = pathlib.Path(folder), cells, None
         #: what `cells` printed of a certificate
         self.line = None
+        #: the switch routine's address in the view of a task
+        self.routine = None
         plans.demand_single_keys(plan)
         demand_bounded(elf)
         if cells:
@@ -99,7 +101,7 @@ class Judged:
         fault = readers.routine_fault(image, board, found)
         if fault is not None:
             raise Unusable(f"{shown(self.elf)}: the switch routine isn't there, see {fault:08X}")
-        self.tasks = file, int(task), len(found[2])
+        self.tasks, self.routine = (file, int(task), len(found[2])), found[0]
         self.plan = self.played = self.put(
             f"task{task}.json", readers.view_plan(board, found, int(task))
         )
@@ -115,18 +117,28 @@ class Judged:
         """The plan that `run` gets, as numbers."""
         return board_of(self.played)
 
+    def command(self):
+        """The words of the command that makes certificates, and how many it makes."""
+        if self.cells:
+            return ["cellcert", *self.given, self.cells], 1
+        if self.tasks:
+            return ["taskcert", *self.given, self.tasks[0]], self.tasks[2]
+        return ["cert", *self.given], 1
+
+    def made(self, folder):
+        """Makes the certificates in a folder: the judged one, the line, and whether it refuses."""
+        command, count = self.command()
+        certs = [f"{folder}/{number}.cert" for number in range(count)]
+        line, is_refused = tcd.printed(self.program, *command, *certs)
+        return certs[self.tasks[1] if self.tasks else 0], line.strip(), is_refused
+
     def made_again(self, cert):
         """The command that makes a certificate, its line, and whether it refuses."""
-        command, certs = ["cert", *self.given], [cert]
-        if self.cells:
-            command = ["cellcert", *self.given, self.cells]
-        elif self.tasks:
-            command = ["taskcert", *self.given, self.tasks[0]]
-            certs = [f"{task}.cert" for task in range(self.tasks[2])]
+        command, count = self.command()
+        certs = [f"{task}.cert" for task in range(count)] if self.tasks else [cert]
         with tempfile.TemporaryDirectory() as folder:
-            scratch = [f"{folder}/{number}" for number in range(len(certs))]
-            line, is_refused = tcd.printed(self.program, *command, *scratch)
-        return [self.program, *command, *certs], line.strip(), is_refused
+            _, line, is_refused = self.made(folder)
+        return [self.program, *command, *certs], line, is_refused
 
     def report(self, cert):
         """What `report` prints, and whether it is refused. With cells, `cells` judges first."""

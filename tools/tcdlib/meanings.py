@@ -166,7 +166,8 @@ NO_CODE_AT_JUMP = Meaning(
 NO_AREAS = {
     "areas": Meaning(
         "the start needs more areas than there are without the reserve",
-        "raise `csa.areas` and change the start-up code with it; or call less deeply",
+        "raise `csa.areas` and change the start-up code with it; or call less deeply: "
+        "tools/lower.py says which change lowers the number, and to what",
     ),
     "recursion": Meaning(
         "this frame can be entered from itself, so no number of areas suffices",
