@@ -35,6 +35,7 @@ SCRIPTS = {
     "growth.py": (0, f"tcd {FILES} {NAMES} --most 11", "11 of 11 areas"),
     "known.py": (0, "firmware.elf board.json", "instructions"),
     "names.py": (0, f"firmware.elf {NAMES} --tcd tcd", "main"),
+    "plan_check.py": (0, "firmware.elf board.json board.layout", "no warning, which"),
     "qualify.py": (0, "tcd report --only examples", "0 failed: report/report.md"),
     "sarif.py": (0, f"{NAMES} -- tcd cert {FILES}", '"version": "2.1.0"'),
     "view.py": (0, f"tcd {FILES} page.html {NAMES}", ""),

@@ -207,6 +207,19 @@ CASES = {
             "firmware.elf -o .",
         ],
     },
+    "plan_check.py": {
+        5: ["", "firmware.elf", "a b c d", "firmware.elf board.json --bogus"],
+        2: [
+            "none.elf board.json",
+            "cut.elf board.json",
+            "shared.elf board.json",
+            "firmware.elf none.json",
+            "firmware.elf cut.json",
+            "firmware.elf nan.json",
+            "firmware.elf board.json none.layout",
+            "firmware.elf board.json main.s",
+        ],
+    },
     "sarif.py": {
         5: ["", "board.layout main.s", "--json -- P cert firmware.elf board.json x.cert"],
         2: [

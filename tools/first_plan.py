@@ -20,7 +20,6 @@ reviewed.
 Exit status: 0 done, 2 a file that can't be used, 5 wrong arguments.
 """
 import json
-import re
 import sys
 
 import known
@@ -30,104 +29,11 @@ from tcdlib import judged
 from tcdlib import machine
 from tcdlib import progress
 from tcdlib import sources
+from tcdlib.constants import CORE, FLASH, GLOBALS, TRAPS, WORD, Said, key_of
 from tcdlib.sources import Unusable
 
-WORD = machine.WORD
-CORE = {
-    "biv": machine.BIV, "btv": machine.BTV, "isp": machine.ISP, "icr": machine.ICR,
-    "psw": machine.PSW, "fcx": machine.FCX, "lcx": machine.LCX,
-}  # fmt: skip
-GLOBALS = {"a0": 0, "a1": 1, "a8": 8, "a9": 9}
-TRAPS = {"sys": 6, "aln": 2}
-#: segments of 256 MB, by their first hex digit
-FLASH, PERIPHERALS = (0x8, 0xA), (0xE, 0xF)
 #: by key: spans that are nearer than this are one range at first; at most so many ranges; rounding
 NEAR, MOST_RANGES, ROUNDED = {"rom": 0x10000, "ram": 0x2000, "devices": 16}, 16, 0x100
-#: names of sections that are vectors: `vector_10`, `.v10`, `trap_6`, `.vsys`
-VECTOR = re.compile(r"\.?(?:(?P<kind>vector|trap)_|v)(?P<which>\d{1,3}|sys|aln)")
-CONSTANTS = ("mov", "mov.u", "mov.a", "mov.d", "mov.aa")
-
-
-class Read:
-    """What the code does by constants alone, read from the top to the bottom of each segment."""
-
-    def __init__(self, image):
-        #: by core register and by address register: the first constant, and where it is written
-        self.core, self.set = {}, {}
-        #: addresses of loads and stores; those to which an index is added; kinds of instructions
-        self.touched, self.indexed, self.kinds = set(), set(), set()
-        self.areas = None
-        for at, held in image.segments:
-            self.begin()
-            pc = at
-            while pc < at + len(held):
-                found = image.at(pc)
-                if found and found.name:
-                    self.follow(pc, found.kind, found.name.replace("16", "", 1), found.operands)
-                pc += found.length if found else 2
-
-    def begin(self):
-        """No register is known, as after a jump."""
-        self.held, self.from_index, self.step = {}, set(), 0
-
-    def value(self, operand):
-        return operand[1] & WORD if operand[0] in "ku" else self.held.get(operand)
-
-    def follow(self, pc, kind, name, operands):
-        """One instruction."""
-        self.kinds.add(kind)
-        if kind == "mtcr" and (value := self.value(operands[1])) is not None:
-            self.core.setdefault(operands[0][1], (value, pc))
-        memory = next((each for each in operands if each[0] in "mu"), None)
-        if kind in ("ld", "st") and memory:
-            self.access(memory)
-        elif kind == "loop" and self.step == 64 and operands[0] in self.held:
-            self.areas = self.held[operands[0]] + 1
-        if name == "mov.d15":
-            self.held[("d", 15)] = operands[0][1]
-        elif operands and operands[0][0] in "ad" and not kind.startswith(("st", "j", "call")):
-            self.write(pc, name, operands, memory)
-        if memory and memory[0] == "m" and memory[3]:
-            self.held.pop(("a", memory[1]), None)
-        if kind in ("ret", "rfe", "j", "ja", "ji"):
-            self.begin()
-
-    def access(self, memory):
-        """A load or store."""
-        base = ("a", memory[1])
-        if memory[0] == "m" and base not in self.held:
-            return
-        at = memory[1] if memory[0] == "u" else self.held[base] + (0 if memory[3] else memory[2])
-        self.step = memory[2] if memory[0] == "m" and memory[3] else self.step
-        self.touched.add(at & WORD)
-        if base in self.from_index:
-            self.indexed.add(at & WORD)
-
-    def write(self, pc, name, operands, memory):
-        """What an instruction leaves in its first register."""
-        to, given, base, value = operands[0], [*map(self.value, operands[1:])], None, None
-        if name in CONSTANTS:
-            value = given[0]
-        elif name in ("movh", "movh.a"):
-            value = given[0] << 16
-        elif name in ("addi", "addih", "addih.a") and None not in given:
-            value = given[0] + (given[1] << (0 if name == "addi" else 16))
-        elif name in ("lea", "lea.l") and memory[0] == "u":
-            value = memory[1]
-        elif name in ("lea", "lea.l", "addsc.a"):
-            base = ("a", memory[1]) if memory else operands[1]
-            if base in self.held:
-                value = self.held[base] + (memory[2] if memory else 0)
-        is_indexed = name == "addsc.a" or base in self.from_index
-        self.held.pop(to, None)
-        self.from_index.discard(to)
-        if value is None:
-            return
-        self.held[to] = value & WORD
-        if is_indexed:
-            self.from_index.add(to)
-        elif name in ("lea", "lea.l", "mov.a"):
-            self.set.setdefault(to, (value & WORD, pc))
 
 
 def todo(reason):
@@ -161,26 +67,13 @@ def hexed(value):
     return value if isinstance(value, str) else f"0x{value & WORD:08X}"
 
 
-class FirstPlan:
+class FirstPlan(Said):
     """A first plan. `notes` say where each key comes from."""
 
     def __init__(self, path, layout):
         entry, segments = judged.image_of(path)
-        self.image, self.notes = known.Image(segments), []
-        self.read = Read(self.image)
-        self.places = sources.read_places(layout) if layout else {}
-        named = [(place.at, name) for name, place in self.places.items()]
-        try:
-            named += names.code_sections(path)
-        except Unusable:
-            pass  # an executable of tcd has no section table
-        #: by kind: the numbers of the vectors that have names, and their addresses
-        self.vectors = {"vector": {}, "trap": {}}
-        for at, name in named:
-            if found := VECTOR.fullmatch(name):
-                which = found["which"]
-                kind = "trap" if which in TRAPS else found["kind"] or "vector"
-                self.vectors[kind][int(TRAPS.get(which, which))] = at
+        super().__init__(known.Image(segments), layout, names.sections_if_any(path))
+        self.notes = []
         if entry in [at for _, at in self.read.core.values()]:
             self.note("start", "the entry writes core registers; tcd judges what comes after them")
 
@@ -243,9 +136,7 @@ class FirstPlan:
         spans = {"rom": [], "ram": [], "devices": []}
 
         def add(begin, end):
-            upper = begin >> 28
-            key = "rom" if upper in FLASH else "devices" if upper in PERIPHERALS else "ram"
-            spans[key].append((begin, end))
+            spans[key_of(begin)].append((begin, end))
 
         for at, held in self.image.segments:
             add(at, at + len(held))
@@ -302,8 +193,7 @@ class FirstPlan:
         if plan["devices"]:
             self.note("devices", "each answers any word: narrow lo and hi of an index")
         for at in sorted(at for at in self.read.indexed if at >> 28 not in FLASH):
-            key = "devices" if at >> 28 in PERIPHERALS else "ram"
-            self.note(key, f"an index is added to {at:08X}")
+            self.note(key_of(at), f"an index is added to {at:08X}")
         if not plan["ram"]:
             plan["ram"] = todo("no load, store or segment is at a constant address of RAM")
         plan.update(csa=csa, sp=hexed(sp), isp=hexed(isp), biv=hexed(biv), btv=hexed(btv))

@@ -290,6 +290,14 @@ def code_sections(path):
     return [(at, name) for at, name in named if name]
 
 
+def sections_if_any(path):
+    """The same, and none if the section table can't be read: `tcd link` writes none."""
+    try:
+        return code_sections(path)
+    except Unusable:
+        return []
+
+
 def functions(path):
     """The addresses of an executable's function symbols; none if it has no section table."""
     data = sources.bytes_of(path)

@@ -9,6 +9,7 @@ from beside import InFolder, needs_program, program
 import first_plan
 import known
 import scratch
+from tcdlib import constants
 from tcdlib.formats import code
 
 #: what no code of an example without start-up code says
@@ -124,7 +125,7 @@ class Examples(InFolder):
 
 class Code(unittest.TestCase):
     def read(self, *lines):
-        return first_plan.Read(known.Image([(0x80000000, code(lines))]))
+        return constants.Read(known.Image([(0x80000000, code(lines))]))
 
     def test_constants(self):
         lines = ("movh d0, 0x8000", "addi d0, d0, 0x2000", "mtcr 0xFE20, d0")
@@ -139,7 +140,7 @@ class Code(unittest.TestCase):
     def test_accesses(self):
         lines = ["movh.a a2, 0xD000", "lea.l a2, [a2]64", "ld.w d0, [a2]4", "addsc.a a3, a2, d0, 2"]
         found = self.read(*lines, "st.w [a3]0, d1", "st.w [a2+]8, d1", "st.w [a2]0, d1")
-        self.assertEqual(found.touched, {0xD0000044, 0xD0000040})
+        self.assertEqual(found.touched, {0xD0000044: 0x80000008, 0xD0000040: 0x80000010})
         self.assertEqual(found.indexed, {0xD0000040})
 
     def test_linked_areas(self):

@@ -31,14 +31,14 @@ def no_number(text):
 NUMBERS = {"parse_float": finite, "parse_constant": no_number}
 
 
-def read(path):
-    """A plan as JSON, or Unusable. A key that is there twice is refused: tcd silently takes the
-    last."""
+def read_with_twice(path):
+    """A plan as JSON, or Unusable; of each object that has keys twice these, sorted."""
+    twice = []
 
     def pairs(items):
         counts = collections.Counter(key for key, _ in items)
-        if twice := sorted(key for key, count in counts.items() if count > 1):
-            raise Twice(f"{shown(path)}: a key is there twice: {shown(', '.join(twice[:4]))}")
+        if keys := sorted(key for key, count in counts.items() if count > 1):
+            twice.append(keys)
         return dict(items)
 
     try:
@@ -47,6 +47,15 @@ def read(path):
         raise Unusable(f"{shown(path)}: not JSON: {shown(e)}") from None
     if not isinstance(plan, dict):
         raise Unusable(f"{shown(path)}: not a JSON object")
+    return plan, twice
+
+
+def read(path):
+    """A plan as JSON, or Unusable. A key that is there twice is refused: tcd silently takes the
+    last."""
+    plan, twice = read_with_twice(path)
+    if twice:
+        raise Twice(f"{shown(path)}: a key is there twice: {shown(', '.join(twice[0][:4]))}")
     return plan
 
 
