@@ -127,7 +127,7 @@ class Names(unittest.TestCase):
 
     def test_links(self):
         page = try_names.TOP / "README.md"
-        for link in ("README.md#build", "docs/faq.md", "#build"):
+        for link in ("README.md#build", "docs/code.md", "#build"):
             self.assertTrue(try_names.leads(link, page), link)
         for link in ("none.md", "README.md#none", "#none"):
             self.assertFalse(try_names.leads(link, page), link)
