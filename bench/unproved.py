@@ -5,9 +5,9 @@
 
 PROGRAM is written; CHECKOUT is this one if it isn't named. `rt try` compiles the program with the
 checks of clang's address sanitizer and runs it once. This takes the module that it hands to clang,
-and compiles and links it as `rt` does, optimised and without those checks. Such a program takes 2
-to 17 % more instructions than that of the gate: compare two of them with each other. It is no
-evidence of anything.
+and compiles and links it as `rt` does, optimised and without those checks. Other checks stay: such
+a program takes some five times the instructions of the gate's. So compare two of them with each
+other. It answers as the proved one does, but is no evidence of anything.
 
 Exit status: 0 done, 2 `rt` isn't on the path or the build failed (its last lines are printed), 5
 wrong arguments.
