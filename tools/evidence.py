@@ -10,7 +10,8 @@ or `tasks`; of tasks all certificates are given. FOLDER then has
 
     files/          the bytes that were judged, and the layout and the sources if they are named
     record.json     each command with its status and line; `second check`, the line of
-                    second_check.py, which is the same; the checksum of PROGRAM, and TEXT
+                    second_check.py, which is the same; `plan check`, what plan_check.py asks
+                    of the plan; the checksum of PROGRAM, and TEXT
     report.json     what each frame needs; beside it cfg.txt, listing.txt and page.html. For cells
                     and tasks they are of views/, as `report` knows neither; task 1: report1.json
     controls/       two inputs that had to be refused
@@ -36,6 +37,7 @@ import sys
 import tempfile
 
 import names
+import plan_check
 import second_check
 import view
 from tcdlib import arguments
@@ -185,7 +187,8 @@ class Bundle:
         self.reports()
         page = premises(CLAIMS[self.record["command"]], line)
         arguments.written(self.path(PREMISES), page)
-        record = {"line": line, "second check": second, **self.record, "commands": self.commands}
+        record = {"line": line, "second check": second, "plan check": self.asked_of_plan()}
+        record |= {**self.record, "commands": self.commands}
         record["program"] = checksum(self.program)
         (self.folder / RECORD).write_text(json.dumps(record, indent=1) + "\n")
         return line
@@ -202,6 +205,12 @@ class Bundle:
         if found != line:
             raise Unusable(f"second check: {found}, but {command}: {line}; one of both is wrong")
         return found
+
+    def asked_of_plan(self):
+        """The warnings of plan_check.py: questions to the author of the plan, and no refusal."""
+        files = map(self.path, [self.elf, self.plan, *self.record["names"][:1]])
+        check = plan_check.Check(*files)
+        return [*check.lines(lambda file: pathlib.Path(file).relative_to(self.folder))]
 
     def controls(self, need):
         """Two inputs that have to be refused."""

@@ -152,9 +152,22 @@ class WithProgram(WithPage):
         record = json.loads((self.folder / "case/record.json").read_text())
         self.assertEqual([each["status"] for each in record["commands"]], [0, 1, 1])
         self.assertEqual(record["second check"], line.strip())
+        self.assertEqual(record["plan check"], [])
         self.assertIn("main.s:", (self.folder / "case/page.html").read_text())
         with self.assertRaises(Unusable):
             self.made(*FILES)  # the folder is there
+
+    def test_a_plan_that_lacks_an_interrupt(self):
+        self.example("gnu_ld")
+        plan = json.loads((self.folder / "board.json").read_text())
+        self.put("board.json", json.dumps({**plan, "irqs": []}, indent=1))
+        self.tcd("cert", *FILES)
+        line = self.made(*FILES)
+        self.assertEqual(self.ran("--again", beside.program(), "case"), line)
+        record = json.loads((self.folder / "case/record.json").read_text())
+        told = r"files/board.json:\d+: warning: irqs lacks 20: the vector at 80002280 has code"
+        self.assertEqual(len(record["plan check"]), 1)
+        self.assertRegex(record["plan check"][0], told)
 
     def test_cells(self):
         self.certified("cells", "cellcert", ["modes.cells"])
